@@ -1,0 +1,31 @@
+//! The types that every part of the camera speaks of, and the pictures that its frames have.
+#![tactic(auto)]
+
+mod four;
+mod item;
+mod job;
+mod limit;
+mod list;
+mod number;
+mod part;
+mod reply;
+mod row;
+mod script;
+mod stream;
+
+pub use four::Four;
+pub use item::{Item, ItemList, Settings, Targets};
+pub use job::{FillTarget, JobView};
+pub use limit::{
+    AWAITED_LIMIT, BURST_LIMIT, COMMAND_LIMIT, FAULT_LIMIT, FRAME_DEPTH, PART_COUNT, PICK_LIMIT,
+    QUEUE_LIMIT, RAW_BLOCK, RAW_BUFFERS, REPEAT_LIMIT, REPEATING_AHEAD, SCRIPT_BYTES,
+    SENSOR_HEIGHT, SENSOR_VALUES, SENSOR_WIDTH, SPARE_BUFFERS, SPEC_LIMIT, STREAM_LIMIT,
+    TARGET_LIMIT, YUV_BLOCK, YUV_BUFFERS,
+};
+pub use list::{Listing, NoMemory};
+pub use number::{BufferId, FenceNo, FrameNo, RequestId, StreamIx};
+pub use part::Part;
+pub use reply::{Made, Reply};
+pub use row::{RowFaults, RowView, SensorPlace, TargetState, TargetView, Verdict};
+pub use script::{Command, CommandList, Fault, FaultList, PickList, Script, Word};
+pub use stream::{Format, SpecList, StreamSpec};

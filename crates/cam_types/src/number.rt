@@ -1,0 +1,19 @@
+/// The number of a frame: frames are numbered as they are sent or dropped, from 0 on.
+#[derive(Clone, Copy, Debug, PartialEq, Eq, PartialOrd, Ord)]
+pub struct FrameNo(pub u32);
+
+/// The number of a buffer. A buffer number is used for one buffer alone, also over configurations.
+#[derive(Clone, Copy, Debug, PartialEq, Eq, PartialOrd, Ord)]
+pub struct BufferId(pub u32);
+
+/// The number of a fence, in the order in which fences are released, from 0 on.
+#[derive(Clone, Copy, Debug, PartialEq, Eq, PartialOrd, Ord)]
+pub struct FenceNo(pub u32);
+
+/// The place of a stream in its configuration, from 0 on.
+#[derive(Clone, Copy, Debug, PartialEq, Eq, PartialOrd, Ord)]
+pub struct StreamIx(pub u8);
+
+/// The number of an accepted `once`, `burst` or `repeat` call, from 0 on.
+#[derive(Clone, Copy, Debug, PartialEq, Eq, PartialOrd, Ord)]
+pub struct RequestId(pub u32);
