@@ -1,3 +1,8 @@
+ghost use Rattle.std.specs.Prelude.{◌≡◌, ◌==◌};
+ghost use Rattle.std.specs.List.{list_all};
+ghost use Rattle.cam_types.specs.Script.{item_fits, settings_fit, targets_fit};
+
+use crate::limit::TARGET_LIMIT;
 use crate::list::Listing;
 
 /// The settings of a capture.
@@ -29,3 +34,36 @@ pub struct Item {
 
 /// The items of a `burst` or a `repeat`.
 pub type ItemList = Listing<Item>;
+
+impl Settings {
+    /// Whether a script may hold the settings.
+    pub fn fits(self) -> bool
+        ensures { result ≡ settings_fit self }
+    {
+        self.level < 1 << 31 && (self.exposure < 1 << 63 && self.iso < 1 << 31)
+    }
+}
+
+fn all_zero(places: &[u8]) -> bool
+    ensures { result ≡ list_all (λ s. s == 0) places.now }
+{
+    places.iter().all(|place| *place == 0)
+}
+
+impl Targets {
+    /// Whether a script may hold the targets.
+    pub fn fits(self) -> bool
+        ensures { result ≡ targets_fit self }
+    {
+        self.count <= TARGET_LIMIT && all_zero(&self.list[self.count as usize..])
+    }
+}
+
+impl Item {
+    /// Whether a script may hold the item.
+    pub fn fits(self) -> bool
+        ensures { result ≡ item_fits self }
+    {
+        self.settings.fits() && self.targets.fits()
+    }
+}

@@ -1,7 +1,16 @@
+ghost use Rattle.std.specs.Prelude.{◌≡◌, nat_le, sum_by};
+ghost use Rattle.std.specs.List.{list_all, list_any};
+ghost use Rattle.cam_types.specs.Limits.{awaited_limit};
+ghost use Rattle.cam_types.specs.Script.{awaited_by, command_fits, is_ending, is_valid, item_fits, spec_fits};
+
 use crate::item::{Item, ItemList};
+use crate::limit::{
+    AWAITED_LIMIT, BURST_LIMIT, COMMAND_LIMIT, FAULT_LIMIT, PICK_LIMIT, REPEAT_LIMIT, SPEC_LIMIT,
+    TARGET_LIMIT,
+};
 use crate::list::Listing;
 use crate::number::{FrameNo, StreamIx};
-use crate::stream::SpecList;
+use crate::stream::{SpecList, StreamSpec};
 
 /// A client's command.
 #[derive(Debug, Drop)]
@@ -62,4 +71,93 @@ pub struct Script {
     pub faults: FaultList,
     pub picks: PickList,
     pub commands: CommandList,
+}
+
+impl Command {
+    /// Whether a script may hold the command.
+    pub fn fits(&self) -> bool
+        ensures { result ≡ command_fits self.now }
+    {
+        match self {
+            Command::Configure(specs) => specs.len() <= SPEC_LIMIT
+                && all_specs_fit(specs.as_slice()),
+            Command::Once(item) => item.fits(),
+            Command::Burst(items) => items.len() <= BURST_LIMIT && all_items_fit(items.as_slice()),
+            Command::Repeat(items) => items.len() <= REPEAT_LIMIT
+                && all_items_fit(items.as_slice()),
+            Command::Await(frames) => *frames > 0,
+            _ => true,
+        }
+    }
+
+    /// Whether the command ends the use of the device.
+    pub fn is_ending(&self) -> bool
+        ensures { result ≡ is_ending self.now }
+    {
+        matches!(self, Command::Close | Command::Disconnect)
+    }
+
+    /// How many repeating frames the command waits for.
+    pub fn awaited(&self) -> u32
+        ensures { result ≡ awaited_by self.now }
+    {
+        match self {
+            Command::Await(frames) => *frames,
+            _ => 0,
+        }
+    }
+}
+
+fn all_specs_fit(specs: &[StreamSpec]) -> bool
+    ensures { result ≡ list_all spec_fits specs.now }
+{
+    specs.iter().all(|spec| spec.fits())
+}
+
+fn all_items_fit(items: &[Item]) -> bool
+    ensures { result ≡ list_all item_fits items.now }
+{
+    items.iter().all(|item| item.fits())
+}
+
+fn all_commands_fit(commands: &[Command]) -> bool
+    ensures { result ≡ list_all command_fits commands.now }
+{
+    commands.iter().all(|command| command.fits())
+}
+
+fn has_ending(commands: &[Command]) -> bool
+    ensures { result ≡ list_any is_ending commands.now }
+{
+    commands.iter().any(|command| command.is_ending())
+}
+
+/// Whether the commands wait for no more repeating frames than a script may.
+fn await_within_limit(commands: &[Command]) -> bool
+    ensures { result ≡ nat_le (sum_by awaited_by commands.now) awaited_limit }
+{
+    let mut awaited: u64 = 0;
+    for command in commands {
+        awaited += command.awaited() as u64;
+        if awaited > AWAITED_LIMIT {
+            return false;
+        }
+    }
+    true
+}
+
+impl Script {
+    /// Whether all counts and numbers are within their limits, and a `close` or a `disconnect` stands among the
+    /// commands. `script_text::read` gives valid scripts alone.
+    pub fn is_valid(&self) -> bool
+        ensures { result ≡ is_valid self.now }
+    {
+        let commands = self.commands.as_slice();
+        self.faults.len() <= FAULT_LIMIT
+            && self.picks.len() <= PICK_LIMIT
+            && self.commands.len() <= COMMAND_LIMIT
+            && all_commands_fit(commands)
+            && await_within_limit(commands)
+            && has_ending(commands)
+    }
 }
