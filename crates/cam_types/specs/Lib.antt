@@ -6,3 +6,4 @@ pub mod Pixels
 pub mod Over
 pub mod Readouts
 pub mod Picture
+pub mod Metadata
