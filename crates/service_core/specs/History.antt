@@ -28,3 +28,19 @@ is_take_fill n s _ = false
 abbrev pub is_fill_done : ℕ → ℕ → StepName → Bool
 is_fill_done n s (FillDone m t) = (m.0 == n) && (t.0 == s)
 is_fill_done n s _ = false
+
+-- the step adds no entry
+abbrev pub is_silent : StepName → Bool
+is_silent (SensorDone _) = true
+is_silent (TakeFill _ _) = true
+is_silent (FillDone _ _) = true
+is_silent _ = false
+
+-- the history of these steps and entries, both the newest first
+abbrev pub join : List StepName → List Entry → List Move
+join [] entries = []
+join (SensorDone n ∷ steps) entries = record { step = SensorDone n; entry = None } ∷ join steps entries
+join (TakeFill n s ∷ steps) entries = record { step = TakeFill n s; entry = None } ∷ join steps entries
+join (FillDone n s ∷ steps) entries = record { step = FillDone n s; entry = None } ∷ join steps entries
+join (step ∷ steps) [] = record { step = step; entry = None } ∷ join steps []
+join (step ∷ steps) (e ∷ entries) = record { step = step; entry = Some e } ∷ join steps entries

@@ -56,3 +56,14 @@ pub struct Move {
     pub step: StepName,
     pub entry: Option<Entry>,
 }
+
+/// What a step of the service answers.
+#[derive(Clone, Copy, Debug, PartialEq, Eq)]
+pub enum Step {
+    /// The step was made, and added this entry.
+    Did(Entry),
+    /// The step isn't ready; the service is as it was.
+    NotReady,
+    /// There was no memory; the service is as it was.
+    NoMemory,
+}
