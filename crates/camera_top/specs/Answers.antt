@@ -1,0 +1,26 @@
+use Rattle.std.specs.Prelude.{◌≡◌, ℕ, ◌<◌, ◌⊎◌, List, Option, length, take, codes}
+use Rattle.std.specs.Io.KnownBytes.{Appends}
+use Rattle.io_edge.specs.Faults.{Rose}
+
+-- What the program answers, and what it writes then. (docs/FORMATS.md)
+
+abbrev pub usage_line : List ℕ
+usage_line = codes "usage: camera play | run --workers N | check | gen SEED COUNT | help\n"
+
+-- the line of a script that can't be played yet
+abbrev pub refused_line : List ℕ
+refused_line = codes "refused script 0 39\n"
+
+-- the whole text was written and no fault was counted
+abbrev pub Written : List ℕ → Option (List ℕ) → Option (List ℕ) → ℕ → ℕ → Type 0
+Written text before after faults faults_after = Appends before after text × (faults_after ≡ faults)
+
+-- the sink failed, and a front of the text was written
+abbrev pub Broken : List ℕ → Option (List ℕ) → Option (List ℕ) → ℕ → ℕ → Type 0
+Broken text before after faults faults_after =
+    ((count : ℕ) × (count < length text) × Appends before after (take count text)) × Rose faults faults_after
+
+-- the status is this one and the text was written whole, or it is 4 and the sink failed
+abbrev pub Answers : ℕ → List ℕ → ℕ → Option (List ℕ) → Option (List ℕ) → ℕ → ℕ → Type 0
+Answers wanted text status before after faults faults_after =
+    ((status ≡ wanted) × Written text before after faults faults_after) ⊎ ((status ≡ 4) × Broken text before after faults faults_after)
