@@ -5,6 +5,8 @@ mod commands;
 mod form;
 mod play;
 mod status;
+#[cfg(test)]
+mod tests;
 mod text;
 
 pub use commands::{camera_main, play_call};

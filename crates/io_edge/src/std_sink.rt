@@ -4,7 +4,6 @@ ghost use Rattle.std.specs.Prelude.{◌≡◌, IsOk, IfOk};
 use crate::fault_count::FaultCount;
 use crate::{Failed, NoMemory, Sink};
 use std::io::{self, ErrorKind, Print, Write};
-use std::marker::Model;
 
 /// Standard output, or another writer of `std`, as a sink whose errors are counted. It tells the
 /// bytes that the writer tells: of standard output none. Nothing is buffered, so that no byte
@@ -48,17 +47,10 @@ impl<W: Write + Drop> Sink for StdSink<W> {
     fn write(&mut self, bytes: &[u8]) -> Result<usize, Failed> {
         for _ in 0..u64::MAX {
             match self.writer.write(bytes) {
-                Ok(count) => {
-                    if count == 0 && !bytes.is_empty() {
-                        return Err(self.faults.note());
-                    }
-                    return Ok(count);
-                }
-                Err(error) => {
-                    if error.kind() != ErrorKind::Interrupted {
-                        return Err(self.faults.note());
-                    }
-                }
+                Ok(0) if !bytes.is_empty() => return Err(self.faults.note()),
+                Ok(count) => return Ok(count),
+                Err(error) if error.kind() == ErrorKind::Interrupted => {}
+                Err(_) => return Err(self.faults.note()),
             }
         }
         Err(self.faults.note())

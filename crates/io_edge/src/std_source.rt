@@ -4,10 +4,9 @@ ghost use Rattle.std.specs.Prelude.{◌≡◌, IsOk, IfOk};
 use crate::fault_count::FaultCount;
 use crate::{Failed, NoMemory, Source};
 use std::io::{ErrorKind, Input, Read};
-use std::marker::Model;
 
 /// Standard input, or another reader of `std`, as a source whose errors are counted. It tells the
-/// bytes that the reader tells: of standard input none. Contracts see the reader and the count.
+/// bytes that the reader tells: of standard input none.
 #[derive(Drop)]
 pub struct StdSource<R: Read + Drop> {
     reader: R,
@@ -45,11 +44,8 @@ impl<R: Read + Drop> Source for StdSource<R> {
         for _ in 0..u64::MAX {
             match self.reader.read(buf) {
                 Ok(count) => return Ok(count),
-                Err(error) => {
-                    if error.kind() != ErrorKind::Interrupted {
-                        return Err(self.faults.note());
-                    }
-                }
+                Err(error) if error.kind() == ErrorKind::Interrupted => {}
+                Err(_) => return Err(self.faults.note()),
             }
         }
         Err(self.faults.note())
