@@ -1,2 +1,3 @@
 pub mod OverLemmas
 pub mod PictureLemmas
+pub mod Decided

@@ -1,4 +1,4 @@
-use Rattle.std.specs.Prelude.{List, ◌++◌, Option, option_to_list}
+use Rattle.std.specs.Prelude.{List, ◌++◌, option_to_list}
 use Rattle.cam_types.specs.declared.four.Four.{Four}
 
 -- the values that are there, in order

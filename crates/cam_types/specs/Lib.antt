@@ -7,3 +7,4 @@ pub mod Over
 pub mod Readouts
 pub mod Picture
 pub mod Metadata
+pub mod Worked

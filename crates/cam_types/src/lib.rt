@@ -1,6 +1,7 @@
 //! The types that every part of the camera speaks of, and the pictures that its frames have.
 #![tactic(auto)]
 
+mod equality;
 mod four;
 mod item;
 mod job;
@@ -14,7 +15,12 @@ mod reply;
 mod row;
 mod script;
 mod stream;
+mod worked;
 
+pub use equality::{
+    is_same_item, is_same_job, is_same_part, is_same_reply, is_same_row, is_same_spec,
+    is_same_verdict,
+};
 pub use four::Four;
 pub use item::{Item, ItemList, Settings, Targets};
 pub use job::{FillTarget, JobView};
@@ -33,3 +39,7 @@ pub use reply::{Made, Reply};
 pub use row::{RowFaults, RowView, SensorPlace, TargetState, TargetView, Verdict};
 pub use script::{Command, CommandList, Fault, FaultList, PickList, Script, Word};
 pub use stream::{Format, SpecList, StreamSpec, frame_bytes};
+pub use worked::{worked_colours, worked_sensor_values};
+
+#[cfg(test)]
+mod tests;

@@ -1,7 +1,7 @@
-use Rattle.std.specs.Prelude.{ℕ, Bool, true, false, ◌&&◌, ◌||◌, not, List, [], ◌∷◌, Option, Some, None, find, is_some, if◌then◌else◌}
+use Rattle.std.specs.Prelude.{ℕ, Bool, false, ◌&&◌, not, List, Option, Some, None, find, is_some, if◌then◌else◌}
 use Rattle.cam_types.specs.declared.script.Script.{Script}
 use Rattle.trace_model.specs.declared.entry.Entry.{Entry}
-use Rattle.trace_model.specs.declared.entry.Entry.TheVariants.{ErrorBuffer, ErrorDevice}
+use Rattle.trace_model.specs.declared.entry.Entry.TheVariants.{ErrorDevice}
 use Rattle.trace_model.specs.declared.entry.Sent.{Sent}
 use Rattle.trace_model.specs.Client.{begin_due, call_due}
 use Rattle.trace_model.specs.Drop.{drop_due}

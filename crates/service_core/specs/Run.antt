@@ -1,4 +1,4 @@
-use Rattle.std.specs.Prelude.{◌≡◌, List, [], ◌∷◌, Option, Some}
+use Rattle.std.specs.Prelude.{◌≡◌, List, [], ◌∷◌, Some}
 use Rattle.cam_types.specs.declared.script.Script.{Script}
 use Rattle.service_core.specs.declared.step.Move.{Move}
 use Rattle.service_core.specs.Ready.{move_of}

@@ -1,19 +1,19 @@
 -- Lemmas for the laws in `src/laws.rt`.
-use Rattle.std.proofs.Common.{◌≡◌, ℕ, ◌==◌, Bool, true, false, ◌&&◌, List, [], ◌∷◌, Option, Some, None, refl, sym, ap, ◌∙◌, arith, find, nat_lt}
+use Rattle.std.proofs.Common.{◌≡◌, ℕ, ◌==◌, Bool, true, false, ◌&&◌, List, Option, Some, None, refl, sym, ap, ◌∙◌, arith, find}
 use Rattle.std.specs.List.{list_any, list_all}
-use Rattle.std.proofs.lemmas.Bool.{cases_Bool, false≢true}
+use Rattle.std.proofs.lemmas.Bool.{false≢true}
 use Rattle.std.proofs.lemmas.Bool.Decides.{nat_tests}
 use Rattle.cam_types.specs.Four.{four_list}
 use Rattle.cam_types.specs.declared.four.Four.{Four}
 use Rattle.cam_types.specs.declared.script.Script.{Script}
 use Rattle.trace_model.specs.declared.entry.Entry.{Entry}
-use Rattle.trace_model.specs.declared.entry.Entry.TheVariants.{Begin, Call, Send, Dropped, Shutter, Partial, Filled, Failed, ErrorRequest, ErrorResult, ErrorBuffer, ErrorDevice, Release, Signal}
+use Rattle.trace_model.specs.declared.entry.Entry.TheVariants.{Send, Filled, Failed, Release}
 use Rattle.trace_model.specs.declared.entry.Sent.{Sent}
 use Rattle.trace_model.specs.Allowed.{IsAllowed}
 use Rattle.trace_model.specs.Entry.{names}
 use Rattle.trace_model.specs.Frames.{frames}
 use Rattle.trace_model.specs.Laws.{returns_buffer}
-use Rattle.trace_model.specs.Place.{Place, Pool, Device, Client, place, place_after, is_at, sends_with, is_at_device_by, last_naming}
+use Rattle.trace_model.specs.Place.{Pool, Device, place, place_after, is_at, sends_with, is_at_device_by, last_naming}
 use Rattle.trace_model.specs.Queue.{Next, next}
 use Rattle.trace_model.specs.Configuration.{buffers_of}
 use Rattle.trace_model.specs.Fence.{fence_of, is_same_fence}

@@ -1,4 +1,4 @@
-use Rattle.std.specs.Prelude.{ℕ, ◌==◌, ◌+◌, Bool, true, false, ◌&&◌, List, [], ◌∷◌, Option, Some, None, nat_le, nat_lt, sum_by, slice_get, is_some}
+use Rattle.std.specs.Prelude.{ℕ, ◌+◌, Bool, true, false, ◌&&◌, List, [], ◌∷◌, Option, Some, None, nat_le, nat_lt, sum_by, slice_get}
 use Rattle.std.specs.List.{list_any, range_with_len}
 use Rattle.cam_types.specs.Four.{four_list}
 use Rattle.cam_types.specs.declared.reply.Made.{Made}

@@ -1,4 +1,4 @@
-use Rattle.std.specs.Prelude.{ℕ, ◌==◌, Bool, true, false, ◌&&◌, ◌||◌, not, List, [], ◌∷◌, Option, Some, None, nat_lt, find, if◌then◌else◌}
+use Rattle.std.specs.Prelude.{ℕ, ◌==◌, Bool, false, ◌||◌, not, List, [], ◌∷◌, Option, Some, None, nat_lt, find, if◌then◌else◌}
 use Rattle.std.specs.List.{list_any, list_all}
 use Rattle.cam_types.specs.Four.{four_list}
 use Rattle.cam_types.specs.declared.item.Item.{Item}

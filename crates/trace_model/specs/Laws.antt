@@ -1,12 +1,12 @@
-use Rattle.std.specs.Prelude.{◌≡◌, ℕ, ◌==◌, ◌+◌, Bool, true, false, ◌&&◌, ◌||◌, not, List, [], ◌∷◌, Option, Some, None, nat_lt, count_by, IsTrue, if◌then◌else◌}
+use Rattle.std.specs.Prelude.{◌≡◌, ℕ, ◌==◌, ◌+◌, Bool, true, false, ◌&&◌, ◌||◌, not, List, [], ◌∷◌, nat_lt, count_by, IsTrue, if◌then◌else◌}
 use Rattle.std.specs.List.{list_any, list_all}
 use Rattle.cam_types.specs.Four.{four_list}
 use Rattle.cam_types.specs.declared.reply.Reply.TheVariants.{Configured}
 use Rattle.cam_types.specs.declared.script.Script.{Script}
 use Rattle.trace_model.specs.declared.entry.Entry.{Entry}
-use Rattle.trace_model.specs.declared.entry.Entry.TheVariants.{Begin, Call, Send, Dropped, Shutter, Partial, Filled, Failed, ErrorRequest, ErrorResult, ErrorBuffer, ErrorDevice, Release, Signal}
+use Rattle.trace_model.specs.declared.entry.Entry.TheVariants.{Call, Send, Shutter, Partial, Filled, Failed, ErrorResult, Signal}
 use Rattle.trace_model.specs.Complete.{released}
-use Rattle.trace_model.specs.Configuration.{is_buffer, configures}
+use Rattle.trace_model.specs.Configuration.{is_buffer}
 use Rattle.trace_model.specs.Entry.{takes, is_part, is_error_request, is_error_result, returns, signals, releases_fence}
 use Rattle.trace_model.specs.Frames.{frames, targets_of, has_error_request}
 use Rattle.trace_model.specs.Open.{has_part, has_error_result}

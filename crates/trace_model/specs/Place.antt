@@ -1,9 +1,8 @@
-use Rattle.std.specs.Prelude.{ℕ, ◌==◌, Bool, true, false, ◌&&◌, List, [], ◌∷◌, Option, Some, None, find}
-use Rattle.std.specs.List.{list_any, list_all, range_with_len}
+use Rattle.std.specs.Prelude.{ℕ, ◌==◌, Bool, true, false, ◌&&◌, List, Option, Some, find}
+use Rattle.std.specs.List.{list_any, list_all}
 use Rattle.cam_types.specs.Four.{four_list}
 use Rattle.trace_model.specs.declared.entry.Entry.{Entry}
-use Rattle.trace_model.specs.declared.entry.Entry.TheVariants.{Send, Filled, Failed, Release}
-use Rattle.trace_model.specs.declared.entry.Sent.{Sent}
+use Rattle.trace_model.specs.declared.entry.Entry.TheVariants.{Send, Filled}
 use Rattle.trace_model.specs.Configuration.{made, numbers_of}
 use Rattle.trace_model.specs.Entry.{names}
 

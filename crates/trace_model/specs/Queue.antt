@@ -1,4 +1,4 @@
-use Rattle.std.specs.Prelude.{ℕ, ◌==◌, ◌+◌, ◌%◌, Bool, true, false, not, List, [], ◌∷◌, ◌++◌, Option, Some, None, count_by, filter, length, slice_get, if◌then◌else◌}
+use Rattle.std.specs.Prelude.{ℕ, ◌+◌, ◌%◌, Bool, true, false, not, List, [], ◌∷◌, ◌++◌, Option, Some, None, count_by, filter, length, slice_get, if◌then◌else◌}
 use Rattle.std.specs.List.{list_any}
 use Rattle.cam_types.specs.declared.item.Item.{Item}
 use Rattle.cam_types.specs.declared.reply.Reply.{Reply}
@@ -10,7 +10,7 @@ use Rattle.cam_types.specs.declared.script.Word.{Word}
 use Rattle.cam_types.specs.declared.script.Word.TheVariants.{Configure as WordConfigure, Repeat as WordRepeat, Stop as WordStop, Flush as WordFlush, Close as WordClose, Disconnect as WordDisconnect}
 use Rattle.trace_model.specs.declared.entry.Entry.{Entry}
 use Rattle.trace_model.specs.declared.entry.Entry.TheVariants.{Call}
-use Rattle.trace_model.specs.Calls.{command_at, items_of}
+use Rattle.trace_model.specs.Calls.{command_at}
 use Rattle.trace_model.specs.Entry.{takes, sends_for, is_refusal}
 
 -- What is to be captured next (camera3.h, S2: the framework sends a steady stream of requests; the queue and the

@@ -1,4 +1,4 @@
-use Rattle.std.specs.Prelude.{ℕ, ◌==◌, ◌+◌, Bool, true, false, ◌&&◌, ◌||◌, not, List, [], ◌∷◌, Option, Some, None, nat_lt, filter, find, length, map, take, slice_get, is_some, if◌then◌else◌}
+use Rattle.std.specs.Prelude.{ℕ, ◌==◌, ◌+◌, Bool, true, false, ◌&&◌, ◌||◌, not, List, [], ◌∷◌, Option, Some, None, nat_lt, filter, find, length, take, slice_get, if◌then◌else◌}
 use Rattle.std.specs.List.{list_any, list_all}
 use Rattle.cam_types.specs.Four.{four_list}
 use Rattle.cam_types.specs.declared.four.Four.{Four}

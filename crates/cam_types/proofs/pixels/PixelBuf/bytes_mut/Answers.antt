@@ -1,4 +1,4 @@
-use Rattle.std.proofs.Common.{◌≡◌, refl, sym, List, ℕ, take, length, arith, ◌∙◌}
+use Rattle.std.proofs.Common.{refl, sym, arith, ◌∙◌}
 use Rattle.std.proofs.lemmas.Grind.{common_steps}
 use Rattle.cam_types.proofs.OverLemmas.{length-refilled, take-refilled, shown-same}
 use Rattle.cam_types.proofs.pixels.PixelBuf.bytes_mut.Goals as goal
