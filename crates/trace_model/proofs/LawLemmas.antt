@@ -1,24 +1,37 @@
 -- Lemmas for the laws in `src/laws.rt`.
-use Rattle.std.proofs.Common.{◌≡◌, ℕ, ◌==◌, Bool, true, false, ◌&&◌, List, Option, Some, None, refl, sym, ap, ◌∙◌, arith, find}
+use Rattle.std.proofs.Common.{◌≡◌, ℕ, ◌==◌, ◌+◌, ◌<◌, ◌≤◌, Bool, true, false, ◌&&◌, ◌||◌, not, List, Option, Some, None, refl, sym, ap, ◌∙◌, arith, find, inl, inr, nat_le, nat_lt}
 use Rattle.std.specs.List.{list_any, list_all}
-use Rattle.std.proofs.lemmas.Bool.{false≢true}
+use Rattle.std.proofs.lemmas.Bool.{cases_Bool, false≢true}
 use Rattle.std.proofs.lemmas.Bool.Decides.{nat_tests}
 use Rattle.cam_types.specs.Four.{four_list}
 use Rattle.cam_types.specs.declared.four.Four.{Four}
+use Rattle.cam_types.specs.declared.number.BufferId.{BufferId}
+use Rattle.cam_types.specs.declared.number.FenceNo.{FenceNo}
+use Rattle.cam_types.specs.declared.number.FrameNo.{FrameNo}
+use Rattle.cam_types.specs.declared.number.StreamIx.{StreamIx}
+use Rattle.cam_types.specs.declared.part.Part.{Part}
+use Rattle.cam_types.specs.declared.script.Command.{Command}
+use Rattle.cam_types.specs.declared.script.Command.TheVariants.{Configure, Once, Burst, Repeat, Stop, Wait, Await, Flush, Close, Disconnect}
+use Rattle.cam_types.specs.declared.script.Word.{Word}
 use Rattle.cam_types.specs.declared.script.Script.{Script}
 use Rattle.trace_model.specs.declared.entry.Entry.{Entry}
-use Rattle.trace_model.specs.declared.entry.Entry.TheVariants.{Send, Filled, Failed, Release}
+use Rattle.trace_model.specs.declared.entry.Entry.TheVariants.{Begin, Send, Partial, Filled, Failed, Release}
 use Rattle.trace_model.specs.declared.entry.Sent.{Sent}
 use Rattle.trace_model.specs.Allowed.{IsAllowed}
 use Rattle.trace_model.specs.Entry.{names}
-use Rattle.trace_model.specs.Frames.{frames}
+use Rattle.trace_model.specs.Frames.{frames, each_earlier, has_error_request, shutter_time, target_of}
 use Rattle.trace_model.specs.Laws.{returns_buffer}
 use Rattle.trace_model.specs.Place.{Pool, Device, place, place_after, is_at, sends_with, is_at_device_by, last_naming}
 use Rattle.trace_model.specs.Queue.{Next, next}
+use Rattle.trace_model.specs.Client.{begin_of}
 use Rattle.trace_model.specs.Configuration.{buffers_of}
+use Rattle.trace_model.specs.Faults.{request_fault, result_fault}
+use Rattle.trace_model.specs.Filled.{filled_due, filled_of, may_deliver}
+use Rattle.trace_model.specs.Open.{has_error_result, is_metadata_ended}
+use Rattle.trace_model.specs.Partial.{partial_due, part_of, part_count, may_part}
 use Rattle.trace_model.specs.Fence.{fence_of, is_same_fence}
 use Rattle.trace_model.specs.Numbers.{next_number}
-use Rattle.trace_model.specs.Printable.{is_filled}
+use Rattle.trace_model.specs.Printable.{is_filled, is_waiting_word}
 use Rattle.trace_model.specs.Release.{release_due}
 use Rattle.trace_model.specs.Send.{may_send, may_go, fits_next, is_same_bool, mark_of, takes_from_pool, are_streams, targets_in_order}
 use Rattle.trace_model.specs.Shutter.{shutter_due, may_expose}
@@ -138,3 +151,52 @@ until-returned script past (Release c f) n s b at may named =
     let device' : place c.0 past ≡ Device = rw same device in
     absurd (not-released c.0 past (Release c f) device' may)
 until-returned script past _ n s b at may named = absurd (false≢true named)
+
+-- ---- shapes of lines
+
+-- what begins is a word that waits
+pub begins-waiting : (past : List Entry) (o : Option Command) (word : Word) → begin_of past o ≡ Some (Begin word) → is_waiting_word word ≡ true
+begins-waiting past None word h = absurd (cc)
+begins-waiting past (Some (Configure specs)) word h = grind arith
+begins-waiting past (Some (Once item)) word h = absurd (cc)
+begins-waiting past (Some (Burst items)) word h = absurd (cc)
+begins-waiting past (Some (Repeat items)) word h = absurd (cc)
+begins-waiting past (Some Stop) word h = absurd (cc)
+begins-waiting past (Some Wait) word h = grind arith
+begins-waiting past (Some (Await k)) word h = grind arith
+begins-waiting past (Some Flush) word h = grind arith
+begins-waiting past (Some Close) word h = grind arith
+begins-waiting past (Some Disconnect) word h = grind arith
+
+part-shape : (script : Script) (past : List Entry) (m j : ℕ) (o : Option ℕ) (n : FrameNo) (k : ℕ) (part : Part) → part_of script past m j o ≡ Some (Partial n k part) → (k ≡ j) × (j ≤ 3)
+part-shape script past m j None n k part h = absurd (cc)
+part-shape script past m j (Some time) n k part h =
+    elim (cases_Bool (may_part script past m j)) [
+      | inl may ↦ (
+          let h' = rw may at h in
+          let same : j ≡ k = cc in
+          let first = not (has_error_request m past) && (not (has_error_result m past) && not (request_fault script m)) in
+          let last = not (j == 3) || (not (result_fault script m) && each_earlier m (λ f. is_metadata_ended f past) past) in
+          let parts = and_parts first (nat_le j 3 && last) may in
+          let bound = and_parts (nat_le j 3) last parts.1 in
+          let bound' : nat_le j 3 ≡ true = bound.0 in
+          (sym same, grind (arith, nat_tests, bound'))
+          )
+      | inr no' ↦ (let h' = rw no' at h in absurd (cc))
+    ]
+
+pub parts-shape : (script : Script) (past : List Entry) (n : FrameNo) (k : ℕ) (part : Part) → partial_due script past n.0 ≡ Some (Partial n k part) → (0 < k) × (k ≤ 3)
+parts-shape script past n k part h =
+    let shape = part-shape script past n.0 (part_count n.0 past + 1) (shutter_time n.0 past) n k part h in
+    (omega (arith, shape.0), omega (arith, shape.0, shape.1))
+
+filled-shape : (script : Script) (past : List Entry) (m t : ℕ) (o : Option Sent) (n : FrameNo) (s : StreamIx) (b : BufferId) (fence : Option FenceNo) (digest : List ℕ) → filled_of script past m t o ≡ Some (Filled n s b fence digest) → fence ≡ None
+filled-shape script past m t None n s b fence digest h = absurd (cc)
+filled-shape script past m t (Some target) n s b fence digest h =
+    elim (cases_Bool (may_deliver script past m t target)) [
+      | inl may ↦ (let h' = rw may at h in cc)
+      | inr no' ↦ (let h' = rw no' at h in absurd (cc))
+    ]
+
+pub filled-has-no-fence : (script : Script) (past : List Entry) (n : FrameNo) (s : StreamIx) (b : BufferId) (fence : Option FenceNo) (digest : List ℕ) → filled_due script past n.0 s.0 ≡ Some (Filled n s b fence digest) → fence ≡ None
+filled-has-no-fence script past n s b fence digest h = filled-shape script past n.0 s.0 (target_of n.0 s.0 past) n s b fence digest h

@@ -1,11 +1,14 @@
 //! Laws of the definitions: functions that do nothing, and whose contracts hold of every script and every past.
-ghost use Rattle.std.specs.Prelude.{◌≡◌, ℕ, Bool, true, false, List, [], ◌∷◌, IsTrue, ◌==◌, ◌&&◌};
+ghost use Rattle.std.specs.Prelude.{◌≡◌, ℕ, Bool, true, false, List, [], ◌∷◌, IsTrue, Option, ◌==◌, ◌&&◌, ◌<◌, ◌≤◌};
 ghost use Rattle.std.specs.List.{list_any};
 ghost use Rattle.cam_types.specs.Four.{four_list};
 ghost use Rattle.cam_types.specs.declared.four.Four.{Four as SomeFour};
 ghost use Rattle.cam_types.specs.declared.number.BufferId.{BufferId as SomeBuffer};
+ghost use Rattle.cam_types.specs.declared.number.FenceNo.{FenceNo as SomeFence};
 ghost use Rattle.cam_types.specs.declared.number.FrameNo.{FrameNo as SomeFrame};
 ghost use Rattle.cam_types.specs.declared.number.RequestId.{RequestId as SomeRequest};
+ghost use Rattle.cam_types.specs.declared.number.StreamIx.{StreamIx as SomeStream};
+ghost use Rattle.cam_types.specs.declared.part.Part.{Part as SomePart};
 ghost use Rattle.cam_types.specs.declared.reply.Reply.{Reply as SomeReply};
 ghost use Rattle.cam_types.specs.declared.script.Script.{Script as SomeScript};
 ghost use Rattle.cam_types.specs.declared.script.Word.{Word as SomeWord};
@@ -16,6 +19,7 @@ ghost use Rattle.trace_model.specs.Entry.{names};
 ghost use Rattle.trace_model.specs.Laws.{returns_buffer};
 ghost use Rattle.trace_model.specs.Legal.{IsLegal};
 ghost use Rattle.trace_model.specs.Open.{is_metadata_ended};
+ghost use Rattle.trace_model.specs.Printable.{is_printable};
 ghost use Rattle.trace_model.specs.Place.{is_at_device_by};
 ghost use Rattle.trace_model.specs.Stopping.{is_stopping};
 
@@ -54,4 +58,12 @@ pub fn a_sent_buffer_stays_at_the_device()
 pub fn an_error_request_ends_the_metadata()
     ensures ends { (past : List SomeEntry) (n : SomeFrame) → is_metadata_ended n.0 (Entry.ErrorRequest n ∷ past) ≡ true }
     ensures stays { (past : List SomeEntry) (e : SomeEntry) (n : ℕ) → is_metadata_ended n past ≡ true → is_metadata_ended n (e ∷ past) ≡ true }
+{}
+
+/// What is allowed has the shape of its line, whatever its numbers: a word that begins is one that waits, a part has a number
+/// from 1 to 3, and a filled buffer has no fence. (That the numbers fit too is stated as `PrintsAll`.)
+pub fn what_is_allowed_has_its_shape()
+    ensures begins { (script : SomeScript) (past : List SomeEntry) (word : SomeWord) → IsAllowed script past (Entry.Begin word) → is_printable (Entry.Begin word) ≡ true }
+    ensures parts { (script : SomeScript) (past : List SomeEntry) (n : SomeFrame) (k : ℕ) (part : SomePart) → IsAllowed script past (Entry.Partial n k part) → (0 < k) × (k ≤ 3) }
+    ensures filled { (script : SomeScript) (past : List SomeEntry) (n : SomeFrame) (s : SomeStream) (b : SomeBuffer) (fence : Option SomeFence) (digest : List ℕ) → IsAllowed script past (Entry.Filled n s b fence digest) → fence ≡ Option.None }
 {}
