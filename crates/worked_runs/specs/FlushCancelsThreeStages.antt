@@ -1,0 +1,50 @@
+-- A flush finds a frame in progress, one that has done nothing, and two in the queue. The worked row `flush_cancels_three_stages` of tests/rows.
+use Rattle.std.specs.Prelude.{ℕ, Bool, true, false, List, [], ◌∷◌, Option, Some, None}
+use Rattle.cam_types.specs.Worked.{shot}
+use Rattle.cam_types.specs.declared.part.Part.TheVariants.{Look, Light, Time}
+use Rattle.cam_types.specs.declared.reply.Reply.TheVariants.{Ok as Accepted, Submitted, Configured, Refused}
+use Rattle.cam_types.specs.declared.script.Command.{Command}
+use Rattle.cam_types.specs.declared.script.Command.TheVariants.{Configure, Once, Burst, Repeat, Stop, Wait, Await, Flush, Close, Disconnect}
+use Rattle.cam_types.specs.declared.script.Fault.{Fault}
+use Rattle.cam_types.specs.declared.script.Fault.TheVariants.{Request, Result, Buffer, Device}
+use Rattle.cam_types.specs.declared.script.Script.{Script}
+use Rattle.cam_types.specs.declared.script.Word.TheVariants.{Configure as WConfigure, Once as WOnce, Burst as WBurst, Repeat as WRepeat, Stop as WStop, Wait as WWait, Await as WAwait, Flush as WFlush, Close as WClose, Disconnect as WDisconnect}
+use Rattle.cam_types.specs.declared.stream.Format.TheVariants.{Raw16, Yuv, Other}
+use Rattle.trace_model.specs.Picture.{digest}
+use Rattle.trace_model.specs.declared.entry.Entry.{Entry}
+use Rattle.trace_model.specs.declared.entry.Entry.TheVariants.{Begin, Call, Send, Dropped, Shutter, Partial, Filled, Failed, ErrorRequest, ErrorResult, ErrorBuffer, ErrorDevice, Release, Signal}
+use Rattle.worked_runs.specs.Words.{frame, buffer, fence, stream, request, preview, still, item, input, output, made, with, none, one, two, three, four}
+
+abbrev pub flush_cancels_three_stages_script : Script
+flush_cancels_three_stages_script = record {
+  faults = [];
+  picks = 0 ∷ 0 ∷ 0 ∷ 0 ∷ 0 ∷ 2 ∷ 4 ∷ 1 ∷ [];
+  commands =
+      Configure ((output Raw16 160 120) ∷ [])
+      ∷ Burst ((item (shot 0 100 10000000 100) 1 (0 ∷ 0 ∷ 0 ∷ 0 ∷ 0 ∷ 0 ∷ 0 ∷ 0 ∷ [])) ∷ (item (shot 0 100 10000000 100) 1 (0 ∷ 0 ∷ 0 ∷ 0 ∷ 0 ∷ 0 ∷ 0 ∷ 0 ∷ [])) ∷ (item (shot 0 100 10000000 100) 1 (0 ∷ 0 ∷ 0 ∷ 0 ∷ 0 ∷ 0 ∷ 0 ∷ 0 ∷ [])) ∷ (item (shot 0 100 10000000 100) 1 (0 ∷ 0 ∷ 0 ∷ 0 ∷ 0 ∷ 0 ∷ 0 ∷ 0 ∷ [])) ∷ [])
+      ∷ Flush
+      ∷ Close
+      ∷ [];
+}
+
+abbrev pub flush_cancels_three_stages_trace : List Entry
+flush_cancels_three_stages_trace =
+    Begin WConfigure
+    ∷ Call 0 WConfigure (Configured (one (made 0 5)))
+    ∷ Call 1 WBurst (Submitted (request 0))
+    ∷ Send (frame 0) (request 0) 0 false (one (with 0 0 None))
+    ∷ Send (frame 1) (request 0) 1 true (one (with 0 1 None))
+    ∷ Shutter (frame 0) 1000000000
+    ∷ Partial (frame 0) 1 (Look 0 100)
+    ∷ Begin WFlush
+    ∷ Dropped (frame 2) (request 0) 2
+    ∷ Dropped (frame 3) (request 0) 3
+    ∷ ErrorResult (frame 0)
+    ∷ ErrorBuffer (frame 0) (stream 0)
+    ∷ ErrorRequest (frame 1)
+    ∷ Failed (frame 1) (stream 0) (buffer 1) None
+    ∷ Failed (frame 0) (stream 0) (buffer 0) None
+    ∷ Call 2 WFlush Accepted
+    ∷ Begin WClose
+    ∷ Call 3 WClose Accepted
+    ∷ []

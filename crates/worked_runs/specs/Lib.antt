@@ -1,0 +1,17 @@
+pub mod Words
+pub mod Runs
+pub mod OneFrame
+pub mod RawAndYuvOfOneRequest
+pub mod FifthRequestWaitsForAReturn
+pub mod PipelineDepthOfSix
+pub mod PreviewWithStills
+pub mod RefusalsOfRequests
+pub mod RefusalsOfConfigurations
+pub mod RequestFault
+pub mod ResultAndBufferFaultAfterTwoPartials
+pub mod DeviceFailure
+pub mod FlushCancelsThreeStages
+pub mod FlushWhileAFillIsOut
+pub mod FailedBufferKeepsItsFence
+pub mod ReconfigurationMarksNew
+pub mod DisconnectCancelsAll
