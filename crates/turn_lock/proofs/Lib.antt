@@ -1,0 +1,11 @@
+pub mod ViewLists
+pub mod Numbers
+pub mod Beginnings
+pub mod JobLists
+pub mod Keeping
+pub mod Claiming
+pub mod Releasing
+pub mod Splitting
+pub mod Joining
+pub mod Opening
+pub mod ForCallers

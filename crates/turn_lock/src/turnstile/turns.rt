@@ -1,0 +1,96 @@
+//! Taking turns.
+ghost use Rattle.std.specs.Prelude.{◌≡◌, true, false, MatchBool};
+ghost use Rattle.turn_lock.specs.Seats.{view, fixed_of, Carries, IsOf, IsSeatOf};
+ghost use Rattle.turn_lock.specs.Turns.{Enters, MayLeave, Leaves};
+
+use super::Turnstile;
+use crate::kept::Kept;
+use crate::plays::{Claim, Release};
+use crate::seat::{Held, Seat};
+use std::marker::PhantomData;
+use std::sync::Wait;
+
+impl<S: Kept> Turnstile<S> {
+    /// Waits for the turn, and takes it with the value.
+    pub fn enter<R: Wait>(&self, rt: &R, seat: &mut Seat<S>) -> Held<S>
+        requires seat { IsSeatOf S.fixed self.now seat.old }
+        requires free { (view seat.old).holds ≡ false }
+        ensures seat { IsSeatOf S.fixed self.now seat.new }
+        ensures turn { Enters S.fixed S.entries S.jobs (fixed_of S.fixed self.now) (view seat.old) result.value (view seat.new) }
+    {
+        for _ in rt.forever() {
+            if self.claim(seat) {
+                return Held {
+                    value: self.take_out(seat),
+                    turn: PhantomData,
+                };
+            }
+            self.table.shared.park(rt, 0, 1);
+        }
+        unreachable!()
+    }
+
+    /// Puts the value back, and gives up the turn.
+    pub fn leave(&self, seat: &mut Seat<S>, held: Held<S>)
+        requires seat { IsSeatOf S.fixed self.now seat.old }
+        requires turn { (view seat.old).holds ≡ true }
+        requires value { MayLeave S.fixed S.entries S.jobs (fixed_of S.fixed self.now) (view seat.old) held.value }
+        ensures seat { IsSeatOf S.fixed self.now seat.new }
+        ensures turn { Leaves S.entries S.jobs (view seat.old) held.value (view seat.new) }
+    {
+        let Held { value, turn: _ } = held;
+        self.put_back(seat, value);
+        self.release(seat);
+        self.table.shared.wake_one(0);
+    }
+
+    // Takes the turn if no seat has it, and the slot with the value.
+    fn claim(&self, seat: &mut Seat<S>) -> bool
+        requires seat { IsSeatOf S.fixed self.now seat.old }
+        requires free { (view seat.old).holds ≡ false }
+        ensures seat { IsOf S.fixed self.now seat.new }
+        ensures turn { MatchBool result
+            ((value : S) × Carries seat.new value × Enters S.fixed S.entries S.jobs (fixed_of S.fixed self.now) (view seat.old) value (view seat.new))
+            (seat.new.place.me ≡ seat.old.place.me) }
+    {
+        self.table
+            .shared
+            .compare_exchange::<Claim>(&mut seat.place, 0, 0, 1)
+            == 0
+    }
+
+    // Takes the value out of the slot.
+    fn take_out(&self, seat: &mut Seat<S>) -> S
+        requires seat { IsOf S.fixed self.now seat.old }
+        requires value { ((view seat.old).holds ≡ true) × ((value : S) × Carries seat.old value) }
+        ensures seat { IsSeatOf S.fixed self.now seat.new × (view seat.new ≡ view seat.old) }
+        ensures value { Carries seat.old result }
+    {
+        self.table
+            .shared
+            .exchange(&mut seat.place, 0, None)
+            .unwrap()
+    }
+
+    // Puts the value into the slot.
+    fn put_back(&self, seat: &mut Seat<S>, value: S)
+        requires seat { IsSeatOf S.fixed self.now seat.old }
+        requires turn { (view seat.old).holds ≡ true }
+        ensures seat { IsOf S.fixed self.now seat.new × (view seat.new ≡ view seat.old) }
+        ensures value { Carries seat.new value }
+    {
+        let empty = self.table.shared.exchange(&mut seat.place, 0, Some(value));
+        let None = empty else { unreachable!() };
+    }
+
+    // Gives up the turn, and the slot with the value.
+    fn release(&self, seat: &mut Seat<S>)
+        requires seat { IsOf S.fixed self.now seat.old }
+        requires turn { (view seat.old).holds ≡ true }
+        requires value { (value : S) × Carries seat.old value × MayLeave S.fixed S.entries S.jobs (fixed_of S.fixed self.now) (view seat.old) value }
+        ensures seat { IsSeatOf S.fixed self.now seat.new }
+        ensures turn { (value : S) → Carries seat.old value → Leaves S.entries S.jobs (view seat.old) value (view seat.new) }
+    {
+        self.table.shared.store::<Release>(&mut seat.place, 0, 0);
+    }
+}
