@@ -1,0 +1,22 @@
+//! Measures what a frame costs: an exposure, each fill with its digest, and the digest of as many bytes alone.
+#![tactic(auto)]
+
+mod measure;
+mod report;
+#[cfg(test)]
+mod tests;
+
+use std::{env, io};
+
+fn main(rt: HostRuntime) -> io::Result<()> {
+    if env::args(&rt)?
+        .skip(1)
+        .any(|word| word.as_str() == "measure")
+    {
+        report::print_costs(&rt)
+    } else {
+        println!(rt;
+            "With the word measure: what an exposure, a RAW16 fill and the YUV fills cost beside their digests."
+        )
+    }
+}

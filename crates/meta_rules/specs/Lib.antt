@@ -1,0 +1,3 @@
+pub mod Templates
+pub mod Numbers
+pub mod Parts

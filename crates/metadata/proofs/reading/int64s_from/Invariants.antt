@@ -1,0 +1,6 @@
+use Rattle.std.proofs.Common.{◌≡◌, length}
+use Rattle.metadata.specs.Values.{pieces, int64_of}
+use Rattle.metadata.proofs.reading.int64s_from.Given as goal
+
+abbrev pub invariant-loop-i : goal.invariant-loop-i
+invariant-loop-i l = record { list : l.list ≡ pieces 8 int64_of l.i l.bytes; len : length l.list ≡ l.i }

@@ -1,0 +1,8 @@
+use crate::values::Values;
+
+/// A tag and its values.
+#[derive(Drop)]
+pub struct Entry {
+    pub tag: u32,
+    pub values: Values,
+}

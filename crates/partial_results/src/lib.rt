@@ -1,0 +1,56 @@
+//! The metadata results of a frame: what each of its three parts says.
+#![tactic(auto)]
+
+ghost use Rattle.std.specs.Prelude.{◌≡◌, ◌≤◌};
+ghost use Rattle.cam_types.specs.Metadata.{part_at};
+
+use cam_types::{PART_COUNT, Part, Settings};
+
+/// Part `k` of the metadata of a frame that has these settings and whose shutter was at `time`, in nanoseconds.
+pub fn part(k: u8, settings: Settings, time: u64) -> Part
+    requires at_least { 1 ≤ k }
+    requires at_most { k ≤ PART_COUNT }
+    ensures { result ≡ part_at k settings time }
+{
+    match k {
+        1 => Part::Look {
+            pattern: settings.pattern,
+            level: settings.level,
+        },
+        2 => Part::Light {
+            exposure: settings.exposure,
+            iso: settings.iso,
+        },
+        _ => Part::Time { timestamp: time },
+    }
+}
+
+#[cfg(test)]
+mod tests {
+    use super::*;
+
+    #[test]
+    fn parts_of_the_first_frame(rt: HostRuntime) {
+        let settings = Settings {
+            pattern: 1,
+            level: 200,
+            exposure: 20_000_000,
+            iso: 400,
+        };
+        let look = Part::Look {
+            pattern: 1,
+            level: 200,
+        };
+        let light = Part::Light {
+            exposure: 20_000_000,
+            iso: 400,
+        };
+        let time = Part::Time {
+            timestamp: 1_000_000_000,
+        };
+        for (k, want) in [(1, look), (2, light), (3, time)] {
+            assert!(rt; 1 <= k && k <= 3);
+            assert_eq!(rt; part(k, settings, 1_000_000_000), want, "part {k}");
+        }
+    }
+}

@@ -1,0 +1,108 @@
+ghost use Rattle.std.specs.Prelude.{◌≡◌, None};
+ghost use Rattle.cam_types.specs.Metadata.{range_fault};
+ghost use Rattle.cam_types.specs.Picture.{readout as readout_of};
+
+use crate::rows::write_readout;
+use cam_types::{FrameNo, Readout, Settings};
+use std::marker::Model;
+
+/// A frame that the sensor is to expose, with the readout that it may write. It must be spent: it is neither dropped
+/// nor copied, and ends by `expose` alone.
+pub struct SensorJob {
+    frame: FrameNo,
+    settings: Settings,
+    scratch: Readout,
+}
+
+impl Model for SensorJob {
+    ghost use Rattle.std.specs.Prelude.{◌≡◌, None};
+    ghost use Rattle.cam_types.specs.declared.job.JobView.{JobView};
+    ghost use Rattle.cam_types.specs.Metadata.{range_fault};
+
+    ghost Value = { JobView };
+
+    ghost view = { λ j. record { frame = j.frame; settings = j.settings; fill = None } };
+
+    ghost invariant = { λ j. range_fault j.settings ≡ None };
+}
+
+/// A frame that was exposed. Its readout has the values that the frame and its settings determine. It must be spent:
+/// it is neither dropped nor copied, and ends by `into_parts` alone.
+pub struct ExposedJob {
+    frame: FrameNo,
+    settings: Settings,
+    readout: Readout,
+}
+
+impl Model for ExposedJob {
+    ghost use Rattle.std.specs.Prelude.{◌≡◌, None};
+    ghost use Rattle.cam_types.specs.declared.job.JobView.{JobView};
+    ghost use Rattle.cam_types.specs.Picture.{readout as readout_of};
+
+    ghost Value = { JobView };
+
+    ghost view = { λ j. record { frame = j.frame; settings = j.settings; fill = None } };
+
+    ghost invariant = { λ j. j.readout ≡ readout_of j.settings j.frame.0 };
+}
+
+impl SensorJob {
+    /// A job for a frame whose settings are in range. What the readout holds doesn't matter.
+    pub fn new(frame: FrameNo, settings: Settings, scratch: Readout) -> SensorJob
+        requires { range_fault settings ≡ None }
+        ensures { result ≡ record { frame = frame; settings = settings; fill = None } }
+    {
+        SensorJob {
+            frame,
+            settings,
+            scratch,
+        }
+    }
+
+    /// The number of the frame.
+    pub fn frame(&self) -> FrameNo
+        ensures { result ≡ self.now.frame }
+    {
+        self.frame
+    }
+
+    /// Exposes the frame.
+    pub fn expose(self) -> ExposedJob
+        ensures { result ≡ self }
+    {
+        let SensorJob {
+            frame,
+            settings,
+            mut scratch,
+        } = self;
+        write_readout(settings, frame, scratch.values_mut());
+        ExposedJob {
+            frame,
+            settings,
+            readout: scratch,
+        }
+    }
+}
+
+impl ExposedJob {
+    /// The number of the frame.
+    pub fn frame(&self) -> FrameNo
+        ensures { result ≡ self.now.frame }
+    {
+        self.frame
+    }
+
+    /// The frame, its settings and its readout.
+    pub fn into_parts(self) -> (FrameNo, Settings, Readout)
+        ensures frame { result.0 ≡ self.frame }
+        ensures settings { result.1 ≡ self.settings }
+        ensures values { result.2 ≡ readout_of self.settings self.frame.0 }
+    {
+        let ExposedJob {
+            frame,
+            settings,
+            readout,
+        } = self;
+        (frame, settings, readout)
+    }
+}

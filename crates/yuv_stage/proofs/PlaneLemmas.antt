@@ -1,0 +1,132 @@
+-- Planes that are written row by row, and the pictures that they make.
+use Rattle.std.proofs.Common.{◌≡◌, ℕ, ◌+◌, ◌-◌, ◌*◌, ◌/◌, ◌%◌, ◌<◌, ◌≤◌, List, ◌++◌, length, take, drop, get_or, refl, ap, sym, ◌∙◌, arith, inl, inr}
+use Rattle.std.proofs.lemmas.Grind.{common_steps}
+use Rattle.std.proofs.lemmas.Bool.{cases_lt}
+use Rattle.std.proofs.lemmas.List.{places}
+use Rattle.std.proofs.lemmas.List.FromFn.{fill_by_all, length-map-range_with_len, get_or-map-range_with_len}
+use Rattle.std.proofs.lemmas.Nat.{div-mul-add, mod-mul-add, row_fits_turned}
+use Rattle.std.proofs.Math.Nat.{mul_comm}
+use Rattle.cam_types.specs.Picture.{plane, yuv_picture, of_cell, cell_at, luma, chroma_blue, chroma_red}
+use Rattle.yuv_stage.specs.Cells.{at_cell}
+
+-- one more row is written, and all of it has the values of f
+rows-more : (f : ℕ → ℕ) (xs row : List ℕ) (at width : ℕ) → at + width ≤ length xs → length row ≡ width → ((k : ℕ) → k < at → get_or xs k 0 ≡ f k) → ((x : ℕ) → x < width → get_or row x 0 ≡ f (at + x)) → (k : ℕ) → k < at + width → get_or (take at xs ++ (row ++ drop width (drop at xs))) k 0 ≡ f k
+rows-more f xs row at width fits len before here k below =
+    elim (cases_lt k at) [
+      | inl less ↦ (let e : get_or (take at xs ++ (row ++ drop width (drop at xs))) k 0 ≡ get_or xs k 0 = grind (arith, places) in
+          e ∙ before k less)
+      | inr more ↦ (let e : get_or (take at xs ++ (row ++ drop width (drop at xs))) k 0 ≡ get_or row (k - at) 0 = grind (arith, places) in
+          let same : at + (k - at) ≡ k = omega arith in
+          e ∙ (here (k - at) (omega arith) ∙ ap f same))
+    ]
+
+-- one more row of a plane is written
+pub plane-more : (value : ℕ → ℕ → ℕ) (width y wide : ℕ) (xs row : List ℕ) → wide ≡ width → y * width + width ≤ length xs → length row ≡ width → ((k : ℕ) → k < y * width → get_or xs k 0 ≡ value (k % width) (k / width)) → ((x : ℕ) → x < width → get_or row x 0 ≡ value x y) → (k : ℕ) → k < (y + 1) * width → get_or (take (y * width) xs ++ (row ++ drop wide (drop (y * width) xs))) k 0 ≡ value (k % width) (k / width)
+plane-more value width y wide xs row w fits len before here k below =
+    let each : (x : ℕ) → x < width → get_or row x 0 ≡ value ((y * width + x) % width) ((y * width + x) / width) = λ x h.
+    rw (mod-mul-add y width x h, div-mul-add y width x h) (here x h) in
+    rw w (rows-more (λ k. value (k % width) (k / width)) xs row (y * width) width fits len before each k (grind (arith, common_steps)))
+
+-- a list that has the values of a plane at each place is the plane
+pub plane-all : (value : ℕ → ℕ → ℕ) (width height : ℕ) (xs : List ℕ) → length xs ≡ width * height → ((k : ℕ) → k < width * height → get_or xs k 0 ≡ value (k % width) (k / width)) → xs ≡ plane value width height
+unfolding plane
+plane-all value width height xs len each = fill_by_all (λ i. value (i % width) (i / width)) xs (width * height) 0 len each
+
+value-at : (value : ℕ → ℕ → ℕ) (width height k : ℕ) → k < width * height → get_or (plane value width height) k 0 ≡ value (k % width) (k / width)
+unfolding plane
+value-at value width height k h = get_or-map-range_with_len (λ i. value (i % width) (i / width)) 0 (width * height) k k 0 h (omega arith)
+
+length-plane : (value : ℕ → ℕ → ℕ) (width height : ℕ) → length (plane value width height) ≡ width * height
+unfolding plane
+length-plane value width height = length-map-range_with_len (λ i. value (i % width) (i / width)) 0 (width * height)
+
+-- planes with the same values are one
+pub plane-same : (value other : ℕ → ℕ → ℕ) (width height : ℕ) → ((x y : ℕ) → value x y ≡ other x y) → plane value width height ≡ plane other width height
+plane-same value other width height each =
+    plane-all other width height (plane value width height) (length-plane value width height) (λ k h. value-at value width height k h ∙ each (k % width) (k / width))
+
+-- rows of 320 places are pairs of rows of 160, whose cells are the same
+pub pairs-are-rows : (part : ℕ → ℕ → ℕ → ℕ) (values : List ℕ) (k : ℕ) → at_cell part values (k % 320 % 160 / 2 * 2) (k / 320 * 2) ≡ at_cell part values (k % 160 / 2 * 2) (k / 160 / 2 * 2)
+pairs-are-rows part values k =
+    let column : k % 320 % 160 ≡ k % 160 = omega arith in
+    let row : k / 320 * 2 ≡ k / 160 / 2 * 2 = omega arith in
+    rw (column, row) refl
+
+luma-160 : (values : List ℕ) (x y : ℕ) → at_cell luma values (x / 2 * 2) (y / 2 * 2) ≡ of_cell luma values 160 120 x y
+unfolding at_cell
+luma-160 values x y =
+    let column : cell_at x 160 160 ≡ x / 2 * 2 = omega arith in
+    let row : cell_at y 120 120 ≡ y / 2 * 2 = omega arith in
+    rw (column, row) refl
+
+-- one more row is written, of cells that are step columns and rows of the sensor apart
+pub cells-more : (part : ℕ → ℕ → ℕ → ℕ) (values : List ℕ) (step width height y wide : ℕ) (xs row : List ℕ) → wide ≡ width → y < height → length xs ≡ width * height → length row ≡ length (take wide (drop (y * width) xs)) → ((k : ℕ) → k < y * width → get_or xs k 0 ≡ at_cell part values (k % width * step) (k / width * step)) → ((k : ℕ) → k < length row → get_or row k 0 ≡ at_cell part values (k * step) (y * step)) → (k : ℕ) → k < (y + 1) * width → get_or (take (y * width) xs ++ (row ++ drop wide (drop (y * width) xs))) k 0 ≡ at_cell part values (k % width * step) (k / width * step)
+cells-more part values step width height y wide xs row w low size same before here =
+    let fits : y * width + width ≤ width * height = row_fits_turned y width width height low (omega arith) in
+    let room : y * width + width ≤ length xs = omega arith in
+    let len : length row ≡ width = same ∙ grind (arith, common_steps) in
+    plane-more (λ x z. at_cell part values (x * step) (z * step)) width y wide xs row w room len before (λ x h. here x (omega arith))
+
+-- all rows are written, of cells that are step columns and rows of the sensor apart
+pub cells-all : (part : ℕ → ℕ → ℕ → ℕ) (values : List ℕ) (step width height y : ℕ) (xs : List ℕ) → height ≤ y → y ≤ height → length xs ≡ width * height → ((k : ℕ) → k < y * width → get_or xs k 0 ≡ at_cell part values (k % width * step) (k / width * step)) → xs ≡ plane (λ x z. at_cell part values (x * step) (z * step)) width height
+cells-all part values step width height y xs low high len each =
+    let all : y ≡ height = omega arith in
+    let size : width * height ≡ y * width = mul_comm width height ∙ ap (λ n. n * width) (sym all) in
+    plane-all (λ x z. at_cell part values (x * step) (z * step)) width height xs len (λ k h. each k (omega (arith, size)))
+
+pub wide-all : (values : List ℕ) (pair : ℕ) (xs : List ℕ) → 60 ≤ pair → length xs ≡ 19200 → ((k : ℕ) → k < pair * 320 → get_or xs k 0 ≡ at_cell luma values (k % 320 % 160 / 2 * 2) (k / 320 * 2)) → xs ≡ plane (λ x y. at_cell luma values (x / 2 * 2) (y / 2 * 2)) 160 120
+wide-all values pair xs all len each =
+    plane-all (λ x y. at_cell luma values (x / 2 * 2) (y / 2 * 2)) 160 120 xs len (λ k h. each k (omega arith) ∙ pairs-are-rows luma values k)
+
+-- ---- the pictures of the three sizes
+
+luma-80 : (values : List ℕ) (x y : ℕ) → at_cell luma values (x * 2) (y * 2) ≡ of_cell luma values 80 60 x y
+unfolding at_cell
+luma-80 values x y =
+    let column : cell_at x 80 160 ≡ x * 2 = omega arith in
+    let row : cell_at y 60 120 ≡ y * 2 = omega arith in
+    rw (column, row) refl
+
+luma-40 : (values : List ℕ) (x y : ℕ) → at_cell luma values (x * 4) (y * 4) ≡ of_cell luma values 40 30 x y
+unfolding at_cell
+luma-40 values x y =
+    let column : cell_at x 40 160 ≡ x * 4 = omega arith in
+    let row : cell_at y 30 120 ≡ y * 4 = omega arith in
+    rw (column, row) refl
+
+chroma-160 : (part : ℕ → ℕ → ℕ → ℕ) (values : List ℕ) (i j : ℕ) → at_cell part values (i * 2) (j * 2) ≡ of_cell part values 160 120 (2 * i) (2 * j)
+unfolding at_cell
+chroma-160 part values i j =
+    let column : cell_at (2 * i) 160 160 ≡ i * 2 = omega arith in
+    let row : cell_at (2 * j) 120 120 ≡ j * 2 = omega arith in
+    rw (column, row) refl
+
+chroma-80 : (part : ℕ → ℕ → ℕ → ℕ) (values : List ℕ) (i j : ℕ) → at_cell part values (i * 4) (j * 4) ≡ of_cell part values 80 60 (2 * i) (2 * j)
+unfolding at_cell
+chroma-80 part values i j =
+    let column : cell_at (2 * i) 80 160 ≡ i * 4 = omega arith in
+    let row : cell_at (2 * j) 60 120 ≡ j * 4 = omega arith in
+    rw (column, row) refl
+
+chroma-40 : (part : ℕ → ℕ → ℕ → ℕ) (values : List ℕ) (i j : ℕ) → at_cell part values (i * 8) (j * 8) ≡ of_cell part values 40 30 (2 * i) (2 * j)
+unfolding at_cell
+chroma-40 part values i j =
+    let column : cell_at (2 * i) 40 160 ≡ i * 8 = omega arith in
+    let row : cell_at (2 * j) 30 120 ≡ j * 8 = omega arith in
+    rw (column, row) refl
+
+picture-of : (width height : ℕ) (values y b r : List ℕ) → y ≡ plane (of_cell luma values width height) width height → b ≡ plane (λ i j. of_cell chroma_blue values width height (2 * i) (2 * j)) (width / 2) (height / 2) → r ≡ plane (λ i j. of_cell chroma_red values width height (2 * i) (2 * j)) (width / 2) (height / 2) → y ++ (b ++ r) ≡ yuv_picture width height values
+unfolding yuv_picture
+picture-of width height values y b r luma-is blue-is red-is = rw (luma-is, blue-is, red-is) refl
+
+pub picture-160 : (values y b r : List ℕ) → y ≡ plane (λ x z. at_cell luma values (x / 2 * 2) (z / 2 * 2)) 160 120 → b ≡ plane (λ x z. at_cell chroma_blue values (x * 2) (z * 2)) 80 60 → r ≡ plane (λ x z. at_cell chroma_red values (x * 2) (z * 2)) 80 60 → y ++ (b ++ r) ≡ yuv_picture 160 120 values
+picture-160 values y b r luma-is blue-is red-is =
+    picture-of 160 120 values y b r (luma-is ∙ plane-same _ _ 160 120 (luma-160 values)) (blue-is ∙ plane-same _ _ 80 60 (chroma-160 chroma_blue values)) (red-is ∙ plane-same _ _ 80 60 (chroma-160 chroma_red values))
+
+pub picture-80 : (values y b r : List ℕ) → y ≡ plane (λ x z. at_cell luma values (x * 2) (z * 2)) 80 60 → b ≡ plane (λ x z. at_cell chroma_blue values (x * 4) (z * 4)) 40 30 → r ≡ plane (λ x z. at_cell chroma_red values (x * 4) (z * 4)) 40 30 → y ++ (b ++ r) ≡ yuv_picture 80 60 values
+picture-80 values y b r luma-is blue-is red-is =
+    picture-of 80 60 values y b r (luma-is ∙ plane-same _ _ 80 60 (luma-80 values)) (blue-is ∙ plane-same _ _ 40 30 (chroma-80 chroma_blue values)) (red-is ∙ plane-same _ _ 40 30 (chroma-80 chroma_red values))
+
+pub picture-40 : (values y b r : List ℕ) → y ≡ plane (λ x z. at_cell luma values (x * 4) (z * 4)) 40 30 → b ≡ plane (λ x z. at_cell chroma_blue values (x * 8) (z * 8)) 20 15 → r ≡ plane (λ x z. at_cell chroma_red values (x * 8) (z * 8)) 20 15 → y ++ (b ++ r) ≡ yuv_picture 40 30 values
+picture-40 values y b r luma-is blue-is red-is =
+    picture-of 40 30 values y b r (luma-is ∙ plane-same _ _ 40 30 (luma-40 values)) (blue-is ∙ plane-same _ _ 20 15 (chroma-40 chroma_blue values)) (red-is ∙ plane-same _ _ 20 15 (chroma-40 chroma_red values))

@@ -1,0 +1,18 @@
+use Rattle.std.proofs.Common.{◌+◌, ◌-◌, ◌*◌, arith, ◌∙◌}
+use Rattle.cam_types.specs.Picture.{chroma_blue, chroma_red}
+use Rattle.yuv_stage.proofs.PlaneLemmas.{cells-more, cells-all}
+use Rattle.yuv_stage.proofs.planes.write_chroma_planes.Goals as goal
+
+pub loop-row-preserved : goal.loop-row-preserved
+loop-row-preserved g c = record {
+  blue = cells-more chroma_blue c.args.values.now g.row.STEP c.args.width c.args.height c.loop-row.row (c.loop-row.row * c.args.width + c.args.width - c.loop-row.row * c.args.width) c.loop-row.blue c.write_chroma.new.blue (omega arith) (omega arith) (c.loop-row.auto.blue ∙ c.requires.blue_room) c.write_chroma.auto.blue c.loop-row.invariant.blue c.write_chroma.ensures.blue;
+  red = cells-more chroma_red c.args.values.now g.row.STEP c.args.width c.args.height c.loop-row.row (c.loop-row.row * c.args.width + c.args.width - c.loop-row.row * c.args.width) c.loop-row.red c.write_chroma.new.red (omega arith) (omega arith) (c.loop-row.auto.red ∙ c.requires.red_room) c.write_chroma.auto.red c.loop-row.invariant.red c.write_chroma.ensures.red;
+}
+
+pub returns-clause-blue : goal.returns-clause-blue
+returns-clause-blue g c =
+    cells-all chroma_blue c.args.values.now g.row.STEP c.args.width c.args.height c.loop-row.row c.loop-row.blue (omega arith) (omega arith) (c.loop-row.auto.blue ∙ c.requires.blue_room) c.loop-row.invariant.blue
+
+pub returns-clause-red : goal.returns-clause-red
+returns-clause-red g c =
+    cells-all chroma_red c.args.values.now g.row.STEP c.args.width c.args.height c.loop-row.row c.loop-row.red (omega arith) (omega arith) (c.loop-row.auto.red ∙ c.requires.red_room) c.loop-row.invariant.red

@@ -1,0 +1,76 @@
+ghost use Rattle.std.specs.Prelude.{◌≡◌, ◌+◌, ◌*◌, ◌/◌, ◌≤◌, length, IsTrue};
+ghost use Rattle.std.specs.List.{All};
+ghost use Rattle.cam_types.specs.Picture.{is_yuv_size, yuv_picture};
+ghost use Rattle.sha2.specs.Sha256.{sha256};
+
+use crate::planes::{write_chroma_planes, write_narrow_plane, write_wide_plane};
+use cam_types::{PixelBuf, Readout};
+use sha2::{Digest, Sha256};
+
+/// Writes the picture of the sensor's size.
+fn write_wide(values: &[u16], bytes: &mut [u8])
+    requires len { length values.now ≡ 19200 }
+    requires values { All (λ v. (64 ≤ v) × (v ≤ 1023)) values.now }
+    requires room { length bytes.old ≡ 28800 }
+    ensures { bytes.new ≡ yuv_picture 160 120 values.now }
+{
+    let (luma, chroma) = bytes.split_at_mut(19_200);
+    let (blue, red) = chroma.split_at_mut(4_800);
+    write_wide_plane(values, luma);
+    write_chroma_planes::<2>(values, 80, 60, blue, red);
+}
+
+/// Writes the picture of half the sensor's size.
+fn write_half(values: &[u16], bytes: &mut [u8])
+    requires len { length values.now ≡ 19200 }
+    requires values { All (λ v. (64 ≤ v) × (v ≤ 1023)) values.now }
+    requires room { length bytes.old ≡ 7200 }
+    ensures { bytes.new ≡ yuv_picture 80 60 values.now }
+{
+    let (luma, chroma) = bytes.split_at_mut(4_800);
+    let (blue, red) = chroma.split_at_mut(1_200);
+    write_narrow_plane::<2>(values, 80, 60, luma);
+    write_chroma_planes::<4>(values, 40, 30, blue, red);
+}
+
+/// Writes the picture of a quarter of the sensor's size.
+fn write_quarter(values: &[u16], bytes: &mut [u8])
+    requires len { length values.now ≡ 19200 }
+    requires values { All (λ v. (64 ≤ v) × (v ≤ 1023)) values.now }
+    requires room { length bytes.old ≡ 1800 }
+    ensures { bytes.new ≡ yuv_picture 40 30 values.now }
+{
+    let (luma, chroma) = bytes.split_at_mut(1_200);
+    let (blue, red) = chroma.split_at_mut(300);
+    write_narrow_plane::<4>(values, 40, 30, luma);
+    write_chroma_planes::<8>(values, 20, 15, blue, red);
+}
+
+/// Writes the YUV picture of a readout, of one of the three sizes.
+fn write_picture(values: &[u16], width: u32, height: u32, bytes: &mut [u8])
+    requires len { length values.now ≡ 19200 }
+    requires values { All (λ v. (64 ≤ v) × (v ≤ 1023)) values.now }
+    requires size { IsTrue (is_yuv_size width height) }
+    requires room { length bytes.old ≡ width * height * 3 / 2 }
+    ensures { bytes.new ≡ yuv_picture width height values.now }
+{
+    match width {
+        160 => write_wide(values, bytes),
+        80 => write_half(values, bytes),
+        _ => write_quarter(values, bytes),
+    }
+}
+
+/// Writes the YUV picture of a readout, of 160 x 120, 80 x 60 or 40 x 30 pixels, into a buffer that shows its bytes,
+/// three for two pixels, and answers the SHA-256 of them. It takes no memory.
+pub fn fill_yuv(readout: &Readout, width: u32, height: u32, out: &mut PixelBuf) -> [u8; 32]
+    requires values { All (λ v. (64 ≤ v) × (v ≤ 1023)) readout.now }
+    requires size { IsTrue (is_yuv_size width height) }
+    requires room { length out.old.bytes ≡ width * height * 3 / 2 }
+    ensures picture { out.new ≡ record { id = out.old.id; bytes = yuv_picture width height readout.now; block = out.old.block } }
+    ensures len { length out.new.bytes ≡ width * height * 3 / 2 }
+    ensures digest { result ≡ sha256 (yuv_picture width height readout.now) }
+{
+    write_picture(readout.values(), width, height, out.bytes_mut());
+    Sha256::digest(out.bytes())
+}

@@ -1,0 +1,11 @@
+//! The YUV stage: it writes a readout as a picture of one of three sizes, and answers the picture's digest.
+#![tactic(auto)]
+
+mod colour;
+mod fill;
+mod laws;
+mod planes;
+mod rows;
+
+pub use fill::fill_yuv;
+pub use laws::a_yuv_stream_has_yuv_pictures;
