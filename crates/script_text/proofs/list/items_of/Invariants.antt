@@ -1,0 +1,16 @@
+use Rattle.std.proofs.Common.{◌≡◌, true, length}
+use Rattle.script_text.specs.Words.{words_of}
+use Rattle.script_text.specs.Values.{all_of}
+use Rattle.script_text.specs.Values.{item_of}
+use Rattle.script_text.specs.Within.{items_within}
+use Rattle.script_text.proofs.Lists.{with_front}
+use Rattle.script_text.proofs.list.items_of.Given as goal
+
+abbrev pub invariant-loop-word : goal.invariant-loop-word
+invariant-loop-word l = record {
+  same : with_front l.items (all_of item_of (words_of l.rest)) ≡ all_of item_of (words_of l.words);
+  within : items_within l.limit l.items ≡ true;
+}
+
+abbrev pub decreases-loop-word : goal.decreases-loop-word
+decreases-loop-word l = length l.rest

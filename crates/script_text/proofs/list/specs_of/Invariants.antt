@@ -1,0 +1,16 @@
+use Rattle.std.proofs.Common.{◌≡◌, true, length}
+use Rattle.script_text.specs.Words.{words_of}
+use Rattle.script_text.specs.Values.{all_of}
+use Rattle.script_text.specs.Values.{spec_of}
+use Rattle.script_text.specs.Within.{specs_within}
+use Rattle.script_text.proofs.Lists.{with_front}
+use Rattle.script_text.proofs.list.specs_of.Given as goal
+
+abbrev pub invariant-loop-word : goal.invariant-loop-word
+invariant-loop-word l = record {
+  same : with_front l.specs (all_of spec_of (words_of l.rest)) ≡ all_of spec_of (words_of l.words);
+  within : specs_within l.specs ≡ true;
+}
+
+abbrev pub decreases-loop-word : goal.decreases-loop-word
+decreases-loop-word l = length l.rest

@@ -1,0 +1,10 @@
+pub mod Words
+pub mod Values
+pub mod Lines
+pub mod Within
+pub mod Reader
+pub mod Grammar
+pub mod Answers
+pub mod Causes
+pub mod Spelling
+pub mod Fits

@@ -1,0 +1,130 @@
+-- What a line means by its words. (docs/FORMATS.md, script text)
+use Rattle.std.specs.Prelude.{ℕ, ◌==◌, ◌^◌, List, [], ◌∷◌, Option, Some, None, Result, Ok, Err, if◌then◌else◌, codes, bytes_eq, find}
+use Rattle.cam_types.specs.declared.script.Command.{Command}
+use Rattle.cam_types.specs.declared.script.Command.TheVariants as command
+use Rattle.cam_types.specs.declared.script.Fault.{Fault}
+use Rattle.cam_types.specs.declared.script.Fault.TheVariants as fault
+use Rattle.cam_types.specs.declared.script.Word.{Word}
+use Rattle.cam_types.specs.declared.script.Word.TheVariants.{Configure, Once, Burst, Repeat, Stop, Wait, Await, Flush, Close, Disconnect}
+use Rattle.script_text.specs.declared.cause.Cause.{Cause}
+use Rattle.script_text.specs.declared.cause.Cause.TheVariants.{UnknownWord, BadNumber, Missing, Extra}
+use Rattle.script_text.specs.Words.{number_below}
+use Rattle.script_text.specs.Values.{all_of, spec_of, item_of}
+
+infixl 10 ◌>>=◌
+abbrev pub ◌>>=◌ : {A B : Type 0} → Result A Cause → (A → Result B Cause) → Result B Cause
+(Ok x) >>= f = f x
+(Err cause) >>= f = Err cause
+
+-- a line that has a place in a script, after the version line
+pub data Line : Type 0 where
+  FaultLine : Fault → Line
+  PickLine : List ℕ → Line
+  CommandLine : Command → Line
+
+-- BadNumber comes before Missing, and Missing before Extra
+
+-- a word's value
+abbrev pub good : {A : Type 0} → Option A → Result A Cause
+good None = Err BadNumber
+good (Some x) = Ok x
+
+-- no more words
+abbrev pub ends : {A : Type 0} → A → List (List ℕ) → Result A Cause
+ends x [] = Ok x
+ends x (word ∷ words) = Err Extra
+
+-- one more word, with its value
+abbrev pub one : {A : Type 0} → (List ℕ → Option A) → List (List ℕ) → Result A Cause
+one read [] = Err Missing
+one read (word ∷ words) = good (read word) >>= λ x. ends x words
+
+-- any number of words, with their values
+abbrev pub many : {A : Type 0} → (List ℕ → Option A) → List (List ℕ) → Result (List A) Cause
+many read words = good (all_of read words)
+
+-- the numbers of a frame, a stream and a pick, and what an `await` waits for
+abbrev pub number : List ℕ → Option ℕ
+number word = number_below (2 ^ 32) word
+
+abbrev pub stream : List ℕ → Option ℕ
+stream word = number_below (2 ^ 8) word
+
+abbrev pub at_least_one : Option ℕ → Option ℕ
+at_least_one None = None
+at_least_one (Some k) = if k == 0 then None else Some k
+
+abbrev pub awaited : List ℕ → Option ℕ
+awaited word = at_least_one (number word)
+
+-- `N S`
+unfoldable pub frame_and_stream : List (List ℕ) → Result (ℕ × ℕ) Cause
+frame_and_stream [] = Err Missing
+frame_and_stream (frame ∷ words) = do
+  n ← good (number frame)
+  s ← one stream words
+  Ok (n, s)
+
+-- `fault` and these words
+unfoldable pub fault_of : List (List ℕ) → Result Fault Cause
+fault_of [] = Err Missing
+fault_of (kind ∷ words) =
+    if bytes_eq kind (codes "request") then (one number words >>= λ n. Ok (fault.Request (record { 0 = n })))
+    else (if bytes_eq kind (codes "result") then (one number words >>= λ n. Ok (fault.Result (record { 0 = n })))
+    else (if bytes_eq kind (codes "buffer") then (frame_and_stream words >>= λ p. Ok (fault.Buffer (record { 0 = p.0 }) (record { 0 = p.1 })))
+    else (if bytes_eq kind (codes "device") then (one number words >>= λ n. Ok (fault.Device (record { 0 = n })))
+    else Err UnknownWord)))
+
+-- `pick` and these words
+unfoldable pub picks_of : List (List ℕ) → Result (List ℕ) Cause
+picks_of [] = Err Missing
+picks_of (word ∷ words) = many number (word ∷ words)
+
+-- the word of a command, as it is written
+abbrev pub word_text : Word → List ℕ
+word_text Configure = codes "configure"
+word_text Once = codes "once"
+word_text Burst = codes "burst"
+word_text Repeat = codes "repeat"
+word_text Stop = codes "stop"
+word_text Wait = codes "wait"
+word_text Await = codes "await"
+word_text Flush = codes "flush"
+word_text Close = codes "close"
+word_text Disconnect = codes "disconnect"
+
+abbrev pub command_words : List Word
+command_words = Configure ∷ Once ∷ Burst ∷ Repeat ∷ Stop ∷ Wait ∷ Await ∷ Flush ∷ Close ∷ Disconnect ∷ []
+
+unfoldable pub command_word : List ℕ → Option Word
+command_word word = find (λ w. bytes_eq word (word_text w)) command_words
+
+-- a command by its word and the words behind it
+unfoldable pub command_of : Word → List (List ℕ) → Result Command Cause
+command_of Configure words = many spec_of words >>= λ specs. Ok (command.Configure specs)
+command_of Once words = one item_of words >>= λ item. Ok (command.Once item)
+command_of Burst words = many item_of words >>= λ items. Ok (command.Burst items)
+command_of Repeat words = many item_of words >>= λ items. Ok (command.Repeat items)
+command_of Stop words = ends command.Stop words
+command_of Wait words = ends command.Wait words
+command_of Await words = one awaited words >>= λ k. Ok (command.Await k)
+command_of Flush words = ends command.Flush words
+command_of Close words = ends command.Close words
+command_of Disconnect words = ends command.Disconnect words
+
+abbrev pub fault_line : List (List ℕ) → Result Line Cause
+fault_line words = fault_of words >>= λ fault. Ok (FaultLine fault)
+
+abbrev pub pick_line : List (List ℕ) → Result Line Cause
+pick_line words = picks_of words >>= λ picks. Ok (PickLine picks)
+
+abbrev pub command_line : Option Word → List (List ℕ) → Result Line Cause
+command_line None words = Err UnknownWord
+command_line (Some word) words = command_of word words >>= λ c. Ok (CommandLine c)
+
+-- a line by its first word and the words behind it
+unfoldable pub line_of : List ℕ → List (List ℕ) → Result Line Cause
+line_of word words =
+    if bytes_eq word (codes "fault") then fault_line words
+    else (if bytes_eq word (codes "pick") then pick_line words
+    else command_line (command_word word) words)

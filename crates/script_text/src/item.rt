@@ -1,0 +1,119 @@
+//! Settings, targets and captures as they are written.
+
+ghost use Rattle.std.specs.Prelude.{◌≡◌, slice_set};
+ghost use Rattle.script_text.specs.Values.{settings_of, four_numbers, joined_targets, targets_of, item_of};
+ghost use Rattle.script_text.specs.Lines.{good};
+ghost use Rattle.script_text.specs.Within.{limited, targets_within, item_within};
+
+use crate::cause::Cause;
+use crate::number::{byte_of, number_below, small_number};
+use crate::text::{split_at_byte, split_in_four, split_in_two};
+use cam_types::{Item, Settings, TARGET_LIMIT, Targets};
+
+/// The settings of the template for a preview.
+const PREVIEW: Settings = Settings {
+    pattern: 2,
+    level: 128,
+    exposure: 10_000_000,
+    iso: 100,
+};
+
+/// The settings of the template for a still picture.
+const STILL: Settings = Settings {
+    pattern: 1,
+    level: 200,
+    exposure: 20_000_000,
+    iso: 100,
+};
+
+/// `PATTERN,LEVEL,EXPOSURE,ISO`.
+#[tactic(auto, unfolding(crate::specs::Values::four_numbers))]
+fn four_numbers(word: &[u8]) -> Option<Settings>
+    ensures { result ≡ four_numbers word.now }
+{
+    let (pattern, level, exposure, iso) = split_in_four(word, b',')?;
+    let pattern = byte_of(pattern)?;
+    let level = small_number(level, 1 << 31)?;
+    let exposure = number_below(exposure, 1 << 63)?;
+    let iso = small_number(iso, 1 << 31)?;
+    Some(Settings {
+        pattern,
+        level,
+        exposure,
+        iso,
+    })
+}
+
+/// A template, or four numbers.
+#[tactic(auto, unfolding(crate::specs::Values::settings_of))]
+fn settings_of(word: &[u8]) -> Option<Settings>
+    ensures { result ≡ settings_of word.now }
+{
+    match word {
+        b"preview" => Some(PREVIEW),
+        b"still" => Some(STILL),
+        _ => four_numbers(word),
+    }
+}
+
+/// Puts a target at its place, if there is one.
+fn put_target(list: &mut [u8], place: usize, stream: u8)
+    ensures { list.new ≡ slice_set list.old place stream }
+{
+    if place < list.len() {
+        list[place] = stream;
+    }
+}
+
+/// Streams joined by `+`. Those past the limit are read too, since a bad number is told first.
+fn joined_targets(word: &[u8]) -> Result<Targets, Cause>
+    ensures { result ≡ limited targets_within (good (joined_targets word.now)) }
+{
+    let mut list = [0; 8];
+    let mut count = 0usize;
+    let mut rest = word;
+    while let Some((stream, after)) = split_at_byte(rest, b'+') {
+        let Some(stream) = byte_of(stream) else {
+            return Err(Cause::BadNumber);
+        };
+        put_target(&mut list, count, stream);
+        count += 1;
+        rest = after;
+    }
+    let Some(stream) = byte_of(rest) else {
+        return Err(Cause::BadNumber);
+    };
+    put_target(&mut list, count, stream);
+    if count >= TARGET_LIMIT as usize {
+        return Err(Cause::Limit);
+    }
+    Ok(Targets {
+        count: count as u8 + 1,
+        list,
+    })
+}
+
+/// `-`, or streams.
+#[tactic(auto, unfolding(crate::specs::Values::targets_of))]
+fn targets_of(word: &[u8]) -> Result<Targets, Cause>
+    ensures { result ≡ limited targets_within (good (targets_of word.now)) }
+{
+    match word {
+        b"-" => Ok(Targets {
+            count: 0,
+            list: [0; 8],
+        }),
+        _ => joined_targets(word),
+    }
+}
+
+/// `SETTINGS@TARGETS`.
+#[tactic(auto, unfolding(crate::specs::Values::item_of))]
+pub fn item_of(word: &[u8]) -> Result<Item, Cause>
+    ensures { result ≡ limited item_within (good (item_of word.now)) }
+{
+    let (settings, targets) = split_in_two(word, b'@').ok_or(Cause::BadNumber)?;
+    let settings = settings_of(settings).ok_or(Cause::BadNumber)?;
+    let targets = targets_of(targets)?;
+    Ok(Item { settings, targets })
+}
