@@ -10,3 +10,4 @@ pub mod AgainValues
 pub mod AgainLines
 pub mod Again
 pub mod FitsValid
+pub mod TypedFits

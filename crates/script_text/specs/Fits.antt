@@ -1,4 +1,4 @@
-use Rattle.std.specs.Prelude.{ℕ, ◌==◌, ◌^◌, Bool, true, false, ◌&&◌, not, List, length, drop, nat_lt, nat_le, sum_by}
+use Rattle.std.specs.Prelude.{ℕ, ◌==◌, ◌^◌, Bool, true, false, ◌&&◌, not, List, length, take, drop, nat_lt, nat_le, sum_by}
 use Rattle.std.specs.List.{list_all, list_any}
 use Rattle.cam_types.specs.declared.item.Item.{Item}
 use Rattle.cam_types.specs.declared.item.Settings.{Settings}
@@ -16,6 +16,42 @@ use Rattle.cam_types.specs.Limits.{command_limit, burst_limit, repeat_limit, tar
 
 -- A valid script whose numbers are also within what their types allow, as those of every script that is there are: a
 -- byte is below 256, a number of 32 bits below 2^32, and `list` has eight places. (docs/FORMATS.md, script text)
+
+-- ---- what the types say
+
+-- a pattern is a byte
+abbrev pub settings_typed : Settings → Bool
+settings_typed s = nat_lt s.pattern (2 ^ 8)
+
+abbrev pub bytes_typed : List ℕ → Bool
+bytes_typed list = list_all (λ s. nat_lt s (2 ^ 8)) list
+
+-- eight places, and bytes in as many of them as are used
+abbrev pub targets_typed : Targets → Bool
+targets_typed t = (length t.list == target_limit) && bytes_typed (take t.count t.list)
+
+abbrev pub item_typed : Item → Bool
+item_typed i = settings_typed i.settings && targets_typed i.targets
+
+abbrev pub format_typed : Format → Bool
+format_typed (Other n) = nat_lt n (2 ^ 32)
+format_typed _ = true
+
+abbrev pub spec_typed : StreamSpec → Bool
+spec_typed s = format_typed s.format
+
+abbrev pub command_typed : Command → Bool
+command_typed (Configure specs) = list_all spec_typed specs
+command_typed (Once item) = item_typed item
+command_typed (Burst items) = list_all item_typed items
+command_typed (Repeat items) = list_all item_typed items
+command_typed (Await k) = nat_lt k (2 ^ 32)
+command_typed _ = true
+
+abbrev pub numbers_typed : List ℕ → Bool
+numbers_typed numbers = list_all (λ p. nat_lt p (2 ^ 32)) numbers
+
+-- ---- what fits
 
 -- the settings can be written in a script: a byte, and numbers that fit the types of their metadata
 abbrev pub settings_fit : Settings → Bool

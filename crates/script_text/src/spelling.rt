@@ -1,21 +1,32 @@
 //! The one spelling of a script.
 
-ghost use Rattle.std.specs.Prelude.{◌≡◌, ◌≤◌, ◌++◌, ◌∷◌, [], Ok, length, IsTrue, OnOk, IfOk, map, decimal, string_bytes};
-ghost use Rattle.std.specs.List.{flat_map, join_by};
+ghost use Rattle.std.specs.Prelude.{◌≡◌, ◌≤◌, ◌++◌, ◌∷◌, [], true, Ok, length, IsTrue, OnOk, IfOk, map, decimal, string_bytes, ◌^◌, ◌&&◌, nat_lt};
+ghost use Rattle.std.specs.List.{flat_map, join_by, list_all};
 ghost use Rattle.script_text.specs.Lines.{word_text};
 ghost use Rattle.script_text.specs.Spelling.{settings_text, targets_text, item_text, format_text, spec_text, fault_words, behind_spaces, word_of, arguments_of, command_line_words, pick_lines, line_text, text_of};
 ghost use Rattle.script_text.specs.Grammar.{script_of, text_limit};
 ghost use Rattle.cam_types.specs.Script.{is_valid};
-ghost use Rattle.script_text.specs.Fits.{fits};
+ghost use Rattle.script_text.specs.Fits.{bytes_typed, command_typed, fault_fits, format_typed, item_typed, numbers_typed, settings_typed, spec_typed, targets_typed};
 
 use cam_types::{
     Command, Fault, Format, Item, NoMemory, Script, Settings, StreamSpec, Targets, Word,
 };
 use std::alloc::Global;
 
+/// A number of 8 bits is below 2^8.
+fn is_byte(number: u8)
+    ensures { nat_lt number (2 ^ 8) ≡ true }
+{}
+
+/// A number of 32 bits is below 2^32.
+fn is_word(number: u32)
+    ensures { nat_lt number (2 ^ 32) ≡ true }
+{}
+
 /// Writes settings, as four numbers.
 fn write_settings(out: &mut String, settings: &Settings) -> Result<(), NoMemory>
-    ensures { OnOk result (string_bytes out.new ≡ string_bytes out.old ++ settings_text settings.now) }
+    ensures text { OnOk result (string_bytes out.new ≡ string_bytes out.old ++ settings_text settings.now) }
+    ensures typed { OnOk result (settings_typed settings.now ≡ true) }
 {
     let Settings {
         pattern,
@@ -28,9 +39,11 @@ fn write_settings(out: &mut String, settings: &Settings) -> Result<(), NoMemory>
 
 /// Writes streams, each behind a `+`.
 fn write_more(out: &mut String, streams: &[u8]) -> Result<(), NoMemory>
-    ensures { OnOk result (string_bytes out.new ≡ string_bytes out.old ++ flat_map (λ stream. 43 ∷ decimal stream) streams.now) }
+    ensures text { OnOk result (string_bytes out.new ≡ string_bytes out.old ++ flat_map (λ stream. 43 ∷ decimal stream) streams.now) }
+    ensures typed { OnOk result (bytes_typed streams.now ≡ true) }
 {
     for stream in streams {
+        is_byte(*stream);
         write!(out, "+{stream}")?;
     }
     Ok(())
@@ -38,11 +51,13 @@ fn write_more(out: &mut String, streams: &[u8]) -> Result<(), NoMemory>
 
 /// Writes streams, with a `+` between each two.
 fn write_streams(out: &mut String, streams: &[u8]) -> Result<(), NoMemory>
-    ensures { OnOk result (string_bytes out.new ≡ string_bytes out.old ++ join_by decimal (43 ∷ []) streams.now) }
+    ensures text { OnOk result (string_bytes out.new ≡ string_bytes out.old ++ join_by decimal (43 ∷ []) streams.now) }
+    ensures typed { OnOk result (bytes_typed streams.now ≡ true) }
 {
     match streams {
         [] => Ok(()),
         [first, more @ ..] => {
+            is_byte(*first);
             write!(out, "{first}")?;
             write_more(out, more)
         }
@@ -51,7 +66,8 @@ fn write_streams(out: &mut String, streams: &[u8]) -> Result<(), NoMemory>
 
 /// Writes targets.
 fn write_targets(out: &mut String, targets: &Targets) -> Result<(), NoMemory>
-    ensures { OnOk result (string_bytes out.new ≡ string_bytes out.old ++ targets_text targets.now) }
+    ensures text { OnOk result (string_bytes out.new ≡ string_bytes out.old ++ targets_text targets.now) }
+    ensures typed { OnOk result (targets_typed targets.now ≡ true) }
 {
     if targets.count == 0 {
         return out.push_str("-");
@@ -62,7 +78,8 @@ fn write_targets(out: &mut String, targets: &Targets) -> Result<(), NoMemory>
 
 /// Writes a capture.
 fn write_item(out: &mut String, item: &Item) -> Result<(), NoMemory>
-    ensures { OnOk result (string_bytes out.new ≡ string_bytes out.old ++ item_text item.now) }
+    ensures text { OnOk result (string_bytes out.new ≡ string_bytes out.old ++ item_text item.now) }
+    ensures typed { OnOk result (item_typed item.now ≡ true) }
 {
     write_settings(out, &item.settings)?;
     out.push_str("@")?;
@@ -71,7 +88,8 @@ fn write_item(out: &mut String, item: &Item) -> Result<(), NoMemory>
 
 /// Writes captures, each behind a space.
 fn write_items(out: &mut String, items: &[Item]) -> Result<(), NoMemory>
-    ensures { OnOk result (string_bytes out.new ≡ string_bytes out.old ++ behind_spaces (map item_text items.now)) }
+    ensures text { OnOk result (string_bytes out.new ≡ string_bytes out.old ++ behind_spaces (map item_text items.now)) }
+    ensures typed { OnOk result (list_all item_typed items.now ≡ true) }
 {
     for item in items {
         out.push_str(" ")?;
@@ -82,7 +100,8 @@ fn write_items(out: &mut String, items: &[Item]) -> Result<(), NoMemory>
 
 /// Writes a format.
 fn write_format(out: &mut String, format: Format) -> Result<(), NoMemory>
-    ensures { OnOk result (string_bytes out.new ≡ string_bytes out.old ++ format_text format) }
+    ensures text { OnOk result (string_bytes out.new ≡ string_bytes out.old ++ format_text format) }
+    ensures typed { OnOk result (format_typed format ≡ true) }
 {
     match format {
         Format::Raw16 => out.push_str("raw16"),
@@ -93,7 +112,8 @@ fn write_format(out: &mut String, format: Format) -> Result<(), NoMemory>
 
 /// Writes a stream.
 fn write_spec(out: &mut String, spec: &StreamSpec) -> Result<(), NoMemory>
-    ensures { OnOk result (string_bytes out.new ≡ string_bytes out.old ++ spec_text spec.now) }
+    ensures text { OnOk result (string_bytes out.new ≡ string_bytes out.old ++ spec_text spec.now) }
+    ensures typed { OnOk result (spec_typed spec.now ≡ true) }
 {
     let StreamSpec {
         input,
@@ -110,7 +130,8 @@ fn write_spec(out: &mut String, spec: &StreamSpec) -> Result<(), NoMemory>
 
 /// Writes streams, each behind a space.
 fn write_specs(out: &mut String, specs: &[StreamSpec]) -> Result<(), NoMemory>
-    ensures { OnOk result (string_bytes out.new ≡ string_bytes out.old ++ behind_spaces (map spec_text specs.now)) }
+    ensures text { OnOk result (string_bytes out.new ≡ string_bytes out.old ++ behind_spaces (map spec_text specs.now)) }
+    ensures typed { OnOk result (list_all spec_typed specs.now ≡ true) }
 {
     for spec in specs {
         out.push_str(" ")?;
@@ -121,24 +142,30 @@ fn write_specs(out: &mut String, specs: &[StreamSpec]) -> Result<(), NoMemory>
 
 /// Writes a fault line.
 fn write_fault(out: &mut String, fault: &Fault) -> Result<(), NoMemory>
-    ensures { OnOk result (string_bytes out.new ≡ string_bytes out.old ++ line_text (fault_words fault.now)) }
+    ensures text { OnOk result (string_bytes out.new ≡ string_bytes out.old ++ line_text (fault_words fault.now)) }
+    ensures typed { OnOk result (fault_fits fault.now ≡ true) }
 {
     match *fault {
         Fault::Request(frame) => {
             let frame = frame.0;
+            is_word(frame);
             writeln!(out, "fault request {frame}")
         }
         Fault::Result(frame) => {
             let frame = frame.0;
+            is_word(frame);
             writeln!(out, "fault result {frame}")
         }
         Fault::Buffer(frame, stream) => {
             let frame = frame.0;
+            is_word(frame);
             let stream = stream.0;
+            is_byte(stream);
             writeln!(out, "fault buffer {frame} {stream}")
         }
         Fault::Device(frame) => {
             let frame = frame.0;
+            is_word(frame);
             writeln!(out, "fault device {frame}")
         }
     }
@@ -146,9 +173,11 @@ fn write_fault(out: &mut String, fault: &Fault) -> Result<(), NoMemory>
 
 /// Writes numbers, each behind a space.
 fn write_numbers(out: &mut String, numbers: &[u32]) -> Result<(), NoMemory>
-    ensures { OnOk result (string_bytes out.new ≡ string_bytes out.old ++ behind_spaces (map decimal numbers.now)) }
+    ensures text { OnOk result (string_bytes out.new ≡ string_bytes out.old ++ behind_spaces (map decimal numbers.now)) }
+    ensures typed { OnOk result (numbers_typed numbers.now ≡ true) }
 {
     for number in numbers {
+        is_word(*number);
         write!(out, " {number}")?;
     }
     Ok(())
@@ -156,7 +185,8 @@ fn write_numbers(out: &mut String, numbers: &[u32]) -> Result<(), NoMemory>
 
 /// Writes the pick line, if there are picks.
 fn write_picks(out: &mut String, picks: &[u32]) -> Result<(), NoMemory>
-    ensures { OnOk result (string_bytes out.new ≡ string_bytes out.old ++ flat_map line_text (pick_lines picks.now)) }
+    ensures text { OnOk result (string_bytes out.new ≡ string_bytes out.old ++ flat_map line_text (pick_lines picks.now)) }
+    ensures typed { OnOk result (numbers_typed picks.now ≡ true) }
 {
     if picks.is_empty() {
         return Ok(());
@@ -204,7 +234,8 @@ fn word_text(word: Word) -> &'static str
 
 /// Writes what stands behind a command's word.
 fn write_arguments(out: &mut String, command: &Command) -> Result<(), NoMemory>
-    ensures { OnOk result (string_bytes out.new ≡ string_bytes out.old ++ behind_spaces (arguments_of command.now)) }
+    ensures text { OnOk result (string_bytes out.new ≡ string_bytes out.old ++ behind_spaces (arguments_of command.now)) }
+    ensures typed { OnOk result (command_typed command.now ≡ true) }
 {
     match command {
         Command::Configure(specs) => write_specs(out, specs.as_slice()),
@@ -213,14 +244,18 @@ fn write_arguments(out: &mut String, command: &Command) -> Result<(), NoMemory>
             write_item(out, item)
         }
         Command::Burst(items) | Command::Repeat(items) => write_items(out, items.as_slice()),
-        Command::Await(count) => write!(out, " {count}"),
+        Command::Await(count) => {
+            is_word(*count);
+            write!(out, " {count}")
+        }
         _ => Ok(()),
     }
 }
 
 /// Writes a command line.
 fn write_command(out: &mut String, command: &Command) -> Result<(), NoMemory>
-    ensures { OnOk result (string_bytes out.new ≡ string_bytes out.old ++ line_text (command_line_words command.now)) }
+    ensures text { OnOk result (string_bytes out.new ≡ string_bytes out.old ++ line_text (command_line_words command.now)) }
+    ensures typed { OnOk result (command_typed command.now ≡ true) }
 {
     out.push_str(word_text(word_of(command)))?;
     write_arguments(out, command)?;
@@ -229,7 +264,8 @@ fn write_command(out: &mut String, command: &Command) -> Result<(), NoMemory>
 
 /// Writes fault lines.
 fn write_faults(out: &mut String, faults: &[Fault]) -> Result<(), NoMemory>
-    ensures { OnOk result (string_bytes out.new ≡ string_bytes out.old ++ flat_map line_text (map fault_words faults.now)) }
+    ensures text { OnOk result (string_bytes out.new ≡ string_bytes out.old ++ flat_map line_text (map fault_words faults.now)) }
+    ensures typed { OnOk result (list_all fault_fits faults.now ≡ true) }
 {
     for fault in faults {
         write_fault(out, fault)?;
@@ -239,7 +275,8 @@ fn write_faults(out: &mut String, faults: &[Fault]) -> Result<(), NoMemory>
 
 /// Writes command lines.
 fn write_commands(out: &mut String, commands: &[Command]) -> Result<(), NoMemory>
-    ensures { OnOk result (string_bytes out.new ≡ string_bytes out.old ++ flat_map line_text (map command_line_words commands.now)) }
+    ensures text { OnOk result (string_bytes out.new ≡ string_bytes out.old ++ flat_map line_text (map command_line_words commands.now)) }
+    ensures typed { OnOk result (list_all command_typed commands.now ≡ true) }
 {
     for command in commands {
         write_command(out, command)?;
@@ -250,7 +287,8 @@ fn write_commands(out: &mut String, commands: &[Command]) -> Result<(), NoMemory
 /// Writes a script.
 #[tactic(auto, unfolding(crate::specs::Spelling::text_of))]
 fn write_script(out: &mut String, script: &Script) -> Result<(), NoMemory>
-    ensures { OnOk result (string_bytes out.new ≡ string_bytes out.old ++ text_of script.now) }
+    ensures text { OnOk result (string_bytes out.new ≡ string_bytes out.old ++ text_of script.now) }
+    ensures typed { OnOk result (list_all fault_fits script.now.faults && (numbers_typed script.now.picks && list_all command_typed script.now.commands) ≡ true) }
 {
     out.push_str("camera 1\n")?;
     write_faults(out, script.faults.as_slice())?;
@@ -263,8 +301,8 @@ fn write_script(out: &mut String, script: &Script) -> Result<(), NoMemory>
 pub fn print(alloc: Global, script: &Script) -> Result<Vec<u8>, NoMemory>
     requires { IsTrue (is_valid script.now) }
     ensures text { IfOk result (λ text. text.items ≡ text_of script.now) }
-    // What is printed is read again, its numbers being within their types.
-    ensures again { IfOk result (λ text. IsTrue (fits script.now) → length text.items ≤ text_limit → script_of text.items ≡ Ok script.now) }
+    // What is printed is read again.
+    ensures again { IfOk result (λ text. length text.items ≤ text_limit → script_of text.items ≡ Ok script.now) }
 {
     let mut out = String::new(alloc);
     write_script(&mut out, script)?;
