@@ -164,6 +164,9 @@ fn ranges_of_a_script(rt: HostRuntime) {
     ] {
         assert_eq!(rt; spec(format, width, height).fits(), fits);
     }
+    let (wait, close) = (Command::Await(7), Command::Close);
+    assert!(rt; close.is_ending() && !wait.is_ending());
+    assert!(rt; wait.awaited() == 7 && close.awaited() == 0);
 }
 
 #[test]
