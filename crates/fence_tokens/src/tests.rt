@@ -1,0 +1,46 @@
+//! A waiter before and after the signal, and fences that are signalled out of order.
+use super::*;
+use std::test::Fail;
+
+#[test]
+fn a_waiter_comes_back_until_the_signal(rt: HostRuntime) -> Result<(), Fail> {
+    let mut fences = Fences::new(rt.alloc());
+    let (signaller, waiter) = fences.make()?;
+    assert_eq!(rt; signaller.number(), 0);
+    assert_eq!(rt; waiter.number(), 0);
+    let waiter = match fences.redeem(waiter) {
+        Ok(number) => panic!(rt; "fence {number} isn't signalled"),
+        Err(waiter) => waiter,
+    };
+    assert_eq!(rt; fences.signal(signaller), 0);
+    match fences.redeem(waiter) {
+        Ok(number) => assert_eq!(rt; number, 0),
+        Err(waiter) => panic!(rt; "fence {} is signalled", waiter.number()),
+    }
+    Ok(())
+}
+
+#[test]
+fn fences_are_signalled_in_any_order(rt: HostRuntime) -> Result<(), Fail> {
+    let mut fences = Fences::with_room(rt.alloc(), 3)?;
+    let (first, first_waiter) = fences.make_in();
+    let (second, second_waiter) = fences.make_in();
+    let (third, third_waiter) = fences.make_in();
+    assert_eq!(rt; first.number(), 0);
+    assert_eq!(rt; second_waiter.number(), 1);
+    assert_eq!(rt; third_waiter.number(), 2);
+    assert_eq!(rt; fences.signal(third), 2);
+    assert_eq!(rt; fences.signal(first), 0);
+    fences.scrap_signaller(second);
+    fences.scrap_waiter(first_waiter);
+    fences.scrap_waiter(second_waiter);
+    fences.scrap_waiter(third_waiter);
+    let answers = [
+        fences.signalled(0),
+        fences.signalled(1),
+        fences.signalled(2),
+        fences.signalled(3),
+    ];
+    assert_eq!(rt; answers, [true, false, true, false]);
+    Ok(())
+}

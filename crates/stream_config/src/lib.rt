@@ -1,0 +1,13 @@
+//! Which streams a client may configure: the first refusal whose condition holds, or the plan of the streams.
+#![tactic(auto)]
+
+mod configure;
+mod plan;
+mod refusal;
+
+pub use configure::check;
+pub use plan::{Plan, PlanStream};
+pub use refusal::ConfigRefused;
+
+#[cfg(test)]
+mod tests;
