@@ -1,0 +1,4 @@
+pub mod SlotLemmas
+pub mod HomeLemmas
+pub mod FreshLemmas
+pub mod StockLemmas

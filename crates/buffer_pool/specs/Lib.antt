@@ -1,0 +1,6 @@
+pub mod Parked
+pub mod Home
+pub mod Shelf
+pub mod Blocks
+pub mod Opened
+pub mod Slots
