@@ -4,9 +4,9 @@ use Rattle.cam_types.specs.declared.stream.StreamSpec.{StreamSpec}
 use Rattle.buffer_pool.specs.declared.parked.Parked.{Parked}
 use Rattle.buffer_pool.specs.Parked.{number}
 
--- The buffers of a stream that no one uses. A buffer is with one of the pool, the device and the client at a time
--- (camera3.h, S4: the framework dequeues a buffer for a request, and has it back from process_capture_result); that the
--- buffer with the least number goes first is our own choice.
+-- The buffers of a stream that no one uses: a buffer is with one of the pool, the device and the client at a time
+-- (camera3.h, S2, step 10: process_capture_result gives the ownership of a buffer back). That the buffer with the least
+-- number goes first is our own choice.
 
 -- the pool of a stream's buffers, which are numbered from `first` on, and those at home, ascending by their numbers
 pub record Buffers : Type 0 where

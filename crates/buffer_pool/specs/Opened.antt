@@ -9,8 +9,10 @@ use Rattle.buffer_pool.specs.Blocks.{block_length}
 use Rattle.buffer_pool.specs.Home.{Buffers}
 use Rattle.buffer_pool.specs.Parked.{number}
 
--- how many buffers a stream has: two more than may be at the device (our own choice; camera3.h leaves their number to
--- the framework, and names the most at the device max_buffers)
+-- A pool as it is opened. How many buffers it has is our own choice: camera3.h, camera3_stream, bounds by max_buffers
+-- those that are at the device.
+
+-- two more than may be at the device, so that a client can hold two
 abbrev pub pool_size : Format → ℕ
 pool_size Raw16 = 3 + 2
 pool_size Yuv = 4 + 2

@@ -1,5 +1,7 @@
 use Rattle.std.specs.Prelude.{ℕ}
 
+-- Our own choice, as all that concerns blocks.
+
 -- blocks of one length: how many bytes each has, how many are free and how many are lent
 pub record Shelved : Type 0 where
   pub size : ℕ
