@@ -48,7 +48,7 @@ pub(crate) fn take_first(slots: &mut [Option<Parked>]) -> Option<Parked>
     slots[place].take()
 }
 
-/// Ends the places, which are all free.
+/// Ends the places, which are all free. An array whose values can't be let go ends by a pattern that names each.
 pub(crate) fn end_slots(slots: Slots)
     requires { (k : ℕ) → slice_index_or slots k None ≡ None }
 {
