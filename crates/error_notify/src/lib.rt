@@ -1,0 +1,11 @@
+//! Which error of a frame is told next.
+#![tactic(auto)]
+
+mod entry;
+mod next;
+
+pub use entry::ErrorEntry;
+pub use next::next_error;
+
+#[cfg(test)]
+mod tests;

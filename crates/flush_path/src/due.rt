@@ -1,0 +1,114 @@
+ghost use Rattle.std.specs.Prelude.{◌≡◌, ◌↔◌, IsTrue};
+ghost use Rattle.flush_path.specs.Due.{fails_in_part, fails_whole, is_awaited, is_bare, is_cut_short, is_returned, is_some_true, is_true_at, is_untouched, misses_at, misses_buffer, misses_metadata, missing_buffers, verdict_of};
+
+use cam_types::{Four, PART_COUNT, RowFaults, RowView, TargetState, TargetView, Verdict};
+
+/// The errors that are due for an open frame with these faults. `buffers` of both has the order of the row's targets;
+/// a target without an entry in `faults.buffers` has no fault of its buffer.
+pub fn verdict(row: RowView, faults: RowFaults) -> Verdict
+    ensures value { result ≡ verdict_of row faults }
+
+    // The whole capture fails exactly where nothing of it came and it has a cause; no other error follows.
+    ensures whole { (result ≡ Verdict.Request) ↔ IsTrue (fails_whole row faults) }
+    ensures failed_already { IsTrue row.request_error → result ≡ Verdict.Nothing }
+{
+    if fails_whole(row, faults) {
+        return Verdict::Request;
+    }
+    let result = misses_metadata(row, faults);
+    let buffers = missing_buffers(row, faults);
+    if fails_in_part(row, faults) && (result || is_some_true(buffers)) {
+        return Verdict::Parts { result, buffers };
+    }
+    Verdict::Nothing
+}
+
+fn is_returned(state: TargetState) -> bool
+    ensures { result ≡ is_returned state }
+{
+    matches!(state, TargetState::ReturnedOk | TargetState::ReturnedFailed)
+}
+
+fn is_awaited(target: TargetView) -> bool
+    ensures { result ≡ is_awaited target }
+{
+    !target.announced && !is_returned(target.state)
+}
+
+fn is_untouched(target: Option<TargetView>) -> bool
+    ensures { result ≡ is_untouched target }
+{
+    match target {
+        Some(target) => is_awaited(target),
+        None => true,
+    }
+}
+
+fn is_bare(row: RowView) -> bool
+    ensures { result ≡ is_bare row }
+{
+    let Four { a, b, c, d } = row.targets;
+    (row.parts == 0 && (!row.request_error && !row.result_error))
+        && (is_untouched(a) && (is_untouched(b) && (is_untouched(c) && is_untouched(d))))
+}
+
+fn fails_whole(row: RowView, faults: RowFaults) -> bool
+    ensures { result ≡ fails_whole row faults }
+{
+    is_bare(row) && (row.stopped || (faults.request && row.shutter.is_some()))
+}
+
+fn fails_in_part(row: RowView, faults: RowFaults) -> bool
+    ensures { result ≡ fails_in_part row faults }
+{
+    (row.shutter.is_some() && !row.request_error) && (!faults.request || row.stopped)
+}
+
+fn is_cut_short(row: RowView) -> bool
+    ensures { result ≡ is_cut_short row }
+{
+    row.stopped && !is_bare(row)
+}
+
+fn misses_metadata(row: RowView, faults: RowFaults) -> bool
+    ensures { result ≡ misses_metadata row faults }
+{
+    (!row.result_error && row.parts < PART_COUNT) && (faults.result || is_cut_short(row))
+}
+
+fn misses_buffer(cut_short: bool, fault: Option<bool>, target: TargetView) -> bool
+    ensures { result ≡ misses_buffer cut_short fault target }
+{
+    match fault {
+        Some(fault) => is_awaited(target) && (fault || cut_short),
+        None => is_awaited(target) && cut_short,
+    }
+}
+
+fn misses_at(cut_short: bool, fault: Option<bool>, target: Option<TargetView>) -> Option<bool>
+    ensures { result ≡ misses_at cut_short fault target }
+{
+    match target {
+        Some(target) => Some(misses_buffer(cut_short, fault, target)),
+        None => None,
+    }
+}
+
+fn missing_buffers(row: RowView, faults: RowFaults) -> Four<bool>
+    ensures { result ≡ missing_buffers row faults }
+{
+    let cut_short = is_cut_short(row);
+    Four {
+        a: misses_at(cut_short, faults.buffers.a, row.targets.a),
+        b: misses_at(cut_short, faults.buffers.b, row.targets.b),
+        c: misses_at(cut_short, faults.buffers.c, row.targets.c),
+        d: misses_at(cut_short, faults.buffers.d, row.targets.d),
+    }
+}
+
+fn is_some_true(four: Four<bool>) -> bool
+    ensures { result ≡ is_some_true four }
+{
+    let Four { a, b, c, d } = four;
+    a == Some(true) || (b == Some(true) || (c == Some(true) || d == Some(true)))
+}

@@ -1,0 +1,14 @@
+//! The rows of the frames in flight, with what is parked for their targets.
+#![tactic(auto)]
+
+mod mark;
+mod parked;
+mod row;
+mod table;
+
+pub use mark::Mark;
+pub use row::Row;
+pub use table::Table;
+
+#[cfg(test)]
+mod tests;
