@@ -1,0 +1,3 @@
+pub mod PastLemmas
+pub mod FrameLemmas
+pub mod QueueLemmas
