@@ -12,3 +12,4 @@ pub mod Steps
 pub mod Tabled
 pub mod Drawing
 pub mod Opening
+pub mod Choosing

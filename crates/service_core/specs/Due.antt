@@ -1,4 +1,4 @@
-use Rattle.std.specs.Prelude.{ℕ, ◌==◌, ◌+◌, Bool, true, false, ◌&&◌, not, List, Option, Some, None, nat_lt, position, slice_index_or, if◌then◌else◌}
+use Rattle.std.specs.Prelude.{ℕ, ◌==◌, ◌+◌, Bool, true, false, ◌&&◌, not, List, Option, Some, None, is_some, nat_lt, option_map, position, slice_index_or, take, if◌then◌else◌}
 use Rattle.std.specs.List.{list_all}
 use Rattle.cam_types.specs.Metadata.{part_at}
 use Rattle.cam_types.specs.declared.number.BufferId.{BufferId}
@@ -15,6 +15,8 @@ use Rattle.trace_model.specs.declared.entry.Entry.{Entry}
 use Rattle.trace_model.specs.declared.entry.Entry.TheVariants.{Begin, Call, Send, Shutter, Partial, Filled, Release, Signal}
 use Rattle.trace_model.specs.Picture.{digest}
 use Rattle.trace_model.specs.Send.{are_last}
+use Rattle.service_core.specs.declared.step.StepName.{StepName}
+use Rattle.service_core.specs.declared.step.StepName.TheVariants.{Send as StepSend, Release as StepRelease, Signal as StepSignal, Client as StepClient, Shutter as StepShutter, Partial as StepPartial, Deliver as StepDeliver}
 use Rattle.service_core.specs.declared.tables.Place.{Place}
 use Rattle.service_core.specs.declared.tables.Place.TheVariants.{Pool, Device, Client}
 use Rattle.service_core.specs.Fit.{Facts, below, is_client, one_target, raw_made, raw_spec, settings_before, settings_for}
@@ -88,3 +90,40 @@ is_deliverable t n s = (n.0 == t.returned) && (nat_lt n.0 t.shutters && ((s.0 ==
 
 abbrev pub filled_of : Script → Facts → FrameNo → StreamIx → Option Entry
 filled_of script t n s = if is_deliverable t n s then Some (Filled n s t.buffer None (digest raw_spec (settings_for script n.0) n.0)) else None
+
+-- ---- which step is the first that is ready
+
+abbrev pub or_step : Option StepName → Option StepName → Option StepName
+or_step (Some step) other = Some step
+or_step None other = other
+
+abbrev pub step_if : Bool → StepName → Option StepName
+step_if test step = if test then Some step else None
+
+abbrev pub release_step : ℕ → StepName
+release_step b = StepRelease (record { 0 = b })
+
+abbrev pub signal_step : ℕ → StepName
+signal_step f = StepSignal (record { 0 = f })
+
+abbrev pub buffer_number : BufferId → ℕ
+buffer_number b = b.0
+
+abbrev pub fence_number : FenceNo → ℕ
+fence_number f = f.0
+
+abbrev pub device_first : Facts → Option StepName
+device_first t =
+    or_step (step_if (nat_lt t.shutters t.sent) StepShutter)
+    (or_step (step_if (nat_lt t.ended t.shutters) (StepPartial (record { 0 = t.ended })))
+    (step_if (nat_lt t.returned t.shutters && passed t t.fence) (StepDeliver (record { 0 = t.returned }) (record { 0 = 0 }))))
+
+abbrev pub first_but_send : Facts → Option Command → Option StepName
+first_but_send t command =
+    or_step (option_map release_step (position is_client t.places))
+    (or_step (option_map signal_step (position not (take t.released t.signalled)))
+    (or_step (step_if (is_some (client_of t command t.begun)) StepClient)
+    (device_first t)))
+
+abbrev pub first_of : Script → Facts → Option Command → Option StepName
+first_of script t command = or_step (step_if (is_some (send_of script t)) StepSend) (first_but_send t command)

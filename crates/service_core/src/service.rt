@@ -2,7 +2,7 @@ ghost use Rattle.std.specs.Prelude.{◌≡◌, ◌↔◌, [], IfOk, IsTrue, Opti
 ghost use Rattle.trace_model.specs.Complete.{IsComplete};
 ghost use Rattle.trace_model.specs.Legal.{IsLegal};
 ghost use Rattle.service_core.specs.Answers.{Answers};
-ghost use Rattle.service_core.specs.First.{IsFirstRun, entry_of, first_move_of};
+ghost use Rattle.service_core.specs.First.{IsFirstRun, entry_of, first_chosen, first_move_of};
 ghost use Rattle.service_core.specs.History.{trace_of};
 ghost use Rattle.service_core.specs.RawScripts.{is_raw_script};
 
@@ -192,5 +192,36 @@ impl Service {
     {
         let due = self.tables.due_signal(fence);
         self.make(StepName::Signal(fence), due)
+    }
+
+    // ---- runs
+
+    /// The step that the script's next pick chooses among those that are ready.
+    pub fn chosen(&self) -> Option<StepName>
+        ensures { result ≡ first_chosen self.now.script self.now.history }
+    {
+        let command = self.script.commands.get(self.tables.calls);
+        self.tables.first(&self.script, command)
+    }
+
+    /// Makes a step by its name.
+    pub fn step(&mut self, step: StepName) -> Step
+        ensures { Answers (first_move_of self.old.script self.old.history step) self.old result self.new }
+    {
+        match step {
+            StepName::Send => self.send(),
+            StepName::Release(buffer) => self.release(buffer),
+            StepName::Signal(fence) => self.signal(fence),
+            StepName::Client => self.client(),
+            StepName::Shutter => self.shutter(),
+            StepName::Partial(frame) => self.partial(frame),
+            StepName::Deliver(frame, stream) => self.deliver(frame, stream),
+            StepName::DropQueued => Step::NotReady,
+            StepName::Fail(_) => Step::NotReady,
+            StepName::ReturnFailed(_, _) => Step::NotReady,
+            StepName::SensorDone(_) => Step::NotReady,
+            StepName::TakeFill(_, _) => Step::NotReady,
+            StepName::FillDone(_, _) => Step::NotReady,
+        }
     }
 }

@@ -1,4 +1,4 @@
-ghost use Rattle.std.specs.Prelude.{◌≡◌, ℕ, ◌+◌, ◌<◌, ◌≤◌, ◌^◌, List, Option, IfOk, false, length, max, option_copied, position, slice_index_or, slice_set};
+ghost use Rattle.std.specs.Prelude.{◌≡◌, ℕ, ◌+◌, ◌<◌, ◌≤◌, ◌^◌, List, Option, IfOk, false, length, max, not, option_copied, option_map, position, take, slice_index_or, slice_set};
 ghost use Rattle.std.specs.List.{list_all};
 ghost use Rattle.cam_types.specs.declared.number.FenceNo.{FenceNo as SomeFence};
 ghost use Rattle.cam_types.specs.declared.number.FrameNo.{FrameNo as SomeFrame};
@@ -9,12 +9,13 @@ ghost use Rattle.cam_types.specs.declared.script.Word.{Word as SomeWord};
 ghost use Rattle.cam_types.specs.declared.stream.StreamSpec.{StreamSpec as SomeSpec};
 ghost use Rattle.trace_model.specs.Send.{are_same};
 ghost use Rattle.service_core.specs.Fit.{IsSmall, facts_of, first_facts, is_client, noted, noted_target, settings_for};
-ghost use Rattle.service_core.specs.Due.{client_of, has_all_signals, is_deliverable, is_home, is_pool, is_resting, mark_for, partial_of, passed, release_of, send_of, sent_with, shutter_of, signal_of};
+ghost use Rattle.service_core.specs.Due.{buffer_number, client_of, device_first, fence_number, first_but_send, first_of, has_all_signals, is_deliverable, is_home, is_pool, is_resting, mark_for, partial_of, passed, release_of, send_of, sent_with, shutter_of, signal_of};
 
 use cam_types::{
     BufferId, Command, FenceNo, Four, FrameNo, Made, NoMemory, Reply, RequestId, Script, Settings,
     StreamIx, Word,
 };
+use crate::step::StepName;
 use partial_results::part;
 use std::alloc::Global;
 use trace_model::{Entry, Sent};
@@ -134,6 +135,18 @@ fn first_in_pool(places: &[Place]) -> Option<usize>
     ensures { result ≡ position is_pool places.now }
 {
     places.iter().position(|place| is_pool(place))
+}
+
+fn first_at_client(places: &[Place]) -> Option<usize>
+    ensures { result ≡ position is_client places.now }
+{
+    places.iter().position(|place| is_client(*place))
+}
+
+fn first_unsignalled(signalled: &[bool]) -> Option<usize>
+    ensures { result ≡ position not signalled.now }
+{
+    signalled.iter().position(|signal| !*signal)
 }
 
 impl Tables {
@@ -412,6 +425,79 @@ impl Tables {
     {
         frame.0 == self.returned
             && (frame.0 < self.shutters && (stream.0 == 0 && self.is_passed()))
+    }
+
+    // ---- which step is the first that is ready
+
+    /// The least buffer that the client has.
+    fn least_at_client(&self) -> Option<BufferId>
+        requires { length self.now.places.items ≡ 5 }
+        ensures { option_map buffer_number result ≡ position is_client self.now.places.items }
+    {
+        match first_at_client(&self.places) {
+            Some(place) => Some(BufferId(place as u32)),
+            None => None,
+        }
+    }
+
+    /// The least fence that was released and isn't signalled.
+    fn least_unsignalled(&self) -> Option<FenceNo>
+        requires released { self.now.released ≤ 32 }
+        requires signalled { length self.now.signalled.items ≡ 32 }
+        ensures { option_map fence_number result ≡ position not (take self.now.released self.now.signalled.items) }
+    {
+        match first_unsignalled(&self.signalled[..self.released as usize]) {
+            Some(fence) => Some(FenceNo(fence as u32)),
+            None => None,
+        }
+    }
+
+    /// The first step that the device can make: a shutter, a metadata result or a filled buffer.
+    fn first_of_device(&self) -> Option<StepName>
+        ensures { result ≡ device_first (facts_of self.now) }
+    {
+        if self.shutters < self.sent {
+            Some(StepName::Shutter)
+        } else if self.ended < self.shutters {
+            Some(StepName::Partial(FrameNo(self.ended)))
+        } else if self.returned < self.shutters && self.is_passed() {
+            Some(StepName::Deliver(FrameNo(self.returned), StreamIx(0)))
+        } else {
+            None
+        }
+    }
+
+    /// The first step that the client's release or signal, the client or the device can make.
+    fn first_but_send(&self, command: Option<&Command>) -> Option<StepName>
+        requires places { length self.now.places.items ≡ 5 }
+        requires released { self.now.released ≤ 32 }
+        requires signalled { length self.now.signalled.items ≡ 32 }
+        ensures { result ≡ first_but_send (facts_of self.now) (option_copied command.entry) }
+    {
+        if let Some(buffer) = self.least_at_client() {
+            return Some(StepName::Release(buffer));
+        }
+        if let Some(fence) = self.least_unsignalled() {
+            return Some(StepName::Signal(fence));
+        }
+        if self.due_client(command).is_some() {
+            return Some(StepName::Client);
+        }
+        self.first_of_device()
+    }
+
+    /// The first step that is ready.
+    pub fn first(&self, script: &Script, command: Option<&Command>) -> Option<StepName>
+        requires sent { self.now.sent < 100 }
+        requires places { length self.now.places.items ≡ 5 }
+        requires released { self.now.released ≤ 32 }
+        requires signalled { length self.now.signalled.items ≡ 32 }
+        ensures { result ≡ first_of script.now (facts_of self.now) (option_copied command.entry) }
+    {
+        if self.due_send(script).is_some() {
+            return Some(StepName::Send);
+        }
+        self.first_but_send(command)
     }
 
     // ---- what an entry changes
