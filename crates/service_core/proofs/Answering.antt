@@ -61,14 +61,14 @@ all-range p q (x ∷ xs) start d h =
 module _ (script : Script) (past : List Entry) (t : Facts) (raw : IsRaw script) (fit : Fit script past t) where
   pub stage : Stage script t
   stage = at t.calls t.requests refl refl fit.are_calls
-   where
-    at : (calls requests : ℕ) → t.calls ≡ calls → t.requests ≡ requests → AreCalls (requests_in script) calls requests → Stage script t
-    at calls requests ec er (inl c) = inl (ec ∙ c.0, rw (ec, c.0) raw.configure)
-    at calls requests ec er (inr (inl c)) = elim (cases_lt requests (requests_in script)) [
-      | inl l ↦ inr (inl (omega (arith, ec, er, c.0), omega (arith, er, l), rw (ec, c.0, er, add-one) (raw.once requests l)))
-      | inr m ↦ (let few = c.1 in let e : requests ≡ requests_in script = omega (arith, few, m) in inr (inr (inl (omega (arith, ec, c.0, e), er ∙ e, rw (ec, c.0, e) raw.close))))
-    ]
-    at calls requests ec er (inr (inr c)) = inr (inr (inr (ec ∙ c.0, er ∙ c.1, rw (ec, c.0) (get-none script.commands (requests_in script + 2) (let s = raw.size in omega arith)))))
+    where
+      at : (calls requests : ℕ) → t.calls ≡ calls → t.requests ≡ requests → AreCalls (requests_in script) calls requests → Stage script t
+      at calls requests ec er (inl c) = inl (ec ∙ c.0, rw (ec, c.0) raw.configure)
+      at calls requests ec er (inr (inl c)) = elim (cases_lt requests (requests_in script)) [
+        | inl l ↦ inr (inl (omega (arith, ec, er, c.0), omega (arith, er, l), rw (ec, c.0, er, add-one) (raw.once requests l)))
+        | inr m ↦ (let few = c.1 in let e : requests ≡ requests_in script = omega (arith, few, m) in inr (inr (inl (omega (arith, ec, c.0, e), er ∙ e, rw (ec, c.0, e) raw.close))))
+      ]
+      at calls requests ec er (inr (inr c)) = inr (inr (inr (ec ∙ c.0, er ∙ c.1, rw (ec, c.0) (get-none script.commands (requests_in script + 2) (let s = raw.size in omega arith)))))
 
   pub quiet-is : is_quiet past ≡ is_resting t
   quiet-is =
@@ -112,11 +112,11 @@ module _ (script : Script) (past : List Entry) (t : Facts) (raw : IsRaw script) 
       let e : t.ended ≡ t.sent = (let a = o.ended in let b = o.shutters in omega arith) in
       let r : t.returned ≡ t.sent = (let a = o.returned in let b = o.shutters in omega arith) in
       rw (quiet-yes script past t fit e r, queue-empty script past t raw fit (omega (arith, requests)), fit.made, none) refl
-   where
-    none-yet : (k calls requests : ℕ) → AreCalls k calls requests → calls ≡ 0 → requests ≡ 0
-    none-yet k calls requests (inl c) z = c.1
-    none-yet k calls requests (inr (inl c)) z = absurd (omega (arith, c.0, z))
-    none-yet k calls requests (inr (inr c)) z = absurd (omega (arith, c.0, z))
+    where
+      none-yet : (k calls requests : ℕ) → AreCalls k calls requests → calls ≡ 0 → requests ≡ 0
+      none-yet k calls requests (inl c) z = c.1
+      none-yet k calls requests (inr (inl c)) z = absurd (omega (arith, c.0, z))
+      none-yet k calls requests (inr (inr c)) z = absurd (omega (arith, c.0, z))
 
   pub client-configure-call : (word : Word) → t.calls ≡ 0 → t.begun ≡ Some word → entry_of script past ClientStep ≡ Some (Call t.calls WordConfigure (Configured (record { a = Some raw_made; b = None; c = None; d = None })))
   client-configure-call word none begun' = rw (fit.calls, none, raw.configure, fit.begun, begun', configured none, idle-at-first none, fit.calls, none) refl

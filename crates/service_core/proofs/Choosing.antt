@@ -30,7 +30,7 @@ use Rattle.service_core.specs.declared.tables.Place.TheVariants.{Pool}
 use Rattle.service_core.proofs.Due.{release-is, signal-is}
 use Rattle.service_core.proofs.RawLemmas.{IsRaw}
 use Rattle.service_core.proofs.Sending.{find-range}
-use Rattle.service_core.proofs.Steps.{small}
+use Rattle.service_core.proofs.FitSteps.{few-requests}
 use Rattle.service_core.proofs.Tabled.{client-is, filled-is, partial-is, send-is, shutter-is}
 
 -- ---- lists
@@ -107,9 +107,9 @@ no-position p (x ∷ xs) i h = elim (cases_Bool (p x)) [
 index-take : (xs : List Bool) (n i : ℕ) (d : Bool) → i < n → slice_index_or (take n xs) i d ≡ slice_index_or xs i d
 index-take [] n i d l = index-nil n i d
   where
-  index-nil : (n i : ℕ) (d : Bool) → slice_index_or (take n []) i d ≡ d
-  index-nil zero i d = refl
-  index-nil (suc n) i d = refl
+    index-nil : (n i : ℕ) (d : Bool) → slice_index_or (take n []) i d ≡ d
+    index-nil zero i d = refl
+    index-nil (suc n) i d = refl
 index-take (x ∷ xs) zero i d l = absurd (omega arith)
 index-take (x ∷ xs) (suc n) zero d l = refl
 index-take (x ∷ xs) (suc n) (suc i) d l = index-take xs n i d (omega arith)
@@ -121,6 +121,9 @@ some-if false x = refl
 -- ---- the kinds of steps
 
 module _ (script : Script) (past : List Entry) (t : Facts) (raw : IsRaw script) (fit : Fit script past t) where
+  few-released : t.released ≤ 32
+  few-released = (let a = fit.order.sent in let b = fit.order.shutters in let c = fit.order.returned in let d = fit.order.clients in let e = few-requests script past t fit in let f = raw.few in omega arith)
+
   ready-release : (b : ℕ) → is_first_ready script past (Release (record { 0 = b })) ≡ is_client (slice_index_or t.places b Pool)
   ready-release b = rw (release-is script past t fit (record { 0 = b })) (some-if (is_client (slice_index_or t.places b Pool)) _)
 
@@ -131,17 +134,18 @@ module _ (script : Script) (past : List Entry) (t : Facts) (raw : IsRaw script) 
         | inl none ↦ (let count : made_count past ≡ 0 = rw none at fit.made_count in rw count (sym (nobody none)))
         | inr some ↦ (let test : (t.calls == 0) ≡ false = grind (arith, nat_tests) in let count : made_count past ≡ length t.places = rw (test, ← fit.order.places) at fit.made_count in rw count (find-range is_client (λ b. is_first_ready script past (release_step b)) t.places Pool (λ i l. ready-release i)))
       ])
-   where
-    none-yet : (k calls requests : ℕ) → AreCalls k calls requests → calls ≡ 0 → requests ≡ 0
-    none-yet k calls requests (inl c) z = c.1
-    none-yet k calls requests (inr (inl c)) z = absurd (omega (arith, c.0, z))
-    none-yet k calls requests (inr (inr c)) z = absurd (omega (arith, c.0, z))
-    nobody : t.calls ≡ 0 → position is_client t.places ≡ None
-    nobody none =
-        let requests : t.requests ≡ 0 = none-yet (requests_in script) t.calls t.requests fit.are_calls none in
-        let a = fit.order.sent in let b = fit.order.shutters in let c = fit.order.returned in let d = fit.order.clients in
-        let count : count_by is_client t.places ≡ 0 = omega (arith, requests, a, b, c, d) in
-        position_from-zero is_client t.places ∙ no-position is_client t.places 0 count
+    where
+      none-yet : (k calls requests : ℕ) → AreCalls k calls requests → calls ≡ 0 → requests ≡ 0
+      none-yet k calls requests (inl c) z = c.1
+      none-yet k calls requests (inr (inl c)) z = absurd (omega (arith, c.0, z))
+      none-yet k calls requests (inr (inr c)) z = absurd (omega (arith, c.0, z))
+
+      nobody : t.calls ≡ 0 → position is_client t.places ≡ None
+      nobody none =
+          let requests : t.requests ≡ 0 = none-yet (requests_in script) t.calls t.requests fit.are_calls none in
+          let a = fit.order.sent in let b = fit.order.shutters in let c = fit.order.returned in let d = fit.order.clients in
+          let count : count_by is_client t.places ≡ 0 = omega (arith, requests, a, b, c, d) in
+          position_from-zero is_client t.places ∙ no-position is_client t.places 0 count
 
   ready-signal : (f : ℕ) → f < t.released → is_first_ready script past (Signal (record { 0 = f })) ≡ not (slice_index_or t.signalled f false)
   ready-signal f l =
@@ -151,7 +155,7 @@ module _ (script : Script) (past : List Entry) (t : Facts) (raw : IsRaw script) 
   signals : find (is_first_ready script past) (for_numbers (λ f. Signal (record { 0 = f })) (next_fence past)) ≡ option_map signal_step (position not (take t.released t.signalled))
   signals =
       let at = find-map (is_first_ready script past) signal_step (range_with_len 0 (next_fence past)) in
-      let few = (small script past t raw fit).released in
+      let few = few-released in
       let all = fit.order.signalled in
       let count : length (take t.released t.signalled) ≡ t.released = length-take-le t.released t.signalled (omega (arith, few, all)) in
       let found = find-range not (λ f. is_first_ready script past (signal_step f)) (take t.released t.signalled) false (λ i l. (let l' : i < t.released = rw count at l in rw (index-take t.signalled t.released i false l') (ready-signal i l'))) in
@@ -168,9 +172,9 @@ module _ (script : Script) (past : List Entry) (t : Facts) (raw : IsRaw script) 
         | inl some ↦ (let test : nat_lt t.ended t.shutters ≡ true = grind (arith, nat_tests) in rw (test, only-one (λ n. is_first_ready script past (partial_step n)) t.sent t.ended (omega arith) (rw (ready-partial t.ended, test) (grind (arith, nat_tests))) (λ i a b. rw (ready-partial i) (grind (arith, nat_tests)))) refl)
         | inr none ↦ (let test : nat_lt t.ended t.shutters ≡ false = grind (arith, nat_tests) in rw (test, find-none (λ n. is_first_ready script past (partial_step n)) (λ n. rw (ready-partial n) (grind (arith, nat_tests))) (reverse (below t.sent))) refl)
       ])
-   where
-    partial_step : ℕ → StepName
-    partial_step n = Partial (record { 0 = n })
+    where
+      partial_step : ℕ → StepName
+      partial_step n = Partial (record { 0 = n })
 
   abbrev deliver_step : ℕ → StepName
   deliver_step n = Deliver (record { 0 = n }) (record { 0 = 0 })
@@ -195,12 +199,12 @@ module _ (script : Script) (past : List Entry) (t : Facts) (raw : IsRaw script) 
         | inl some ↦ (let within : t.returned < t.shutters = grind (arith, nat_tests) in rw (some, only-one (λ n. is_first_ready script past (deliver_step n)) t.sent t.returned (omega arith) (rw (ready-deliver t.returned, some) (grind (arith, nat_tests))) (λ i a b. rw (ready-deliver i) (grind (arith, nat_tests)))) refl)
         | inr none ↦ rw (none, find-none (λ n. is_first_ready script past (deliver_step n)) (λ n. rw (ready-deliver n) (other n none)) (reverse (below t.sent))) refl
       ])
-   where
-    other : (n : ℕ) → (nat_lt t.returned t.shutters && passed t t.fence) ≡ false → ((n == t.returned) && (nat_lt n t.shutters && passed t t.fence)) ≡ false
-    other n h = elim (cases_eq n t.returned) [
-      | inl e ↦ rw e (rw h (grind arith))
-      | inr ne ↦ grind (arith, nat_tests)
-    ]
+    where
+      other : (n : ℕ) → (nat_lt t.returned t.shutters && passed t t.fence) ≡ false → ((n == t.returned) && (nat_lt n t.shutters && passed t t.fence)) ≡ false
+      other n h = elim (cases_eq n t.returned) [
+        | inl e ↦ rw e (rw h (grind arith))
+        | inr ne ↦ grind (arith, nat_tests)
+      ]
 
   one-step : (step : StepName) (o : Option Entry) → entry_of script past step ≡ o → find (is_first_ready script past) (step ∷ []) ≡ step_if (is_some o) step
   one-step step None h = rw h refl
@@ -217,9 +221,9 @@ module _ (script : Script) (past : List Entry) (t : Facts) (raw : IsRaw script) 
       let signal = glue (for_numbers (λ f. Signal (record { 0 = f })) (next_fence past)) (Client ∷ (Shutter ∷ (for_frames Partial past ++ for_targets Deliver past))) _ _ signals client in
       let release = glue (for_numbers (λ b. Release (record { 0 = b })) (made_count past)) (for_numbers (λ f. Signal (record { 0 = f })) (next_fence past) ++ (Client ∷ (Shutter ∷ (for_frames Partial past ++ for_targets Deliver past)))) _ _ releases signal in
       glue (Send ∷ []) (for_numbers (λ b. Release (record { 0 = b })) (made_count past) ++ (for_numbers (λ f. Signal (record { 0 = f })) (next_fence past) ++ (Client ∷ (Shutter ∷ (for_frames Partial past ++ for_targets Deliver past))))) _ _ (one-step Send (send_of script t) (send-is script past t raw fit)) release
-   where
-    shutter-entry : Entry
-    shutter-entry = Rattle.trace_model.specs.declared.entry.Entry.TheVariants.Shutter (record { 0 = t.shutters }) t.next_time
+    where
+      shutter-entry : Entry
+      shutter-entry = Rattle.trace_model.specs.declared.entry.Entry.TheVariants.Shutter (record { 0 = t.shutters }) t.next_time
 
 pub chosen-is : (script : Script) (h : List Move) (t : Facts) → IsRaw script → Fit script (trace_of h) t → first_chosen script h ≡ first_of script t (command_at script t.calls)
 chosen-is script h t raw fit =

@@ -99,13 +99,15 @@ module _ (script : Script) (past : List Entry) (t : Facts) (raw : IsRaw script) 
       let before = earlier script past t fit t.ended (λ m. is_metadata_ended m past) (λ m less _. (let e = ended-is script past t fit m in grind (arith, nat_tests))) in
       let may : may_part script past t.ended (t.parts + 1) ≡ true = rw (no-request-error script past t fit t.ended, no-result-error script past t fit t.ended, no-request-fault, no-result-fault, before) (grind (arith, nat_tests)) in
       rw (now, fit.time l, may, frame-settings script past t t.ended raw fit (few-requests script past t fit) sent) refl
-   where
-    part_count' : ℕ
-    part_count' = Rattle.trace_model.specs.Partial.part_count t.ended past
-    no-request-fault : request_fault script t.ended ≡ false
-    no-request-fault = rw raw.faults refl
-    no-result-fault : result_fault script t.ended ≡ false
-    no-result-fault = rw raw.faults refl
+    where
+      part_count' : ℕ
+      part_count' = Rattle.trace_model.specs.Partial.part_count t.ended past
+
+      no-request-fault : request_fault script t.ended ≡ false
+      no-request-fault = rw raw.faults refl
+
+      no-result-fault : result_fault script t.ended ≡ false
+      no-result-fault = rw raw.faults refl
 
   part-none : (n k : ℕ) (time : Option ℕ) → (time ≡ None) ⊎ (3 < k) → Rattle.trace_model.specs.Partial.part_of script past n k time ≡ None
   part-none n k None h = refl
@@ -127,11 +129,11 @@ module _ (script : Script) (past : List Entry) (t : Facts) (raw : IsRaw script) 
 
   pub some-called : 0 < t.requests → 0 < t.calls
   some-called l = called' (requests_in script) t.calls t.requests fit.are_calls l
-   where
-    called' : (k calls requests : ℕ) → Rattle.service_core.specs.Fit.AreCalls k calls requests → 0 < requests → 0 < calls
-    called' k calls requests (inl c) l = absurd (omega (arith, c.1, l))
-    called' k calls requests (inr (inl c)) l = omega (arith, c.0)
-    called' k calls requests (inr (inr c)) l = omega (arith, c.0)
+    where
+      called' : (k calls requests : ℕ) → Rattle.service_core.specs.Fit.AreCalls k calls requests → 0 < requests → 0 < calls
+      called' k calls requests (inl c) l = absurd (omega (arith, c.1, l))
+      called' k calls requests (inr (inl c)) l = omega (arith, c.0)
+      called' k calls requests (inr (inr c)) l = omega (arith, c.0)
 
   pub filled-yes : t.returned < t.shutters → passed t t.fence ≡ true → filled_due script past t.returned 0 ≡ Some (Filled (record { 0 = t.returned }) (record { 0 = 0 }) t.buffer None (digest raw_spec (settings_for script t.returned) t.returned))
   filled-yes l pass =
@@ -153,17 +155,18 @@ module _ (script : Script) (past : List Entry) (t : Facts) (raw : IsRaw script) 
     | inl l ↦ (let c = fit.sends n l in sent n s l h c.target (rw c.send refl) c.stream)
     | inr m ↦ rw (fit.unsent n m) refl
   ]
-   where
-    last : (n : ℕ) (x : Sent) → n < t.sent → n ≡ t.returned → targets_of n past ≡ x ∷ [] → x ≡ last_target t
-    last n x l e h =
-        let o = fit.order.one_out in
-        let known = fit.last n (omega (arith, o, l, e)) in
-        let same : x ∷ [] ≡ last_target t ∷ [] = sym h ∙ known in
-        cc
-    sent : (n s : ℕ) → n < t.sent → ((n == t.returned) && (nat_lt n t.shutters && ((s == 0) && passed t t.fence))) ≡ false → (x : Sent) → targets_of n past ≡ x ∷ [] → x.stream ≡ record { 0 = 0 } → filled_due script past n s ≡ None
-    sent n zero l h x at stream =
-        rw (at, stream) (filled-none n 0 (Some x) (λ y e. (let same : x ≡ y = cc in rw (← same) (elim (cases_eq n t.returned) [
-          | inl is ↦ rw (last n x l is at, fit.shutters n, passed-is script past t fit t.fence) (not-both _ (nat_lt n t.shutters) _ (passed t t.fence) _ (grind (arith, nat_tests, h)))
-          | inr other ↦ (let d = fit.device n x.buffer.0 in grind (arith, nat_tests))
-        ]))))
-    sent n (suc s) l h x at stream = let other : (0 == suc s) ≡ false = grind (arith, nat_tests) in rw (at, stream, other) refl
+    where
+      last : (n : ℕ) (x : Sent) → n < t.sent → n ≡ t.returned → targets_of n past ≡ x ∷ [] → x ≡ last_target t
+      last n x l e h =
+          let o = fit.order.one_out in
+          let known = fit.last n (omega (arith, o, l, e)) in
+          let same : x ∷ [] ≡ last_target t ∷ [] = sym h ∙ known in
+          cc
+
+      sent : (n s : ℕ) → n < t.sent → ((n == t.returned) && (nat_lt n t.shutters && ((s == 0) && passed t t.fence))) ≡ false → (x : Sent) → targets_of n past ≡ x ∷ [] → x.stream ≡ record { 0 = 0 } → filled_due script past n s ≡ None
+      sent n zero l h x at stream =
+          rw (at, stream) (filled-none n 0 (Some x) (λ y e. (let same : x ≡ y = cc in rw (← same) (elim (cases_eq n t.returned) [
+            | inl is ↦ rw (last n x l is at, fit.shutters n, passed-is script past t fit t.fence) (not-both _ (nat_lt n t.shutters) _ (passed t t.fence) _ (grind (arith, nat_tests, h)))
+            | inr other ↦ (let d = fit.device n x.buffer.0 in grind (arith, nat_tests))
+          ]))))
+      sent n (suc s) l h x at stream = let other : (0 == suc s) ≡ false = grind (arith, nat_tests) in rw (at, stream, other) refl

@@ -13,3 +13,4 @@ pub mod Tabled
 pub mod Drawing
 pub mod Opening
 pub mod Choosing
+pub mod Printing

@@ -61,6 +61,7 @@ fit-first script = record {
     signalled = refl;
     buffer = omega arith;
     clients = refl;
+    clock = omega arith;
     slow = omega arith;
   };
 }

@@ -30,9 +30,9 @@ one-more script past t r raw fit l =
     let item : named r 0 (queued_items (command_at script (suc r))) ≡ waiting script r ∷ [] = rw (raw.once r l) refl in
     rw (item, filter-append (λ w. not (is_taken past w)) (requests_to script r) (waiting script r ∷ [])) (ap (λ (ws : List Waiting). kept script past r ++ ws) (one (nat_lt r t.sent) (fit.taken r)))
   where
-  one : (b : Bool) → is_taken past (waiting script r) ≡ b → filter (λ w. not (is_taken past w)) (waiting script r ∷ []) ≡ (if b then [] else waiting script r ∷ [])
-  one true h = rw h refl
-  one false h = rw h refl
+    one : (b : Bool) → is_taken past (waiting script r) ≡ b → filter (λ w. not (is_taken past w)) (waiting script r ∷ []) ≡ (if b then [] else waiting script r ∷ [])
+    one true h = rw h refl
+    one false h = rw h refl
 
 none-kept : (script : Script) (past : List Entry) (t : Facts) (r : ℕ) → IsRaw script → Fit script past t → r ≤ requests_in script → r ≤ t.sent → kept script past r ≡ []
 none-kept script past t zero raw fit few l = refl
@@ -57,9 +57,9 @@ few-kept script past t (suc r) raw fit few =
     let ih = few-kept script past t r raw fit (omega arith) in
     rw (one-more script past t r raw fit few, length-append) (more (nat_lt r t.sent) ih)
   where
-  more : (b : Bool) → length (kept script past r) ≤ r → length (kept script past r) + length (if b then [] else waiting script r ∷ []) ≤ suc r
-  more true h = omega arith
-  more false h = omega arith
+    more : (b : Bool) → length (kept script past r) ≤ r → length (kept script past r) + length (if b then [] else waiting script r ∷ []) ≤ suc r
+    more true h = omega arith
+    more false h = omega arith
 
 module _ (script : Script) (past : List Entry) (t : Facts) (raw : IsRaw script) (fit : Fit script past t) where
   kept-is : queued script past ≡ kept script past t.requests
@@ -90,6 +90,6 @@ module _ (script : Script) (past : List Entry) (t : Facts) (raw : IsRaw script) 
     | inr m ↦ (let none : nat_lt t.sent t.requests ≡ false = grind (arith, nat_tests) in rw (none, queue-empty m) refl)
   ]
     where
-    nonempty : (ws : List Waiting) → first_in ws ≡ Some (waiting script t.sent) → is_empty ws ≡ false
-    nonempty [] h = absurd (cc)
-    nonempty (w ∷ ws) h = refl
+      nonempty : (ws : List Waiting) → first_in ws ≡ Some (waiting script t.sent) → is_empty ws ≡ false
+      nonempty [] h = absurd (cc)
+      nonempty (w ∷ ws) h = refl

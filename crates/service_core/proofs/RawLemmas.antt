@@ -46,10 +46,10 @@ spec-is spec h =
     let e : record { input = spec.input; format = spec.format; width = spec.width; height = spec.height } ≡ raw_spec = rw (input, format, width, height) refl in
     e
   where
-  format-is : (f : Format) → is_raw f ≡ true → f ≡ Raw16
-  format-is Raw16 h = refl
-  format-is Yuv h = absurd (false≢true h)
-  format-is (Other n) h = absurd (false≢true h)
+    format-is : (f : Format) → is_raw f ≡ true → f ≡ Raw16
+    format-is Raw16 h = refl
+    format-is Yuv h = absurd (false≢true h)
+    format-is (Other n) h = absurd (false≢true h)
 
 specs-are : (specs : List StreamSpec) → is_raw_alone specs ≡ true → specs ≡ raw_spec ∷ []
 specs-are [] h = absurd (false≢true h)
@@ -69,9 +69,9 @@ behind-once item commands raw rest = record {
   close = let e : length (Once item ∷ commands) - 1 ≡ suc (length commands - 1) = omega (arith, rest.some) in rw e rest.close;
 }
   where
-  at : (r : ℕ) → r + 1 < length (Once item ∷ commands) → (i : Item) × (slice_get (Once item ∷ commands) r ≡ Some (Once i)) × (is_raw_item i ≡ true)
-  at zero l = (item, refl, raw)
-  at (suc r) l = rest.once r (omega arith)
+    at : (r : ℕ) → r + 1 < length (Once item ∷ commands) → (i : Item) × (slice_get (Once item ∷ commands) r ≡ Some (Once i)) × (is_raw_item i ≡ true)
+    at zero l = (item, refl, raw)
+    at (suc r) l = rest.once r (omega arith)
 
 requests-are : (commands : List Command) → are_requests commands ≡ true → AreRequests commands
 requests-are [] h = absurd (false≢true h)
@@ -101,8 +101,8 @@ raw-behind script specs commands faults picks all one rest few =
       close = rw (k, all, add-one) rest.close;
     }
   where
-  at : (r : ℕ) → r + 1 < length commands → (command_at script (suc r) ≡ Some (Once (item_for script r))) × (is_raw_item (item_for script r) ≡ true)
-  at r l = let c = rest.once r l in item-at script specs commands r c.0 all c.1 c.2
+    at : (r : ℕ) → r + 1 < length commands → (command_at script (suc r) ≡ Some (Once (item_for script r))) × (is_raw_item (item_for script r) ≡ true)
+    at r l = let c = rest.once r l in item-at script specs commands r c.0 all c.1 c.2
 
 pub raw : (script : Script) → is_raw_script script ≡ true → IsRaw script
 raw script h =
@@ -110,13 +110,13 @@ raw script h =
     let parts' = and_parts (length script.picks == 0) (are_raw_commands script.commands) parts.1 in
     behind script.commands refl (empty script.faults parts.0) (empty script.picks parts'.0) parts'.1
   where
-  behind : (commands : List Command) → script.commands ≡ commands → script.faults ≡ [] → script.picks ≡ [] → are_raw_commands commands ≡ true → IsRaw script
-  behind [] e faults picks h = absurd (false≢true h)
-  behind (Configure specs ∷ commands) e faults picks h =
-      let parts = and_parts (is_raw_alone specs) (nat_le (length commands) 33 && are_requests commands) h in
-      let rest = and_parts (nat_le (length commands) 33) (are_requests commands) parts.1 in
-      raw-behind script specs commands faults picks e (specs-are specs parts.0) (requests-are commands rest.1) rest.0
-  behind (_ ∷ _) e faults picks h = absurd (false≢true h)
+    behind : (commands : List Command) → script.commands ≡ commands → script.faults ≡ [] → script.picks ≡ [] → are_raw_commands commands ≡ true → IsRaw script
+    behind [] e faults picks h = absurd (false≢true h)
+    behind (Configure specs ∷ commands) e faults picks h =
+        let parts = and_parts (is_raw_alone specs) (nat_le (length commands) 33 && are_requests commands) h in
+        let rest = and_parts (nat_le (length commands) 33) (are_requests commands) parts.1 in
+        raw-behind script specs commands faults picks e (specs-are specs parts.0) (requests-are commands rest.1) rest.0
+    behind (_ ∷ _) e faults picks h = absurd (false≢true h)
 
 -- ---- an item
 

@@ -73,20 +73,20 @@ module _ (script : Script) (past : List Entry) (t : Facts) (raw : IsRaw script) 
       let some = some-called script past t raw fit (omega (arith, l)) in
       let least : find (λ b. is_at (place b past) in_trace.Pool) (range_with_len 0 5) ≡ position is_pool t.places = ap (λ (n : ℕ). find (λ b. is_at (place b past) in_trace.Pool) (range_with_len 0 n)) (sym fit.order.places) ∙ (find-range is_pool (λ b. is_at (place b past) in_trace.Pool) t.places Pool (λ i _. (rw (fit.places i) (pool-place (slice_index_or t.places i Pool))))) in
       rw (quiet-yes script past t fit e r, next-is script past t raw fit l, goes e r l, streams-of l, buffers-are some, least) (with-least (position is_pool t.places))
-   where
-    with-least : (o : Option ℕ) → send_with script past (record { request = t.sent; index = 0; item = item_for script t.sent; repeats = false }) (with_target (target_with past 0 o) (Some [])) ≡ sent_with script t o
-    with-least None = refl
-    with-least (Some b) = rw (fit.fences b, fit.numbers, fit.settings) refl
+    where
+      with-least : (o : Option ℕ) → send_with script past (record { request = t.sent; index = 0; item = item_for script t.sent; repeats = false }) (with_target (target_with past 0 o) (Some [])) ≡ sent_with script t o
+      with-least None = refl
+      with-least (Some b) = rw (fit.fences b, fit.numbers, fit.settings) refl
 
   pub send-busy : (t.ended < t.sent) ⊎ (t.returned < t.sent) → entry_of script past SendStep ≡ None
   send-busy open' = rw (quiet-no script past t fit open') refl
 
   pub send-none : t.requests ≤ t.sent → entry_of script past SendStep ≡ None
   send-none m = rw (next-none script past t raw fit m) (either (is_quiet past))
-   where
-    either : (b : Bool) → where_entry b None ≡ None
-    either true = refl
-    either false = refl
+    where
+      either : (b : Bool) → where_entry b None ≡ None
+      either true = refl
+      either false = refl
 
   buffer-made : (b : ℕ) → b < 5 → list_any (λ c. c == b) (range_with_len 0 5) ≡ true
   buffer-made b l = grind (arith, nat_tests)

@@ -42,43 +42,43 @@ module _ (script : Script) (past : List Entry) (t : Facts) (raw : IsRaw script) 
     | inl y ↦ (let at : n.0 ≡ t.ended = grind (arith, nat_tests) in let l : t.ended < t.shutters = grind (arith, nat_tests) in rw y (due at l))
     | inr no' ↦ rw no' (partial-no script past t raw fit n.0 no')
   ]
-   where
-    due : n.0 ≡ t.ended → t.ended < t.shutters → partial_due script past n.0 ≡ Some (Rattle.trace_model.specs.declared.entry.Entry.TheVariants.Partial n (t.parts + 1) (Rattle.cam_types.specs.Metadata.part_at (t.parts + 1) (settings_for script n.0) t.time))
-    due at l =
-        let same : n ≡ record { 0 = t.ended } = ap frame at in
-        rw same (partial-yes script past t raw fit l)
+    where
+      due : n.0 ≡ t.ended → t.ended < t.shutters → partial_due script past n.0 ≡ Some (Rattle.trace_model.specs.declared.entry.Entry.TheVariants.Partial n (t.parts + 1) (Rattle.cam_types.specs.Metadata.part_at (t.parts + 1) (settings_for script n.0) t.time))
+      due at l =
+          let same : n ≡ record { 0 = t.ended } = ap frame at in
+          rw same (partial-yes script past t raw fit l)
 
   pub filled-is : (n : FrameNo) (s : StreamIx) → filled_due script past n.0 s.0 ≡ filled_of script t n s
   filled-is n s = elim (cases_Bool (is_deliverable t n s)) [
     | inl y ↦ (let a = and_parts (n.0 == t.returned) (nat_lt n.0 t.shutters && ((s.0 == 0) && passed t t.fence)) y in
-               let b = and_parts (nat_lt n.0 t.shutters) ((s.0 == 0) && passed t t.fence) a.1 in
-               let c = and_parts (s.0 == 0) (passed t t.fence) b.1 in
-               let at : n.0 ≡ t.returned = grind (arith, nat_tests) in
-               let stream : s.0 ≡ 0 = grind (arith, nat_tests) in
-               let l : t.returned < t.shutters = grind (arith, nat_tests) in
-               rw y (due at stream l c.1))
+        let b = and_parts (nat_lt n.0 t.shutters) ((s.0 == 0) && passed t t.fence) a.1 in
+        let c = and_parts (s.0 == 0) (passed t t.fence) b.1 in
+        let at : n.0 ≡ t.returned = grind (arith, nat_tests) in
+        let stream : s.0 ≡ 0 = grind (arith, nat_tests) in
+        let l : t.returned < t.shutters = grind (arith, nat_tests) in
+        rw y (due at stream l c.1))
     | inr no' ↦ rw no' (filled-no script past t raw fit n.0 s.0 no')
   ]
-   where
-    due : n.0 ≡ t.returned → s.0 ≡ 0 → t.returned < t.shutters → passed t t.fence ≡ true → filled_due script past n.0 s.0 ≡ Some (Rattle.trace_model.specs.declared.entry.Entry.TheVariants.Filled n s t.buffer None (Rattle.trace_model.specs.Picture.digest Rattle.service_core.specs.Fit.raw_spec (settings_for script n.0) n.0))
-    due at stream l pass =
-        let same : n ≡ record { 0 = t.returned } = ap frame at in
-        let first : s ≡ record { 0 = 0 } = ap stream_at stream in
-        rw (same, first) (filled-yes script past t raw fit l pass)
+    where
+      due : n.0 ≡ t.returned → s.0 ≡ 0 → t.returned < t.shutters → passed t t.fence ≡ true → filled_due script past n.0 s.0 ≡ Some (Rattle.trace_model.specs.declared.entry.Entry.TheVariants.Filled n s t.buffer None (Rattle.trace_model.specs.Picture.digest Rattle.service_core.specs.Fit.raw_spec (settings_for script n.0) n.0))
+      due at stream l pass =
+          let same : n ≡ record { 0 = t.returned } = ap frame at in
+          let first : s ≡ record { 0 = 0 } = ap stream_at stream in
+          rw (same, first) (filled-yes script past t raw fit l pass)
 
   pub client-is : entry_of script past ClientStep ≡ client_of t (command_at script t.calls) t.begun
   client-is = at (stage script past t raw fit) t.begun refl
-   where
-    at : Stage script t → (begun : Option Word) → t.begun ≡ begun → entry_of script past ClientStep ≡ client_of t (command_at script t.calls) begun
-    at (inl c) None b = rw c.1 (client-configure-begin script past t raw fit c.0 b)
-    at (inl c) (Some w) b = rw c.1 (client-configure-call script past t raw fit w c.0 b)
-    at (inr (inl c)) b' b = rw c.2 (client-once script past t raw fit c.0 c.1 c.2)
-    at (inr (inr (inl c))) None b = rw c.2 (client-close-begin script past t raw fit c.2 b)
-    at (inr (inr (inl c))) (Some w) b = elim (cases_Bool (is_home t)) [
-      | inl home ↦ rw (c.2, home) (client-close-call script past t raw fit w c.0 c.2 b home)
-      | inr away ↦ rw (c.2, away) (client-close-wait script past t raw fit w c.0 c.2 b away)
-    ]
-    at (inr (inr (inr c))) b' b = rw c.2 (client-end script past t raw fit c.2)
+    where
+      at : Stage script t → (begun : Option Word) → t.begun ≡ begun → entry_of script past ClientStep ≡ client_of t (command_at script t.calls) begun
+      at (inl c) None b = rw c.1 (client-configure-begin script past t raw fit c.0 b)
+      at (inl c) (Some w) b = rw c.1 (client-configure-call script past t raw fit w c.0 b)
+      at (inr (inl c)) b' b = rw c.2 (client-once script past t raw fit c.0 c.1 c.2)
+      at (inr (inr (inl c))) None b = rw c.2 (client-close-begin script past t raw fit c.2 b)
+      at (inr (inr (inl c))) (Some w) b = elim (cases_Bool (is_home t)) [
+        | inl home ↦ rw (c.2, home) (client-close-call script past t raw fit w c.0 c.2 b home)
+        | inr away ↦ rw (c.2, away) (client-close-wait script past t raw fit w c.0 c.2 b away)
+      ]
+      at (inr (inr (inr c))) b' b = rw c.2 (client-end script past t raw fit c.2)
 
   pub send-is : entry_of script past SendStep ≡ send_of script t
   send-is =

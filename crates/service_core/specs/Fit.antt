@@ -243,6 +243,7 @@ pub record InOrder (t : Facts) : Type 0 where
   pub signalled : length t.signalled ≡ 32
   pub buffer : t.buffer.0 < 5
   pub clients : t.released + count_by is_client t.places ≡ t.returned
+  pub clock : t.time ≤ t.next_time
   pub slow : t.next_time ≤ 1000000000 + t.shutters * 100000000
 
 pub record Fit (script : Script) (past : List Entry) (t : Facts) : Type 0 where

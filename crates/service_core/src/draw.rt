@@ -35,7 +35,9 @@ impl Canvas {
     {
         a_readout_lies_between_dark_and_full();
         let Canvas { readout, block } = self;
-        let (_, _, readout) = SensorJob::new(frame, settings, readout).expose().into_parts();
+        let (_, _, readout) = SensorJob::new(frame, settings, readout)
+            .expose()
+            .into_parts();
         let mut picture = PixelBuf::over(block, BufferId(0), 38_400);
         let digest = fill_raw(&readout, &mut picture);
         let block = picture.into_block();

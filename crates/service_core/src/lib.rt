@@ -6,11 +6,9 @@ mod draw;
 mod history;
 mod raw;
 mod service;
-
 mod step;
 mod tables;
 
 pub use raw::is_raw_script;
 pub use service::Service;
-
 pub use step::{Kind, Move, Step, StepName};

@@ -57,7 +57,5 @@ fn are_requests(commands: &[Command]) -> bool
 fn is_raw_item(item: Item) -> bool
     ensures { result ≡ is_raw_item item }
 {
-    item.targets.count == 1
-        && item.targets.list[0] == 0
-        && range_fault(item.settings).is_none()
+    item.targets.count == 1 && item.targets.list[0] == 0 && range_fault(item.settings).is_none()
 }

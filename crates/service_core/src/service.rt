@@ -1,6 +1,8 @@
-ghost use Rattle.std.specs.Prelude.{◌≡◌, ◌↔◌, [], IfOk, IsTrue, Option, reverse};
+ghost use Rattle.std.specs.Prelude.{◌≡◌, ◌↔◌, [], IfOk, IsTrue, Option, reverse, true};
+ghost use Rattle.std.specs.List.{list_all};
 ghost use Rattle.trace_model.specs.Complete.{IsComplete};
 ghost use Rattle.trace_model.specs.Legal.{IsLegal};
+ghost use Rattle.trace_model.specs.Printable.{is_printable};
 ghost use Rattle.service_core.specs.Answers.{Answers};
 ghost use Rattle.service_core.specs.First.{IsFirstRun, entry_of, first_chosen, first_move_of};
 ghost use Rattle.service_core.specs.History.{trace_of};
@@ -32,13 +34,15 @@ impl Model for Service {
     ghost use Rattle.service_core.specs.First.{IsFirstRun};
     ghost use Rattle.service_core.specs.History.{trace_of};
     ghost use Rattle.service_core.specs.RawScripts.{is_raw_script};
+    ghost use Rattle.std.specs.List.{list_all};
     ghost use Rattle.trace_model.specs.Legal.{IsLegal};
+    ghost use Rattle.trace_model.specs.Printable.{is_printable};
 
     ghost Value = { State };
 
     ghost view = { λ s. record { script = s.script; history = s.history } };
 
-    ghost invariant = { λ s. (is_raw_script s.script ≡ true) × IsFirstRun s.script s.history × IsLegal s.script (trace_of s.history) × Fit s.script (trace_of s.history) (facts_of s.tables) × IsSome s.canvas × IfSome s.canvas (λ canvas. length canvas.block.items ≡ 38400) };
+    ghost invariant = { λ s. (is_raw_script s.script ≡ true) × IsFirstRun s.script s.history × IsLegal s.script (trace_of s.history) × (list_all is_printable (trace_of s.history) ≡ true) × Fit s.script (trace_of s.history) (facts_of s.tables) × IsSome s.canvas × IfSome s.canvas (λ canvas. length canvas.block.items ≡ 38400) };
 }
 
 impl Service {
@@ -63,10 +67,11 @@ impl Service {
         self.history.trace()
     }
 
-    /// Whatever calls were made, the history is a run of the script, and its trace is legal.
+    /// Whatever calls were made, the history is a run of the script, its trace is legal, and each entry has a line.
     pub fn is_a_run(&self)
         ensures run { IsFirstRun self.now.script self.now.history }
         ensures legal { IsLegal self.now.script (trace_of self.now.history) }
+        ensures lines { list_all is_printable (trace_of self.now.history) ≡ true }
     {
         let _ = &self.script;
     }

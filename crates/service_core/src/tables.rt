@@ -11,11 +11,11 @@ ghost use Rattle.trace_model.specs.Send.{are_same};
 ghost use Rattle.service_core.specs.Fit.{IsSmall, facts_of, first_facts, is_client, noted, noted_target, settings_for};
 ghost use Rattle.service_core.specs.Due.{buffer_number, client_of, device_first, fence_number, first_but_send, first_of, has_all_signals, is_deliverable, is_home, is_pool, is_resting, mark_for, partial_of, passed, release_of, send_of, sent_with, shutter_of, signal_of};
 
+use crate::step::StepName;
 use cam_types::{
     BufferId, Command, FenceNo, Four, FrameNo, Made, NoMemory, Reply, RequestId, Script, Settings,
     StreamIx, Word,
 };
-use crate::step::StepName;
 use partial_results::part;
 use std::alloc::Global;
 use trace_model::{Entry, Sent};
@@ -423,8 +423,7 @@ impl Tables {
     pub fn is_deliverable(&self, frame: FrameNo, stream: StreamIx) -> bool
         ensures { result ≡ is_deliverable (facts_of self.now) frame stream }
     {
-        frame.0 == self.returned
-            && (frame.0 < self.shutters && (stream.0 == 0 && self.is_passed()))
+        frame.0 == self.returned && (frame.0 < self.shutters && (stream.0 == 0 && self.is_passed()))
     }
 
     // ---- which step is the first that is ready
@@ -632,8 +631,9 @@ impl Tables {
             Entry::Begin { word } => self.begun = Some(word),
             Entry::Call { reply, .. } => self.note_call(reply),
             Entry::Send { targets, .. } => self.note_target(targets.a),
-            Entry::Shutter { .. } => self
-                .note_shutter(settings_of_request(script, self.shutters).exposure),
+            Entry::Shutter { .. } => self.note_shutter(
+                settings_of_request(script, self.shutters).exposure,
+            ),
             Entry::Partial { .. } => self.note_partial(),
             Entry::Filled { buffer, .. } => self.note_filled(buffer),
             Entry::Release { buffer, fence } => self.note_release(buffer, fence),
