@@ -1,1 +1,3 @@
-pub mod FormLemmas
+pub mod Playing
+pub mod Bounds
+pub mod Telling

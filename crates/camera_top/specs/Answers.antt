@@ -7,10 +7,6 @@ use Rattle.io_edge.specs.Faults.{Rose}
 abbrev pub usage_line : List ℕ
 usage_line = codes "usage: camera play | run --workers N | check | gen SEED COUNT | help\n"
 
--- the line of a script that can't be played yet
-abbrev pub refused_line : List ℕ
-refused_line = codes "refused script 0 39\n"
-
 -- the whole text was written and no fault was counted
 abbrev pub Written : List ℕ → Option (List ℕ) → Option (List ℕ) → ℕ → ℕ → Type 0
 Written text before after faults faults_after = Appends before after text × (faults_after ≡ faults)

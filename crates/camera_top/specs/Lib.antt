@@ -1,3 +1,4 @@
-pub mod Form
 pub mod Words
 pub mod Answers
+pub mod Says
+pub mod Ends

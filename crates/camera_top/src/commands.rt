@@ -1,26 +1,30 @@
-ghost use Rattle.std.specs.Prelude.{◌≡◌, ◌≢◌, ◌≤◌, ◌⊎◌, IsTrue, Bool, true, false, IfSome, IsSome, List, ℕ, Option};
-ghost use Rattle.std.specs.Io.KnownBytes.{Keeps};
+ghost use Rattle.std.specs.Prelude.{◌≡◌, ◌≢◌, ◌≤◌, ◌⊎◌, Bool, true, false, IfSome, Option, Result, reverse};
+ghost use Rattle.std.specs.Io.KnownBytes.{IsAtEnd, Keeps};
 ghost use Rattle.io_edge.specs.Faults.{Rose};
-ghost use Rattle.camera_top.specs.Answers.{Answers, Written, refused_line, usage_line};
-ghost use Rattle.camera_top.specs.Form.{has_form};
+ghost use Rattle.script_text.specs.Grammar.{script_of};
+ghost use Rattle.service_core.specs.History.{trace_of};
+ghost use Rattle.trace_text.specs.Spelling.{spelling};
+ghost use Rattle.camera_top.specs.Answers.{Answers, usage_line};
+ghost use Rattle.camera_top.specs.Says.{IsWhole, Tells, refused_text};
 ghost use Rattle.camera_top.specs.Words.{is_play};
 
-use crate::form::{Form, read_form};
-use crate::play::{Ended, Player};
+use crate::play::{Ended, move_bound, play};
+use crate::print;
 use crate::status::{Status, answer};
-use crate::text::print_trace;
-use cam_types::SCRIPT_BYTES;
+use cam_types::{SCRIPT_BYTES, Script};
 use io_edge::{ReadBytes, ReadFault, Sink, Source, read_all};
+use script_text::{Cause, ScriptRefused};
+use service_core::{Service, is_raw_script};
 use std::alloc::Global;
 
 /// The line of words that are no form.
 const USAGE_LINE: &[u8] = b"usage: camera play | run --workers N | check | gen SEED COUNT | help\n";
 
-/// The line of a script that can't be played yet.
-const REFUSED_LINE: &[u8] = b"refused script 0 39\n";
-
 /// The line of a run that no step leads on.
 const UNFINISHED_LINE: &[u8] = b"unfinished\n";
+
+/// The cause of a script that can't be played yet.
+const NOT_BUILT: u8 = 39;
 
 /// Does what the words ask for.
 pub fn camera_main<S: Source, K: Sink>(
@@ -29,11 +33,13 @@ pub fn camera_main<S: Source, K: Sink>(
     source: &mut S,
     sink: &mut K,
 ) -> Status
+    // Other words than `play`: the usage line.
     ensures usage { is_play words.now ≡ false → Answers 2 usage_line result.number (K.written sink.old) (K.written sink.new) (K.faults sink.old) (K.faults sink.new) }
     ensures usage_only { result.number ≡ 2 → is_play words.now ≡ false }
-    ensures refused { is_play words.now ≡ true → IfSome (S.left source.old) (λ text. has_form text ≡ false → (result.number ≡ 3) ⊎ (result.number ≡ 5) ⊎ Answers 1 refused_line result.number (K.written sink.old) (K.written sink.new) (K.faults sink.old) (K.faults sink.new)) }
-    ensures refused_only { result.number ≡ 1 → IfSome (S.left source.old) (λ text. has_form text ≡ false) }
-    ensures refused_line { result.number ≡ 1 → Written refused_line (K.written sink.old) (K.written sink.new) (K.faults sink.old) (K.faults sink.new) }
+
+    // `play`: as `play_call` says.
+    ensures whole { result.number ≡ 0 → (is_play words.now ≡ true) × IsAtEnd (S.left source.new) × IfSome (S.left source.old) (λ input. IsWhole input (K.written sink.old) (K.written sink.new)) }
+    ensures tells { is_play words.now ≡ true → IfSome (S.left source.old) (λ input. (result.number ≡ 3) ⊎ Tells (script_of input) result.number (K.written sink.old) (K.written sink.new) (K.faults sink.old) (K.faults sink.new)) }
     ensures source_failed { result.number ≡ 3 → Rose (S.faults source.old) (S.faults source.new) × Keeps (K.written sink.old) (K.written sink.new) }
     ensures sink_failed { result.number ≡ 4 → Rose (K.faults sink.old) (K.faults sink.new) }
     ensures no_memory { result.number ≡ 5 → Keeps (K.written sink.old) (K.written sink.new) }
@@ -54,9 +60,12 @@ fn is_play(words: &[&str]) -> bool
 
 /// Reads a script, plays it and writes its trace.
 pub fn play_call<S: Source, K: Sink>(alloc: Global, source: &mut S, sink: &mut K) -> Status
-    ensures refused { IfSome (S.left source.old) (λ text. has_form text ≡ false → (result.number ≡ 3) ⊎ (result.number ≡ 5) ⊎ Answers 1 refused_line result.number (K.written sink.old) (K.written sink.new) (K.faults sink.old) (K.faults sink.new)) }
-    ensures refused_only { result.number ≡ 1 → IfSome (S.left source.old) (λ text. has_form text ≡ false) }
-    ensures refused_line { result.number ≡ 1 → Written refused_line (K.written sink.old) (K.written sink.new) (K.faults sink.old) (K.faults sink.new) }
+    // The headline: at status 0 the source was read to its end, its bytes spell a script, and what was written is the whole
+    // trace of the script's played run, which is complete, and nothing else.
+    ensures whole { result.number ≡ 0 → IsAtEnd (S.left source.new) × IfSome (S.left source.old) (λ input. IsWhole input (K.written sink.old) (K.written sink.new)) }
+    // Each status and each text has its cause in the input's meaning: where no end failed and memory was there, the status
+    // and the text are those that belong to it. At status 4 a front of that text is written.
+    ensures tells { IfSome (S.left source.old) (λ input. (result.number ≡ 3) ⊎ Tells (script_of input) result.number (K.written sink.old) (K.written sink.new) (K.faults sink.old) (K.faults sink.new)) }
     ensures source_failed { result.number ≡ 3 → Rose (S.faults source.old) (S.faults source.new) × Keeps (K.written sink.old) (K.written sink.new) }
     ensures sink_failed { result.number ≡ 4 → Rose (K.faults sink.old) (K.faults sink.new) }
     ensures no_memory { result.number ≡ 5 → Keeps (K.written sink.old) (K.written sink.new) }
@@ -66,31 +75,58 @@ pub fn play_call<S: Source, K: Sink>(alloc: Global, source: &mut S, sink: &mut K
     match read_all(alloc, source, SCRIPT_BYTES) {
         Err(ReadFault::Failed) => Status::SOURCE_FAILED,
         Err(ReadFault::NoMemory) => Status::NO_MEMORY,
-        Ok(ReadBytes::TooLong) => answer(sink, REFUSED_LINE, Status::REFUSED),
-        Ok(ReadBytes::Whole(bytes)) => match read_form(bytes.as_slice()) {
-            None => answer(sink, REFUSED_LINE, Status::REFUSED),
-            Some(form) => play_form(alloc, form, sink),
-        },
+        Ok(ReadBytes::TooLong) => refuse(alloc, 0, Cause::Limit.number(), sink),
+        Ok(ReadBytes::Whole(bytes)) => play_text(alloc, bytes.as_slice(), sink),
     }
 }
 
-/// Plays a script of the form and writes its trace.
-fn play_form<K: Sink>(alloc: Global, form: Form, sink: &mut K) -> Status
-    ensures sink_failed { result.number ≡ 4 → Rose (K.faults sink.old) (K.faults sink.new) }
-    ensures no_memory { result.number ≡ 5 → Keeps (K.written sink.old) (K.written sink.new) }
-    ensures known { (result.number ≡ 0) ⊎ (result.number ≡ 4) ⊎ (result.number ≡ 5) ⊎ (result.number ≡ 6) }
+/// Reads a script from its text, plays it and writes its trace.
+fn play_text<K: Sink>(alloc: Global, input: &[u8], sink: &mut K) -> Status
+    ensures { Tells (script_of input.now) result.number (K.written sink.old) (K.written sink.new) (K.faults sink.old) (K.faults sink.new) }
 {
-    let mut player = match Player::open(alloc, form) {
-        Ok(player) => player,
+    match script_text::read(alloc, input) {
+        Err(ScriptRefused::NoMemory) => Status::NO_MEMORY,
+        Err(ScriptRefused::Bad { line, cause }) => refuse(alloc, line, cause.number(), sink),
+        Ok(script) => play_script(alloc, script, sink),
+    }
+}
+
+/// Refuses a script.
+fn refuse<K: Sink>(alloc: Global, line: u32, cause: u8, sink: &mut K) -> Status
+    ensures { ((result.number ≡ 5) × Keeps (K.written sink.old) (K.written sink.new)) ⊎ Answers 1 (refused_text line cause) result.number (K.written sink.old) (K.written sink.new) (K.faults sink.old) (K.faults sink.new) }
+{
+    match print::refused_text(alloc, line, cause) {
+        Ok(text) => answer(sink, text.as_slice(), Status::REFUSED),
+        Err(_) => Status::NO_MEMORY,
+    }
+}
+
+/// Plays a script and writes its trace.
+fn play_script<K: Sink>(alloc: Global, script: Script, sink: &mut K) -> Status
+    ensures { Tells (Result.Ok script) result.number (K.written sink.old) (K.written sink.new) (K.faults sink.old) (K.faults sink.new) }
+{
+    if !is_raw_script(&script) {
+        return refuse(alloc, 0, NOT_BUILT, sink);
+    }
+    let bound = move_bound(&script);
+    let mut service = match Service::open(alloc, script) {
+        Ok(service) => service,
         Err(_) => return Status::NO_MEMORY,
     };
-    match player.play() {
-        Ended::Complete => {}
-        Ended::Unfinished => return answer(sink, UNFINISHED_LINE, Status::UNFINISHED),
-        Ended::NoMemory => return Status::NO_MEMORY,
+    match play(&mut service, bound) {
+        Ended::Complete => write_trace(alloc, &service, sink),
+        Ended::Unfinished => answer(sink, UNFINISHED_LINE, Status::UNFINISHED),
+        Ended::NoMemory => Status::NO_MEMORY,
     }
-    match print_trace(alloc, player.trace()) {
-        Ok(text) => answer(sink, text.as_bytes(), Status::DONE),
+}
+
+/// Writes the trace of a service.
+fn write_trace<K: Sink>(alloc: Global, service: &Service, sink: &mut K) -> Status
+    ensures { ((result.number ≡ 5) × Keeps (K.written sink.old) (K.written sink.new)) ⊎ Answers 0 (spelling (reverse (trace_of service.now.history))) result.number (K.written sink.old) (K.written sink.new) (K.faults sink.old) (K.faults sink.new) }
+{
+    service.is_a_run();
+    match print::trace_text(alloc, service.trace()) {
+        Ok(text) => answer(sink, text.as_slice(), Status::DONE),
         Err(_) => Status::NO_MEMORY,
     }
 }

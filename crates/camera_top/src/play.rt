@@ -1,14 +1,11 @@
-use crate::form::Form;
-use cam_types::{
-    BufferId, Command, FenceNo, Format, FrameNo, Item, Listing, NoMemory, Script, StreamIx,
-    StreamSpec, Targets,
-};
-use service_core::{Service, Step};
-use std::alloc::Global;
-use trace_model::Entry;
+ghost use Rattle.std.specs.Prelude.{◌≡◌, [], true};
+ghost use Rattle.cam_types.specs.Script.{awaited_by};
+ghost use Rattle.service_core.specs.First.{IsFirstPlayedRun, IsFirstStuck, move_bound, queued_by};
+ghost use Rattle.service_core.specs.RawScripts.{is_raw_script};
+ghost use Rattle.camera_top.specs.Ends.{EndsAs};
 
-/// The most moves that a run of the form has.
-const MOVE_BOUND: u32 = 6_600;
+use cam_types::Script;
+use service_core::{Service, Step};
 
 /// How a run ended.
 #[derive(Clone, Copy, Debug, PartialEq, Eq)]
@@ -18,123 +15,39 @@ pub enum Ended {
     NoMemory,
 }
 
-/// A service, and what of its steps has to be named: the last frame, and how many fences there are.
-#[derive(Drop)]
-pub struct Player {
-    service: Service,
-    frame: FrameNo,
-    fences: u32,
+/// More moves than a run of the script makes: see `move_bound` of the service's definitions.
+pub fn move_bound(script: &Script) -> u64
+    requires { is_raw_script script.now ≡ true }
+    ensures { result ≡ move_bound script.now }
+{
+    let commands = script.commands.len() as u64;
+    let frames = 64 * (commands + 2) + (commands - 2);
+    32 * frames + (2 * (commands + 1) + 1)
 }
 
-impl Player {
-    /// The service of a script of the form.
-    pub fn open(alloc: Global, form: Form) -> Result<Player, NoMemory> {
-        let script = script_of(alloc, form)?;
-        Ok(Player {
-            service: Service::open(alloc, script)?,
-            frame: FrameNo(0),
-            fences: 0,
-        })
-    }
-
-    /// The trace so far.
-    pub fn trace(&self) -> &[Entry] {
-        self.service.trace()
-    }
-
-    /// Makes the first step that is ready until the trace is complete.
-    pub fn play(&mut self) -> Ended {
-        for _ in 0..MOVE_BOUND {
-            if self.service.done() {
-                return Ended::Complete;
-            }
-            match self.first_step() {
-                Step::Did(entry) => self.note(entry),
-                Step::NotReady => return Ended::Unfinished,
-                Step::NoMemory => return Ended::NoMemory,
-            }
+/// Makes the steps that the picks choose until the run is complete.
+pub fn play(service: &mut Service, bound: u64) -> Ended
+    requires history { service.old.history ≡ [] }
+    requires bound { bound ≡ move_bound service.old.script }
+    ensures script { service.new.script ≡ service.old.script }
+    ensures ended { EndsAs result service.new.script service.new.history }
+{
+    for _ in 0..bound {
+        if service.done() {
+            return Ended::Complete;
         }
-        if self.service.done() {
-            Ended::Complete
-        } else {
-            Ended::Unfinished
-        }
-    }
-
-    fn note(&mut self, entry: Entry) {
-        match entry {
-            Entry::Send { frame, .. } => self.frame = frame,
-            Entry::Release { fence, .. } => self.fences = fence.0.saturating_add(1),
-            _ => {}
-        }
-    }
-
-    /// The first step that is ready: by kind, then by buffer or fence.
-    fn first_step(&mut self) -> Step {
-        match self.service.send() {
-            Step::NotReady => self.first_release(),
-            step => step,
-        }
-    }
-
-    fn first_release(&mut self) -> Step {
-        for buffer in 0..5 {
-            match self.service.release(BufferId(buffer)) {
-                Step::NotReady => {}
-                step => return step,
-            }
-        }
-        self.first_signal()
-    }
-
-    fn first_signal(&mut self) -> Step {
-        for fence in 0..self.fences {
-            match self.service.signal(FenceNo(fence)) {
-                Step::NotReady => {}
-                step => return step,
-            }
-        }
-        self.client_or_device()
-    }
-
-    fn client_or_device(&mut self) -> Step {
-        match self.service.client() {
-            Step::NotReady => {}
-            step => return step,
-        }
-        match self.service.shutter() {
-            Step::NotReady => {}
-            step => return step,
-        }
-        match self.service.partial(self.frame) {
-            Step::NotReady => self.service.deliver(self.frame, StreamIx(0)),
-            step => step,
-        }
-    }
-}
-
-/// The commands of the form, with the `close` at its end.
-fn script_of(alloc: Global, form: Form) -> Result<Script, NoMemory> {
-    let mut specs = Listing::new(alloc);
-    specs.push(StreamSpec {
-        input: false,
-        format: Format::Raw16,
-        width: 160,
-        height: 120,
-    })?;
-    let mut commands = Listing::new(alloc);
-    commands.push(Command::Configure(specs))?;
-    if let Some(settings) = form.request {
-        let targets = Targets {
-            count: 1,
-            list: [0; 8],
+        let Some(step) = service.chosen() else {
+            return Ended::Unfinished;
         };
-        commands.push(Command::Once(Item { settings, targets }))?;
+        match service.step(step) {
+            Step::Did(_) => {}
+            Step::NotReady => return Ended::Unfinished,
+            Step::NoMemory => return Ended::NoMemory,
+        }
     }
-    commands.push(Command::Close)?;
-    Ok(Script {
-        faults: Listing::new(alloc),
-        picks: Listing::new(alloc),
-        commands,
-    })
+    if service.done() {
+        Ended::Complete
+    } else {
+        Ended::Unfinished
+    }
 }

@@ -4,3 +4,8 @@ pub mod Ready
 pub mod Run
 pub mod Rows
 pub mod Played
+pub mod RawScripts
+pub mod First
+pub mod Fit
+pub mod Due
+pub mod Answers

@@ -1,36 +1,46 @@
-use cam_types::{FrameNo, SENSOR_HEIGHT, SENSOR_WIDTH, Settings};
-use sha2::{Digest, Sha256};
+ghost use Rattle.std.specs.Prelude.{◌≡◌, IfOk, None, length};
+ghost use Rattle.cam_types.specs.Metadata.{range_fault};
+ghost use Rattle.service_core.specs.Fit.{raw_spec};
+ghost use Rattle.trace_model.specs.Picture.{digest};
 
-/// The scene at a place, as the filter there sees it: red where both places are even, blue where both are odd.
-fn scene(settings: Settings, frame: FrameNo, x: u32, y: u32) -> u64 {
-    let bar = x / 20;
-    let is_lit = match (x % 2, y % 2) {
-        (0, 0) => bar % 4 < 2,
-        (1, 1) => bar % 2 == 0,
-        _ => bar < 4,
-    };
-    match settings.pattern {
-        0 => u64::from(settings.level),
-        1 if is_lit => u64::from(settings.level),
-        1 => 0,
-        _ => (u64::from(x) + u64::from(y) + u64::from(frame.0)) % 256,
-    }
+use cam_types::{BufferId, FrameNo, NoMemory, PixelBuf, RAW_BLOCK, Readout, Settings};
+use raw_stage::fill_raw;
+use sensor_sim::{SensorJob, a_readout_lies_between_dark_and_full};
+use std::alloc::Global;
+
+/// What a picture is made with: the sensor's readout and the block that the picture is written into.
+#[derive(Drop)]
+pub struct Canvas {
+    pub readout: Readout,
+    pub block: Vec<u8>,
 }
 
-/// The sensor's value at a place, 64 to 1023.
-fn sensor_value(settings: Settings, frame: FrameNo, x: u32, y: u32) -> u16 {
-    let light = scene(settings, frame, x, y).saturating_mul(settings.exposure / 100_000);
-    let value = light.saturating_mul(u64::from(settings.iso)) / 2_500;
-    64 + value.min(959) as u16
-}
-
-/// The SHA-256 of a frame's RAW16 picture: the values row by row, two bytes each, the low one first.
-pub fn raw_digest(settings: Settings, frame: FrameNo) -> [u8; 32] {
-    let mut hasher = Sha256::new();
-    for y in 0..SENSOR_HEIGHT {
-        for x in 0..SENSOR_WIDTH {
-            hasher.update(sensor_value(settings, frame, x, y).to_le_bytes());
-        }
+impl Canvas {
+    /// Room for a readout and a picture.
+    pub fn new(alloc: Global) -> Result<Canvas, NoMemory>
+        ensures { IfOk result (λ canvas. length canvas.block.items ≡ 38400) }
+    {
+        Ok(Canvas {
+            readout: Readout::new(alloc)?,
+            block: vec![in alloc; 0; RAW_BLOCK]?,
+        })
     }
-    hasher.finalize()
+
+    /// Makes the frame's picture for the RAW16 stream, and gives its digest.
+    pub fn draw(self, settings: Settings, frame: FrameNo) -> ([u8; 32], Canvas)
+        requires settings { range_fault settings ≡ None }
+        requires block { length self.block.items ≡ 38400 }
+        ensures digest { result.0 ≡ digest raw_spec settings frame.0 }
+        ensures block { length result.1.block.items ≡ 38400 }
+    {
+        a_readout_lies_between_dark_and_full();
+        let Canvas { readout, block } = self;
+        let (_, _, readout) = SensorJob::new(frame, settings, readout)
+            .expose()
+            .into_parts();
+        let mut picture = PixelBuf::over(block, BufferId(0), 38_400);
+        let digest = fill_raw(&readout, &mut picture);
+        let block = picture.into_block();
+        (digest, Canvas { readout, block })
+    }
 }

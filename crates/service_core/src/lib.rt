@@ -4,9 +4,11 @@
 
 mod draw;
 mod history;
-mod pool;
+mod raw;
 mod service;
 mod step;
+mod tables;
 
+pub use raw::is_raw_script;
 pub use service::Service;
 pub use step::{Kind, Move, Step, StepName};

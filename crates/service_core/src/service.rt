@@ -1,375 +1,232 @@
-use crate::draw::raw_digest;
+ghost use Rattle.std.specs.Prelude.{◌≡◌, ◌↔◌, [], IfOk, IsTrue, Option, reverse, true};
+ghost use Rattle.std.specs.List.{list_all};
+ghost use Rattle.trace_model.specs.Complete.{IsComplete};
+ghost use Rattle.trace_model.specs.Legal.{IsLegal};
+ghost use Rattle.trace_model.specs.Printable.{is_printable};
+ghost use Rattle.service_core.specs.Answers.{Answers};
+ghost use Rattle.service_core.specs.First.{IsFirstRun, entry_of, first_chosen, first_move_of};
+ghost use Rattle.service_core.specs.History.{trace_of};
+ghost use Rattle.service_core.specs.RawScripts.{is_raw_script};
+
+use crate::draw::Canvas;
 use crate::history::History;
-use crate::pool::{Buffers, Place};
 use crate::step::{Step, StepName};
-use cam_types::{
-    BufferId, Command, FenceNo, Four, FrameNo, Item, Made, NoMemory, PART_COUNT, Part, Reply,
-    RequestId, Script, Settings, StreamIx, Word,
-};
+use crate::tables::{Tables, settings_of_request};
+use cam_types::{BufferId, FenceNo, FrameNo, NoMemory, Script, StreamIx};
 use std::alloc::Global;
-use trace_model::{Entry, Sent};
+use std::marker::Model;
+use trace_model::Entry;
 
-/// The time of the first shutter, in nanoseconds.
-const FIRST_SHUTTER: u64 = 1_000_000_000;
-
-/// The least time between two shutters, in nanoseconds.
-const FRAME_TIME: u64 = 33_333_333;
-
-/// An item that waits to be sent.
-#[derive(Clone, Copy)]
-struct Waiting {
-    request: RequestId,
-    item: Item,
-}
-
-/// The frame that the device works on.
-#[derive(Clone, Copy)]
-struct OpenFrame {
-    frame: FrameNo,
-    settings: Settings,
-    buffer: BufferId,
-    fence: Option<FenceNo>,
-    shutter: Option<u64>,
-    parts: u8,
-    is_returned: bool,
-}
-
-impl OpenFrame {
-    fn is_done(self) -> bool {
-        self.parts >= PART_COUNT && self.is_returned
-    }
-}
-
-/// The camera service, for scripts of one `configure` of a RAW16 stream, then `once` commands for it, then `close`.
+/// The camera service, for scripts of one RAW16 stream and requests for it: see `is_raw_script`. It has one frame at a
+/// time. A contract sees the script and the history, which is a run of the script whatever calls were made.
 #[derive(Drop)]
 pub struct Service {
     script: Script,
     history: History,
-    buffers: Buffers,
-    queue: Vec<Waiting>,
-    taken: usize,
-    calls: u32,
-    requests: u32,
-    frames: u32,
-    has_begun: bool,
-    open: Option<OpenFrame>,
-    last: Option<Settings>,
-    next_time: u64,
+    tables: Tables,
+    canvas: Option<Canvas>,
+}
+
+impl Model for Service {
+    ghost use Rattle.std.specs.Prelude.{◌≡◌, true, IfSome, IsSome, length};
+    ghost use Rattle.service_core.specs.Answers.{State};
+    ghost use Rattle.service_core.specs.Fit.{Fit, facts_of};
+    ghost use Rattle.service_core.specs.First.{IsFirstRun};
+    ghost use Rattle.service_core.specs.History.{trace_of};
+    ghost use Rattle.service_core.specs.RawScripts.{is_raw_script};
+    ghost use Rattle.std.specs.List.{list_all};
+    ghost use Rattle.trace_model.specs.Legal.{IsLegal};
+    ghost use Rattle.trace_model.specs.Printable.{is_printable};
+
+    ghost Value = { State };
+
+    ghost view = { λ s. record { script = s.script; history = s.history } };
+
+    ghost invariant = { λ s. (is_raw_script s.script ≡ true) × IsFirstRun s.script s.history × IsLegal s.script (trace_of s.history) × (list_all is_printable (trace_of s.history) ≡ true) × Fit s.script (trace_of s.history) (facts_of s.tables) × IsSome s.canvas × IfSome s.canvas (λ canvas. length canvas.block.items ≡ 38400) };
 }
 
 impl Service {
     /// The service before its first step.
-    pub fn open(alloc: Global, script: Script) -> Result<Service, NoMemory> {
+    pub fn open(alloc: Global, script: Script) -> Result<Service, NoMemory>
+        requires { IsTrue (is_raw_script script) }
+        ensures script { IfOk result (λ service. service.script ≡ script) }
+        ensures history { IfOk result (λ service. service.history ≡ []) }
+    {
         Ok(Service {
             script,
             history: History::new(alloc),
-            buffers: Buffers::new(Vec::new(alloc)),
-            queue: Vec::new(alloc),
-            taken: 0,
-            calls: 0,
-            requests: 0,
-            frames: 0,
-            has_begun: false,
-            open: None,
-            last: None,
-            next_time: FIRST_SHUTTER,
+            tables: Tables::new(alloc)?,
+            canvas: Some(Canvas::new(alloc)?),
         })
     }
 
     /// The trace so far, the oldest entry first.
-    pub fn trace(&self) -> &[Entry] {
+    pub fn trace(&self) -> &[Entry]
+        ensures { result.now ≡ reverse (trace_of self.now.history) }
+    {
         self.history.trace()
     }
 
-    /// Whether nothing is left to do: every command is answered, no item waits, no frame is open, every buffer is home and
-    /// every fence is signalled.
-    pub fn done(&self) -> bool {
-        self.calls >= self.script.commands.len()
-            && self.is_idle()
-            && self.buffers.all_home()
-            && self.buffers.all_signalled()
+    /// Whatever calls were made, the history is a run of the script, its trace is legal, and each entry has a line.
+    pub fn is_a_run(&self)
+        ensures run { IsFirstRun self.now.script self.now.history }
+        ensures legal { IsLegal self.now.script (trace_of self.now.history) }
+        ensures lines { list_all is_printable (trace_of self.now.history) ≡ true }
+    {
+        let _ = &self.script;
+    }
+
+    /// Whether the trace is complete.
+    pub fn done(&self) -> bool
+        ensures { IsTrue result ↔ IsComplete self.now.script (trace_of self.now.history) }
+    {
+        self.tables.calls == self.script.commands.len()
+            && (self.tables.is_home() && self.tables.has_all_signals())
     }
 
     /// Ends the service.
     pub fn scrap(self) {}
 
-    fn is_idle(&self) -> bool {
-        self.open.is_none() && self.taken >= self.queue.len()
+    /// Makes a step whose entry is due.
+    fn add(&mut self, step: StepName, entry: Entry) -> Step
+        requires { entry_of self.old.script (trace_of self.old.history) step ≡ Option.Some entry }
+        ensures { Answers (first_move_of self.old.script self.old.history step) self.old result self.new }
+    {
+        if self.history.push(step, entry).is_err() {
+            return Step::NoMemory;
+        }
+        self.tables.note(&self.script, entry);
+        Step::Did(entry)
+    }
+
+    /// Makes a step where it is ready.
+    fn make(&mut self, step: StepName, due: Option<Entry>) -> Step
+        requires { due ≡ entry_of self.old.script (trace_of self.old.history) step }
+        ensures { Answers (first_move_of self.old.script self.old.history step) self.old result self.new }
+    {
+        match due {
+            Some(entry) => self.add(step, entry),
+            None => Step::NotReady,
+        }
+    }
+
+    /// The `begin` or the `call` that is due.
+    fn due_client(&self) -> Option<Entry>
+        ensures { result ≡ entry_of self.now.script (trace_of self.now.history) StepName.Client }
+    {
+        let command = self.script.commands.get(self.tables.calls);
+        self.tables.due_client(command)
     }
 
     /// The client's next command begins or is answered.
-    pub fn client(&mut self) -> Step {
-        let waits = match self.script.commands.get(self.calls) {
-            None => return Step::NotReady,
-            Some(Command::Once(item)) => {
-                let item = *item;
-                return self.submit(item);
-            }
-            Some(Command::Configure(_)) => Word::Configure,
-            Some(_) => Word::Close,
-        };
-        if self.has_begun {
-            self.answer(waits)
-        } else {
-            self.begin(waits)
-        }
+    pub fn client(&mut self) -> Step
+        ensures { Answers (first_move_of self.old.script self.old.history StepName.Client) self.old result self.new }
+    {
+        let due = self.due_client();
+        self.make(StepName::Client, due)
     }
 
-    fn begin(&mut self, word: Word) -> Step {
-        let entry = Entry::Begin { word };
-        match self.history.push(StepName::Client, entry) {
-            Ok(()) => {
-                self.has_begun = true;
-                Step::Did(entry)
-            }
-            Err(_) => Step::NoMemory,
-        }
+    /// The next item is sent to the device, while it has no frame.
+    pub fn send(&mut self) -> Step
+        ensures { Answers (first_move_of self.old.script self.old.history StepName.Send) self.old result self.new }
+    {
+        let due = self.tables.due_send(&self.script);
+        self.make(StepName::Send, due)
     }
 
-    fn answer(&mut self, word: Word) -> Step {
-        if !self.is_idle() || !self.buffers.all_home() {
-            return Step::NotReady;
-        }
-        let reply = match word {
-            Word::Configure => Reply::Configured(Four {
-                a: Some(Made {
-                    first: BufferId(0),
-                    count: 5,
-                }),
-                b: None,
-                c: None,
-                d: None,
-            }),
-            _ => Reply::Ok,
-        };
-        self.call(word, reply)
-    }
-
-    fn submit(&mut self, item: Item) -> Step {
-        let request = RequestId(self.requests);
-        if self.queue.push(Waiting { request, item }).is_err() {
-            return Step::NoMemory;
-        }
-        let step = self.call(Word::Once, Reply::Submitted(request));
-        match step {
-            Step::Did(_) => self.requests = self.requests.saturating_add(1),
-            _ => {
-                let _ = self.queue.pop();
-            }
-        }
-        step
-    }
-
-    fn call(&mut self, word: Word, reply: Reply) -> Step {
-        let entry = Entry::Call {
-            index: self.calls,
-            word,
-            reply,
-        };
-        match self.history.push(StepName::Client, entry) {
-            Ok(()) => {
-                self.calls = self.calls.saturating_add(1);
-                self.has_begun = false;
-                Step::Did(entry)
-            }
-            Err(_) => Step::NoMemory,
-        }
-    }
-
-    /// Sends the next item to the device, where it has no frame open.
-    pub fn send(&mut self) -> Step {
-        if self.open.is_some() {
-            return Step::NotReady;
-        }
-        let Some(waiting) = self.queue.get(self.taken).copied() else {
-            return Step::NotReady;
-        };
-        let Some(buffer) = self.buffers.least_home() else {
-            return Step::NotReady;
-        };
-        self.send_with(waiting, buffer)
-    }
-
-    fn send_with(&mut self, waiting: Waiting, buffer: BufferId) -> Step {
-        let settings = waiting.item.settings;
-        let frame = FrameNo(self.frames);
-        let fence = self.buffers.fence_of(buffer);
-        let sent = Sent {
-            stream: StreamIx(0),
-            buffer,
-            fence,
-        };
-        let entry = Entry::Send {
-            frame,
-            request: waiting.request,
-            item: 0,
-            same: self.last == Some(settings),
-            targets: Four {
-                a: Some(sent),
-                b: None,
-                c: None,
-                d: None,
-            },
-        };
-        if self.history.push(StepName::Send, entry).is_err() {
-            return Step::NoMemory;
-        }
-        self.buffers.put(buffer, Place::Device, None);
-        self.taken = self.taken.saturating_add(1);
-        self.frames = self.frames.saturating_add(1);
-        self.last = Some(settings);
-        self.open = Some(OpenFrame {
-            frame,
-            settings,
-            buffer,
-            fence,
-            shutter: None,
-            parts: 0,
-            is_returned: false,
-        });
-        Step::Did(entry)
-    }
-
-    /// The exposure of the open frame begins.
-    pub fn shutter(&mut self) -> Step {
-        let Some(row) = self.open else {
-            return Step::NotReady;
-        };
-        if row.shutter.is_some() {
-            return Step::NotReady;
-        }
-        let time = self.next_time;
-        let entry = Entry::Shutter {
-            frame: row.frame,
-            time,
-        };
-        if self.history.push(StepName::Shutter, entry).is_err() {
-            return Step::NoMemory;
-        }
-        self.next_time = time.saturating_add(row.settings.exposure.max(FRAME_TIME));
-        self.keep(OpenFrame {
-            shutter: Some(time),
-            ..row
-        });
-        Step::Did(entry)
+    /// The exposure of the frame begins.
+    pub fn shutter(&mut self) -> Step
+        ensures { Answers (first_move_of self.old.script self.old.history StepName.Shutter) self.old result self.new }
+    {
+        let due = self.tables.due_shutter();
+        self.make(StepName::Shutter, due)
     }
 
     /// The next metadata result of a frame.
-    pub fn partial(&mut self, frame: FrameNo) -> Step {
-        let Some(row) = self.open else {
-            return Step::NotReady;
-        };
-        let Some(timestamp) = row.shutter else {
-            return Step::NotReady;
-        };
-        if row.frame != frame || row.parts >= PART_COUNT {
-            return Step::NotReady;
-        }
-        let number = row.parts + 1;
-        let entry = Entry::Partial {
-            frame,
-            number,
-            part: part_of(number, row.settings, timestamp),
-        };
-        if self.history.push(StepName::Partial(frame), entry).is_err() {
-            return Step::NoMemory;
-        }
-        self.keep(OpenFrame {
-            parts: number,
-            ..row
-        });
-        Step::Did(entry)
+    pub fn partial(&mut self, frame: FrameNo) -> Step
+        ensures { Answers (first_move_of self.old.script self.old.history (StepName.Partial frame)) self.old result self.new }
+    {
+        let due = self.tables.due_partial(&self.script, frame);
+        self.make(StepName::Partial(frame), due)
     }
 
-    /// Draws the picture of a frame for a stream and gives the buffer to the client.
-    pub fn deliver(&mut self, frame: FrameNo, stream: StreamIx) -> Step {
-        let Some(row) = self.open else {
-            return Step::NotReady;
-        };
-        let is_passed = match row.fence {
-            None => true,
-            Some(fence) => self.buffers.is_signalled(fence),
-        };
-        if row.frame != frame
-            || stream.0 != 0
-            || row.shutter.is_none()
-            || row.is_returned
-            || !is_passed
-        {
-            return Step::NotReady;
+    /// The filled buffer of a frame that is due, with its picture.
+    fn due_filled(&mut self, frame: FrameNo, stream: StreamIx) -> Option<Entry>
+        ensures value { result ≡ entry_of self.old.script (trace_of self.old.history) (StepName.Deliver frame stream) }
+        ensures same { self.new ≡ self.old }
+    {
+        if !self.tables.is_deliverable(frame, stream) {
+            return None;
         }
-        let entry = Entry::Filled {
-            frame,
-            stream,
-            buffer: row.buffer,
-            fence: None,
-            digest: raw_digest(row.settings, frame),
-        };
-        if self
-            .history
-            .push(StepName::Deliver(frame, stream), entry)
-            .is_err()
-        {
-            return Step::NoMemory;
+        let settings = settings_of_request(&self.script, frame.0);
+        match self.canvas.take() {
+            None => None,
+            Some(canvas) => {
+                let (digest, canvas) = canvas.draw(settings, frame);
+                self.canvas = Some(canvas);
+                Some(Entry::Filled {
+                    frame,
+                    stream,
+                    buffer: self.tables.buffer,
+                    fence: None,
+                    digest,
+                })
+            }
         }
-        self.buffers.put(row.buffer, Place::Client, None);
-        self.keep(OpenFrame {
-            is_returned: true,
-            ..row
-        });
-        Step::Did(entry)
     }
 
-    /// Keeps the open frame as it is now, or closes it where it is done.
-    fn keep(&mut self, row: OpenFrame) {
-        self.open = if row.is_done() { None } else { Some(row) };
+    /// Makes the picture of a frame for a stream, and gives the buffer to the client.
+    pub fn deliver(&mut self, frame: FrameNo, stream: StreamIx) -> Step
+        ensures { Answers (first_move_of self.old.script self.old.history (StepName.Deliver frame stream)) self.old result self.new }
+    {
+        let due = self.due_filled(frame, stream);
+        self.make(StepName::Deliver(frame, stream), due)
     }
 
     /// The client gives a buffer back, with a fence.
-    pub fn release(&mut self, buffer: BufferId) -> Step {
-        if !self.buffers.is_at(buffer, Place::Client) {
-            return Step::NotReady;
-        }
-        let Some(fence) = self.buffers.next_fence() else {
-            return Step::NoMemory;
-        };
-        let entry = Entry::Release { buffer, fence };
-        if self.buffers.add_fence().is_err() {
-            return Step::NoMemory;
-        }
-        if self.history.push(StepName::Release(buffer), entry).is_err() {
-            self.buffers.drop_fence();
-            return Step::NoMemory;
-        }
-        self.buffers.put(buffer, Place::Pool, Some(fence));
-        Step::Did(entry)
+    pub fn release(&mut self, buffer: BufferId) -> Step
+        ensures { Answers (first_move_of self.old.script self.old.history (StepName.Release buffer)) self.old result self.new }
+    {
+        let due = self.tables.due_release(buffer);
+        self.make(StepName::Release(buffer), due)
     }
 
     /// The client signals a fence.
-    pub fn signal(&mut self, fence: FenceNo) -> Step {
-        if !self.buffers.is_waiting(fence) {
-            return Step::NotReady;
-        }
-        let entry = Entry::Signal { fence };
-        if self.history.push(StepName::Signal(fence), entry).is_err() {
-            return Step::NoMemory;
-        }
-        self.buffers.signal(fence);
-        Step::Did(entry)
+    pub fn signal(&mut self, fence: FenceNo) -> Step
+        ensures { Answers (first_move_of self.old.script self.old.history (StepName.Signal fence)) self.old result self.new }
+    {
+        let due = self.tables.due_signal(fence);
+        self.make(StepName::Signal(fence), due)
     }
-}
 
-/// One of the three metadata results.
-fn part_of(number: u8, settings: Settings, timestamp: u64) -> Part {
-    match number {
-        1 => Part::Look {
-            pattern: settings.pattern,
-            level: settings.level,
-        },
-        2 => Part::Light {
-            exposure: settings.exposure,
-            iso: settings.iso,
-        },
-        _ => Part::Time { timestamp },
+    // ---- runs
+
+    /// The step that the script's next pick chooses among those that are ready.
+    pub fn chosen(&self) -> Option<StepName>
+        ensures { result ≡ first_chosen self.now.script self.now.history }
+    {
+        let command = self.script.commands.get(self.tables.calls);
+        self.tables.first(&self.script, command)
+    }
+
+    /// Makes a step by its name.
+    pub fn step(&mut self, step: StepName) -> Step
+        ensures { Answers (first_move_of self.old.script self.old.history step) self.old result self.new }
+    {
+        match step {
+            StepName::Send => self.send(),
+            StepName::Release(buffer) => self.release(buffer),
+            StepName::Signal(fence) => self.signal(fence),
+            StepName::Client => self.client(),
+            StepName::Shutter => self.shutter(),
+            StepName::Partial(frame) => self.partial(frame),
+            StepName::Deliver(frame, stream) => self.deliver(frame, stream),
+            StepName::DropQueued => Step::NotReady,
+            StepName::Fail(_) => Step::NotReady,
+            StepName::ReturnFailed(_, _) => Step::NotReady,
+            StepName::SensorDone(_) => Step::NotReady,
+            StepName::TakeFill(_, _) => Step::NotReady,
+            StepName::FillDone(_, _) => Step::NotReady,
+        }
     }
 }

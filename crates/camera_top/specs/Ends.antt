@@ -1,0 +1,12 @@
+use Rattle.std.specs.Prelude.{List}
+use Rattle.cam_types.specs.declared.script.Script.{Script}
+use Rattle.service_core.specs.First.{IsFirstPlayedRun, IsFirstStuck}
+use Rattle.service_core.specs.declared.step.Move.{Move}
+use Rattle.camera_top.specs.declared.play.Ended.{Ended}
+use Rattle.camera_top.specs.declared.play.Ended.TheVariants.{Complete, Unfinished, NoMemory}
+
+-- how a run ended
+abbrev pub EndsAs : Ended → Script → List Move → Type 0
+EndsAs Complete script h = IsFirstPlayedRun script h
+EndsAs Unfinished script h = IsFirstStuck script h
+EndsAs NoMemory script h = Unit {0}

@@ -1,0 +1,16 @@
+pub mod Lists
+pub mod RawLemmas
+pub mod Plain
+pub mod FitSteps
+pub mod Queue
+pub mod Frames
+pub mod Due
+pub mod Sending
+pub mod Answering
+pub mod Ending
+pub mod Steps
+pub mod Tabled
+pub mod Drawing
+pub mod Opening
+pub mod Choosing
+pub mod Printing

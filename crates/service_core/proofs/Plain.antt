@@ -1,0 +1,73 @@
+-- What doesn't stand in a plain trace: no errors, no drops, no stop, no repeating list.
+use Rattle.std.proofs.Common.{◌≡◌, ℕ, ◌==◌, Bool, true, false, ◌&&◌, ◌||◌, not, List, [], ◌∷◌, Option, Some, None, refl, sym, ap, ◌∙◌, arith}
+use Rattle.std.specs.List.{list_any, list_all}
+use Rattle.std.proofs.lemmas.Bool.{cases_Bool, false≢true}
+use Rattle.cam_types.specs.declared.reply.Reply.{Reply}
+use Rattle.cam_types.specs.declared.reply.Reply.TheVariants.{Ok, Submitted, Configured, Refused}
+use Rattle.cam_types.specs.declared.script.Script.{Script}
+use Rattle.cam_types.specs.declared.script.Word.{Word}
+use Rattle.cam_types.specs.declared.script.Word.TheVariants.{Configure, Once, Burst, Repeat, Stop, Wait, Await, Flush, Close, Disconnect}
+use Rattle.trace_model.specs.declared.entry.Entry.{Entry}
+use Rattle.trace_model.specs.declared.entry.Entry.TheVariants.{Begin, Call, Send, Dropped, Shutter, Partial, Filled, Failed, ErrorRequest, ErrorResult, ErrorBuffer, ErrorDevice, Release, Signal}
+use Rattle.trace_model.specs.Calls.{begun}
+use Rattle.trace_model.specs.Entry.{is_error_device, is_error_of, is_error_request, is_error_result, is_error_buffer}
+use Rattle.trace_model.specs.Queue.{repeating}
+use Rattle.trace_model.specs.Stopping.{is_stopping, stops_by, has_failed}
+use Rattle.service_core.specs.Fit.{is_plain, is_raw_call}
+use Rattle.service_core.proofs.Lists.{and_parts}
+
+-- a test that no plain entry passes
+pub none-plain : (p : Entry → Bool) (past : List Entry) → ((e : Entry) → is_plain e ≡ true → p e ≡ false) → list_all is_plain past ≡ true → list_any p past ≡ false
+none-plain p [] h all = refl
+none-plain p (e ∷ past) h all = let parts = and_parts (is_plain e) (list_all is_plain past) all in rw (h e parts.0) (none-plain p past h parts.1)
+
+pub no-device-error : (e : Entry) → is_plain e ≡ true → is_error_device e ≡ false
+no-device-error ErrorDevice h = absurd (false≢true h)
+no-device-error _ h = refl
+
+pub no-error : (n : ℕ) (e : Entry) → is_plain e ≡ true → is_error_of n e ≡ false
+no-error n (ErrorRequest m) h = absurd (false≢true h)
+no-error n (ErrorResult m) h = absurd (false≢true h)
+no-error n (ErrorBuffer m s) h = absurd (false≢true h)
+no-error n _ h = refl
+
+pub no-error-request : (n : ℕ) (e : Entry) → is_plain e ≡ true → is_error_request n e ≡ false
+no-error-request n (ErrorRequest m) h = absurd (false≢true h)
+no-error-request n _ h = refl
+
+pub no-error-result : (n : ℕ) (e : Entry) → is_plain e ≡ true → is_error_result n e ≡ false
+no-error-result n (ErrorResult m) h = absurd (false≢true h)
+no-error-result n _ h = refl
+
+pub no-error-buffer : (n s : ℕ) (e : Entry) → is_plain e ≡ true → is_error_buffer n s e ≡ false
+no-error-buffer n s (ErrorBuffer m t) h = absurd (false≢true h)
+no-error-buffer n s _ h = refl
+
+raw-call-goes-on : (word : Word) → is_raw_call word ≡ true → stops_by (Some word) ≡ false
+raw-call-goes-on Flush h = absurd (false≢true h)
+raw-call-goes-on Disconnect h = absurd (false≢true h)
+raw-call-goes-on _ h = refl
+
+begun-goes-on : (past : List Entry) → list_all is_plain past ≡ true → stops_by (begun past) ≡ false
+begun-goes-on [] h = refl
+begun-goes-on (Begin word ∷ past) h = raw-call-goes-on word (and_parts (is_raw_call word) (list_all is_plain past) h).0
+begun-goes-on (Call i w r ∷ past) h = refl
+begun-goes-on (e ∷ past) h = begun-goes-on past (and_parts (is_plain e) (list_all is_plain past) h).1
+
+-- nothing stops a plain trace
+pub goes-on : (past : List Entry) → list_all is_plain past ≡ true → is_stopping past ≡ false
+goes-on past h = rw (begun-goes-on past h) (none-plain is_error_device past no-device-error h)
+
+no-repeat : (script : Script) (i : ℕ) (word : Word) (reply : Reply) (past : List Entry) → is_plain (Call i word reply) ≡ true → repeating script past ≡ None → repeating script (Call i word reply ∷ past) ≡ None
+no-repeat script i Configure (Configured m) past h none = refl
+no-repeat script i Once (Submitted r) past h none = none
+no-repeat script i Close Ok past h none = refl
+no-repeat script i word reply past h none = absurd (false≢true h)
+
+-- nothing repeats in a plain trace
+pub nothing-repeats : (script : Script) (past : List Entry) → list_all is_plain past ≡ true → repeating script past ≡ None
+nothing-repeats script [] h = refl
+nothing-repeats script (Call i word reply ∷ past) h =
+    let parts = and_parts (is_plain (Call i word reply)) (list_all is_plain past) h in
+    no-repeat script i word reply past parts.0 (nothing-repeats script past parts.1)
+nothing-repeats script (e ∷ past) h = nothing-repeats script past (and_parts (is_plain e) (list_all is_plain past) h).1

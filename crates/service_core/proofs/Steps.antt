@@ -1,0 +1,249 @@
+-- An entry that a step adds is allowed, and leaves the tables in order.
+use Rattle.std.proofs.Common.{◌≡◌, ℕ, zero, suc, ◌==◌, ◌+◌, ◌*◌, ◌<◌, ◌≤◌, ◌⊎◌, Bool, true, false, ◌&&◌, ◌||◌, not, List, [], ◌∷◌, Option, Some, None, refl, sym, ap, ◌∙◌, arith, inl, inr, nat_lt, length, position, slice_index_or, count_by, is_some, add-one, if◌then◌else◌}
+use Rattle.std.proofs.lemmas.Bool.{cases_Bool, cases_lt, cases_eq, false≢true}
+use Rattle.std.proofs.lemmas.Bool.Decides.{nat_tests}
+use Rattle.std.proofs.lemmas.List.Quantifiers.{position-Some}
+use Rattle.cam_types.specs.declared.number.BufferId.{BufferId}
+use Rattle.cam_types.specs.declared.number.FenceNo.{FenceNo}
+use Rattle.cam_types.specs.declared.script.Script.{Script}
+use Rattle.cam_types.specs.declared.script.Word.{Word}
+use Rattle.trace_model.specs.declared.entry.Entry.{Entry}
+use Rattle.trace_model.specs.declared.entry.Entry.TheVariants as trace
+use Rattle.trace_model.specs.Allowed.{IsAllowed}
+use Rattle.trace_model.specs.Calls.{command_at, begun, is_waiting, next_command, word_of}
+use Rattle.trace_model.specs.Client.{begin_due, begin_of, call_due, call_of, may_answer}
+use Rattle.trace_model.specs.Filled.{filled_due}
+use Rattle.trace_model.specs.Frames.{no_settings}
+use Rattle.trace_model.specs.Numbers.{call_count}
+use Rattle.trace_model.specs.Partial.{partial_due}
+use Rattle.trace_model.specs.Picture.{digest}
+use Rattle.trace_model.specs.Printable.{is_printable}
+use Rattle.trace_model.specs.Reply.{reply}
+use Rattle.std.specs.List.{list_all}
+use Rattle.cam_types.specs.declared.script.Word.TheVariants.{Once as WordOnce}
+use Rattle.service_core.proofs.Printing.{call-prints, fence-fits, filled-prints, part-fits, release-prints, send-prints, shutter-prints, small-number}
+use Rattle.trace_model.specs.Send.{are_last}
+use Rattle.cam_types.specs.Metadata.{part_at}
+use Rattle.cam_types.specs.declared.number.FrameNo.{FrameNo}
+use Rattle.cam_types.specs.declared.number.RequestId.{RequestId}
+use Rattle.cam_types.specs.declared.part.Part.{Part}
+use Rattle.cam_types.specs.declared.reply.Reply.{Reply}
+use Rattle.cam_types.specs.declared.reply.Reply.TheVariants.{Ok, Submitted, Configured}
+use Rattle.cam_types.specs.declared.script.Command.{Command}
+use Rattle.cam_types.specs.declared.script.Word.TheVariants.{Configure as WordConfigure, Close as WordClose}
+use Rattle.service_core.specs.declared.step.StepName.{StepName}
+use Rattle.service_core.specs.declared.step.StepName.TheVariants.{Send, Release, Signal, Client, DropQueued, Fail, ReturnFailed, Shutter, SensorDone, Partial, TakeFill, FillDone, Deliver}
+use Rattle.service_core.specs.declared.tables.Place.{Place}
+use Rattle.service_core.specs.declared.tables.Place.TheVariants.{Pool, Device, Client as AtClient}
+use Rattle.service_core.specs.First.{entry_of}
+use Rattle.service_core.specs.Ready.{or_entry}
+use Rattle.service_core.specs.Fit.{Facts, Fit, IsSmall, is_client, item_for, settings_for, noted, once_item, raw_made, raw_spec, settings_before}
+use Rattle.service_core.specs.RawScripts.{requests_in}
+use Rattle.service_core.specs.Due.{is_pool, is_home, passed, sent_with}
+use Rattle.service_core.proofs.Answering.{Stage, stage, client-configure-begin, client-configure-call, client-once, client-close-begin, client-close-call, client-close-wait, client-end}
+use Rattle.service_core.proofs.Due.{release-is, signal-is, shutter-yes, shutter-no, partial-yes, partial-no, filled-yes, filled-no}
+use Rattle.service_core.proofs.FitSteps.{few-requests, fit-begin, fit-configure, fit-once, fit-close, fit-send, fit-shutter, fit-part, fit-third, fit-filled, fit-release, fit-signal}
+use Rattle.service_core.proofs.Lists.{and_parts, index-within}
+use Rattle.service_core.proofs.RawLemmas.{IsRaw, in-range, short-exposure}
+use Rattle.service_core.proofs.Sending.{send-yes, send-busy, send-none, send-allowed}
+
+if-some : (b : Bool) (x e : Entry) → (if b then Some x else None) ≡ Some e → (b ≡ true) × (x ≡ e)
+if-some true x e h = (refl, cc)
+if-some false x e h = absurd (cc)
+
+same-entry : {x e : Entry} → Some x ≡ Some e → x ≡ e
+same-entry h = cc
+
+client-only : (p : Place) → is_client p ≡ true → p ≡ AtClient
+client-only Pool h = absurd (false≢true h)
+client-only Device h = absurd (false≢true h)
+client-only AtClient h = refl
+
+pool-only : (p : Place) → is_pool p ≡ true → p ≡ Pool
+pool-only Pool h = refl
+pool-only Device h = absurd (false≢true h)
+pool-only AtClient h = absurd (false≢true h)
+
+module _ (script : Script) (past : List Entry) (t : Facts) (raw : IsRaw script) (fit : Fit script past t) (printed : list_all is_printable past ≡ true) where
+  -- the tables' numbers are small
+  pub small : IsSmall script t
+  small =
+      let few = few-requests script past t fit in
+      let o = fit.order in
+      let all = raw.few in
+      let a = o.sent in
+      let b = o.shutters in
+      let c = o.ended in
+      let d = o.returned in
+      let f = o.clients in
+      let g = o.slow in
+      record {
+        calls = called (requests_in script) t.calls t.requests all fit.are_calls;
+        requests = omega (arith, few, all);
+        sent = omega (arith, a, few, all);
+        shutters = omega (arith, a, b, few, all);
+        ended = omega (arith, a, b, c, few, all);
+        returned = omega (arith, a, b, d, few, all);
+        released = omega (arith, a, b, d, f, few, all);
+        parts = o.parts;
+        next_time = omega (arith, a, b, g, few, all);
+        exposure = exposure' (omega (arith, a, b, few));
+      }
+    where
+      called : (k calls requests : ℕ) → k ≤ 32 → Rattle.service_core.specs.Fit.AreCalls k calls requests → calls ≤ 34
+      called k calls requests l (inl c) = omega (arith, c.0)
+      called k calls requests l (inr (inl c)) = omega (arith, c.0, c.1, l)
+      called k calls requests l (inr (inr c)) = omega (arith, c.0, l)
+
+      exposure' : t.shutters ≤ requests_in script → (settings_for script t.shutters).exposure ≤ 100000000
+      exposure' l = elim (cases_lt t.shutters (requests_in script)) [
+        | inl less ↦ short-exposure (settings_for script t.shutters) (in-range (item_for script t.shutters) (raw.item t.shutters less))
+        | inr more ↦ (let e : t.shutters ≡ requests_in script = omega arith in let close : command_at script (suc t.shutters) ≡ Some Rattle.cam_types.specs.declared.script.Command.TheVariants.Close = rw (e, ← add-one) raw.close in let none : settings_for script t.shutters ≡ no_settings = ap (λ c. (once_item c).settings) close in rw none (omega arith))
+      ]
+
+  small-time : t.time ≤ 4200000000
+  small-time = let a = small.next_time in let b = fit.order.clock in omega arith
+
+  -- the entry is allowed, the tables stay in order, and it has a line
+  abbrev pub Goes : Entry → Type 0
+  Goes e = IsAllowed script past e × Fit script (e ∷ past) (noted script e t) × (is_printable e ≡ true)
+
+  step-release : (b : BufferId) (e : Entry) → entry_of script past (Release b) ≡ Some e → Goes e
+  step-release b e h =
+      let due = if-some (is_client (slice_index_or t.places b.0 Pool)) _ e (sym (release-is script past t fit b) ∙ h) in
+      let there = client-only (slice_index_or t.places b.0 Pool) due.0 in
+      let within : b.0 < 5 = elim (cases_lt b.0 5) [
+        | inl l ↦ l
+        | inr m ↦ absurd (let d = index-within t.places b.0 Pool (rw fit.order.places m) in let e' : Pool ≡ AtClient = sym d ∙ there in cc)
+      ] in
+      rw (← due.1) (h ∙ ap Some (sym due.1), fit-release script past t b within there fit, release-prints b t.released within small.released)
+
+  step-signal : (f : FenceNo) (e : Entry) → entry_of script past (Signal f) ≡ Some e → Goes e
+  step-signal f e h =
+      let due = if-some (nat_lt f.0 t.released && not (slice_index_or t.signalled f.0 false)) _ e (sym (signal-is script past t fit f) ∙ h) in
+      let l : f.0 < t.released = (let p = and_parts (nat_lt f.0 t.released) (not (slice_index_or t.signalled f.0 false)) due.0 in grind (arith, nat_tests)) in
+      rw (← due.1) (h ∙ ap Some (sym due.1), fit-signal script past t f l small.released fit, small-number f.0 (let few = small.released in omega arith))
+
+  step-shutter : (e : Entry) → entry_of script past Shutter ≡ Some e → Goes e
+  step-shutter e h = elim (cases_lt t.shutters t.sent) [
+    | inl l ↦ (let yes' = shutter-yes script past t raw fit l in let is = same-entry (sym yes' ∙ h) in rw (← is) (yes', fit-shutter script past t raw l fit, shutter-prints t.shutters t.next_time small.shutters small.next_time))
+    | inr m ↦ absurd (let known = sym (shutter-no script past t raw fit m) ∙ h in cc)
+  ]
+
+  part-noted : (n : FrameNo) (k : ℕ) (part : Part) → t.parts < 2 → noted script (trace.Partial n k part) t ≡ record t { parts = t.parts + 1 }
+  part-noted n k part l = let no' : (t.parts == 2) ≡ false = grind (arith, nat_tests) in rw no' refl
+
+  third-noted : (n : FrameNo) (k : ℕ) (part : Part) → t.parts ≡ 2 → noted script (trace.Partial n k part) t ≡ record t { ended = t.ended + 1; parts = 0 }
+  third-noted n k part two = rw two refl
+
+  step-partial : (n : ℕ) (e : Entry) → partial_due script past n ≡ Some e → Goes e
+  step-partial n e h = elim (cases_Bool ((n == t.ended) && nat_lt n t.shutters)) [
+    | inl y ↦ (let at : n ≡ t.ended = grind (arith, nat_tests) in let l : t.ended < t.shutters = grind (arith, nat_tests) in due at l)
+    | inr no' ↦ absurd (let known = sym (partial-no script past t raw fit n no') ∙ h in cc)
+  ]
+    where
+      due : n ≡ t.ended → t.ended < t.shutters → Goes e
+      due at l =
+          let yes' = partial-yes script past t raw fit l in
+          let is = same-entry (sym yes' ∙ rw at at h) in
+          let few = fit.order.parts in
+          let within : t.ended < requests_in script = (let a = fit.order.shutters in let b = fit.order.sent in let c = few-requests script past t fit in omega arith) in
+          let range = in-range (item_for script t.ended) (raw.item t.ended within) in
+          rw (← is) (
+            yes',
+            elim (cases_lt t.parts 2) [
+              | inl less ↦ rw (part-noted (record { 0 = t.ended }) (t.parts + 1) (part_at (t.parts + 1) (settings_for script t.ended) t.time) less) (fit-part script past t (t.parts + 1) (part_at (t.parts + 1) (settings_for script t.ended) t.time) refl less l fit)
+              | inr more ↦ (let two : t.parts ≡ 2 = omega (arith, few) in let three : t.parts + 1 ≡ 3 = omega arith in rw (third-noted (record { 0 = t.ended }) (t.parts + 1) (part_at (t.parts + 1) (settings_for script t.ended) t.time) two, three) (fit-third script past t (part_at 3 (settings_for script t.ended) t.time) two l fit))
+            ],
+            rw (small-number t.ended (let few' = small.ended in omega arith), part-fits (t.parts + 1) (settings_for script t.ended) t.time (omega arith) (omega (arith, few)) range small-time) refl,
+          )
+
+  step-deliver : (n s : ℕ) (e : Entry) → filled_due script past n s ≡ Some e → Goes e
+  step-deliver n s e h = elim (cases_Bool ((n == t.returned) && (nat_lt n t.shutters && ((s == 0) && passed t t.fence)))) [
+    | inl y ↦ (let a = and_parts (n == t.returned) (nat_lt n t.shutters && ((s == 0) && passed t t.fence)) y in
+        let b = and_parts (nat_lt n t.shutters) ((s == 0) && passed t t.fence) a.1 in
+        let c = and_parts (s == 0) (passed t t.fence) b.1 in
+        let at : n ≡ t.returned = grind (arith, nat_tests) in
+        let stream : s ≡ 0 = grind (arith, nat_tests) in
+        let l : t.returned < t.shutters = grind (arith, nat_tests) in
+        due at stream l c.1)
+    | inr no' ↦ absurd (let known = sym (filled-no script past t raw fit n s no') ∙ h in cc)
+  ]
+    where
+      due : n ≡ t.returned → s ≡ 0 → t.returned < t.shutters → passed t t.fence ≡ true → Goes e
+      due at stream l pass =
+          let yes' = filled-yes script past t raw fit l pass in
+          let is = same-entry (sym yes' ∙ rw (at, stream) at h) in
+          rw (← is) (yes', fit-filled script past t (digest raw_spec (settings_for script t.returned) t.returned) l fit, filled-prints t.returned t.buffer raw_spec (settings_for script t.returned) t.returned small.returned fit.order.buffer)
+
+  -- ---- the client
+
+  begin-shape : (o : Option Command) (e : Entry) → begin_of past o ≡ Some e → (word : Word) × (e ≡ trace.Begin word)
+  begin-shape None e h = absurd (cc)
+  begin-shape (Some c) e h = (word_of c, sym (if-some (is_waiting c && not (is_some (begun past))) _ e h).1)
+
+  call-shape : (o : Option Command) (e : Entry) → call_of script past o ≡ Some e → (i : ℕ) × (word : Word) × (r : Reply) × (e ≡ trace.Call i word r)
+  call-shape None e h = absurd (cc)
+  call-shape (Some c) e h = (call_count past, word_of c, reply script past c, sym (if-some (may_answer script past c) _ e h).1)
+
+  client-allowed : (x : Option Entry) (e : Entry) → begin_due script past ≡ x → or_entry x (call_due script past) ≡ Some e → IsAllowed script past e
+  client-allowed (Some d) e b h =
+      let is = same-entry h in
+      let shape = begin-shape (next_command script past) d b in
+      rw (← is, shape.1) (b ∙ ap Some shape.1)
+  client-allowed None e b h = let shape = call-shape (next_command script past) e h in rw shape.3 (h ∙ ap Some shape.3)
+
+  step-client : (e : Entry) → entry_of script past Client ≡ Some e → Goes e
+  step-client e h = (client-allowed (begin_due script past) e refl h, (at (stage script past t raw fit) t.begun refl).0, (at (stage script past t raw fit) t.begun refl).1)
+    where
+      end : {x : Entry} → entry_of script past Client ≡ Some x → Fit script (x ∷ past) (noted script x t) → is_printable x ≡ true → Fit script (e ∷ past) (noted script e t) × (is_printable e ≡ true)
+      end known good prints = let is = same-entry (sym known ∙ h) in rw (← is) (good, prints)
+
+      at : Stage script t → (begun : Option Word) → t.begun ≡ begun → Fit script (e ∷ past) (noted script e t) × (is_printable e ≡ true)
+      at (inl c) None b = end (client-configure-begin script past t raw fit c.0 b) (fit-begin script past t WordConfigure refl fit) refl
+      at (inl c) (Some w) b = end (client-configure-call script past t raw fit w c.0 b) (fit-configure script past t t.calls raw refl c.0 fit) (call-prints t.calls WordConfigure (Configured (record { a = Some raw_made; b = None; c = None; d = None })) small.calls refl)
+      at (inr (inl c)) b' b = end (client-once script past t raw fit c.0 c.1 c.2) (fit-once script past t t.calls (record { 0 = t.requests }) refl refl c.0 c.1 fit) (call-prints t.calls WordOnce (Submitted (record { 0 = t.requests })) small.calls (small-number t.requests (let few = small.requests in omega arith)))
+      at (inr (inr (inl c))) None b = end (client-close-begin script past t raw fit c.2 b) (fit-begin script past t WordClose refl fit) refl
+      at (inr (inr (inl c))) (Some w) b = elim (cases_Bool (is_home t)) [
+        | inl home ↦ end (client-close-call script past t raw fit w c.0 c.2 b home) (fit-close script past t t.calls refl c.0 c.1 fit) (call-prints t.calls WordClose Ok small.calls refl)
+        | inr away ↦ absurd (let known = sym (client-close-wait script past t raw fit w c.0 c.2 b away) ∙ h in cc)
+      ]
+      at (inr (inr (inr c))) b' b = absurd (let known = sym (client-end script past t raw fit c.2) ∙ h in cc)
+
+  -- ---- sends
+
+  step-send : (e : Entry) → entry_of script past Send ≡ Some e → Goes e
+  step-send e h =
+      let o = fit.order in let ended = o.ended in let shutters = o.shutters in let returned = o.returned in
+      elim (cases_eq t.ended t.sent) [
+        | inl en ↦ elim (cases_eq t.returned t.sent) [
+          | inl re ↦ elim (cases_lt t.sent t.requests) [
+            | inl l ↦ due en re l (position is_pool t.places) refl
+            | inr m ↦ absurd (let known = sym (send-none script past t raw fit m) ∙ h in cc)
+          ]
+          | inr nr ↦ absurd (let known = sym (send-busy script past t raw fit (inr (omega arith))) ∙ h in cc)
+        ]
+        | inr ne ↦ absurd (let known = sym (send-busy script past t raw fit (inl (omega arith))) ∙ h in cc)
+      ]
+    where
+      due : t.ended ≡ t.sent → t.returned ≡ t.sent → t.sent < t.requests → (o : Option ℕ) → position is_pool t.places ≡ o → Goes e
+      due en re l None p = absurd (let known = sym (send-yes script past t raw fit en re l) ∙ h in let p' = rw p at known in cc)
+      due en re l (Some b) p =
+          let found = position-Some is_pool t.places b Pool p in
+          let home = pool-only (slice_index_or t.places b Pool) found.1 in
+          let within : b < 5 = (let f = found.0 in rw fit.order.places at f) in
+          let known = rw p at (sym (send-yes script past t raw fit en re l) ∙ h) in
+          let is = same-entry known in
+          rw (← is) (send-allowed script past t raw fit (record { 0 = b }) en re l within home, fit-send script past t (are_last (settings_before script t.sent) (settings_for script t.sent)) (record { 0 = b }) (slice_index_or t.fences b None) raw l en re within home fit, send-prints t.sent (are_last (settings_before script t.sent) (settings_for script t.sent)) (record { 0 = b }) (slice_index_or t.fences b None) small.sent within (rw (fit.fences b) at (fence-fits b past printed)))
+
+  -- ---- any step
+
+  pub goes : (step : StepName) (e : Entry) → entry_of script past step ≡ Some e → Goes e
+  goes Send e h = step-send e h
+  goes (Release b) e h = step-release b e h
+  goes (Signal f) e h = step-signal f e h
+  goes Client e h = step-client e h
+  goes Shutter e h = step-shutter e h
+  goes (Partial n) e h = step-partial n.0 e h
+  goes (Deliver n s) e h = step-deliver n.0 s.0 e h
+  goes _ e h = absurd (cc)

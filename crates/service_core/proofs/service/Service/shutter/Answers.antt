@@ -1,0 +1,9 @@
+use Rattle.std.proofs.Common.{◌≡◌, ◌∙◌, ◌∷◌, Some, None, refl, sym, ap, arith}
+use Rattle.service_core.specs.Fit.{facts_of}
+use Rattle.service_core.specs.History.{trace_of}
+use Rattle.service_core.proofs.RawLemmas.{raw}
+use Rattle.service_core.proofs.Tabled.{shutter-is}
+use Rattle.service_core.proofs.service.Service.shutter.Goals as goal
+
+pub make-requires : goal.make-requires
+make-requires c = rw (← c.self.view_is) (c.due_shutter-due.ensures ∙ sym (shutter-is c.self.inside.script (trace_of c.self.inside.history) (facts_of c.self.inside.tables) (raw c.self.inside.script c.self.invariant.0) c.self.invariant.4))

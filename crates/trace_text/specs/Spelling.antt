@@ -1,0 +1,118 @@
+-- The one spelling of a trace: our own choice. (docs/FORMATS.md, trace text)
+use Rattle.std.specs.Prelude.{ℕ, ◌+◌, Bool, true, false, List, [], ◌∷◌, ◌++◌, Option, Some, None, map, option_to_list, codes, decimal}
+use Rattle.std.specs.List.{flat_map, join_by}
+use Rattle.cam_types.specs.Four.{four_list}
+use Rattle.cam_types.specs.declared.number.FenceNo.{FenceNo}
+use Rattle.cam_types.specs.declared.part.Part.{Part}
+use Rattle.cam_types.specs.declared.reply.Made.{Made}
+use Rattle.cam_types.specs.declared.reply.Reply.{Reply}
+use Rattle.cam_types.specs.declared.reply.Reply.TheVariants.{Ok, Submitted, Configured, Refused}
+use Rattle.cam_types.specs.declared.script.Word.{Word}
+use Rattle.cam_types.specs.declared.script.Word.TheVariants.{Configure, Once, Burst, Repeat, Stop, Wait, Await, Flush, Close, Disconnect}
+use Rattle.hex.specs.Hex.{encode_lower}
+use Rattle.meta_rules.specs.Parts.{part_entries}
+use Rattle.metadata.specs.Spelling.{bytes_of}
+use Rattle.trace_model.specs.declared.entry.Entry.{Entry}
+use Rattle.trace_model.specs.declared.entry.Entry.TheVariants.{Begin, Call, Send, Dropped, Shutter, Partial, Filled, Failed, ErrorRequest, ErrorResult, ErrorBuffer, ErrorDevice, Release, Signal}
+use Rattle.trace_model.specs.declared.entry.Sent.{Sent}
+
+-- words with a single space between each two, and LF (10) at the end
+abbrev pub line_text : List (List ℕ) → List ℕ
+line_text words = join_by (λ word. word) (codes " ") words ++ 10 ∷ []
+
+-- words, each behind a space (32)
+abbrev pub behind_spaces : List (List ℕ) → List ℕ
+behind_spaces words = flat_map (λ word. 32 ∷ word) words
+
+-- ---- words; 43 is `+`, 46 `.`, 58 `:`, 98 `b`, 102 `f` and 114 `r`
+
+abbrev pub word_text : Word → List ℕ
+word_text Configure = codes "configure"
+word_text Once = codes "once"
+word_text Burst = codes "burst"
+word_text Repeat = codes "repeat"
+word_text Stop = codes "stop"
+word_text Wait = codes "wait"
+word_text Await = codes "await"
+word_text Flush = codes "flush"
+word_text Close = codes "close"
+word_text Disconnect = codes "disconnect"
+
+-- `bB`
+abbrev pub buffer_text : ℕ → List ℕ
+buffer_text b = 98 ∷ decimal b
+
+-- `fK`
+abbrev pub fence_number : ℕ → List ℕ
+fence_number k = 102 ∷ decimal k
+
+-- a fence, or `-` where there is none
+abbrev pub fence_text : Option FenceNo → List ℕ
+fence_text None = codes "-"
+fence_text (Some f) = fence_number f.0
+
+-- `rR`
+abbrev pub request_text : ℕ → List ℕ
+request_text r = 114 ∷ decimal r
+
+-- `rR.I`
+abbrev pub item_text : ℕ → ℕ → List ℕ
+item_text r i = request_text r ++ 46 ∷ decimal i
+
+abbrev pub mark_text : Bool → List ℕ
+mark_text true = codes "same"
+mark_text false = codes "new"
+
+-- `S:bB:F`
+abbrev pub sent_text : Sent → List ℕ
+sent_text t = decimal t.stream.0 ++ 58 ∷ (buffer_text t.buffer.0 ++ 58 ∷ fence_text t.fence)
+
+-- `S:bB+C`
+abbrev pub made_text : ℕ → Made → List ℕ
+made_text s m = decimal s ++ 58 ∷ (buffer_text m.first.0 ++ 43 ∷ decimal m.count)
+
+-- one for each stream, from number s on
+abbrev pub made_words : ℕ → List Made → List (List ℕ)
+made_words s [] = []
+made_words s (m ∷ ms) = made_text s m ∷ made_words (s + 1) ms
+
+-- ---- lines
+
+abbrev pub reply_words : Reply → List (List ℕ)
+reply_words Ok = codes "ok" ∷ []
+reply_words (Submitted r) = codes "ok" ∷ request_text r.0 ∷ []
+reply_words (Configured made) = codes "ok" ∷ made_words 0 (four_list made)
+reply_words (Refused code first second) = codes "refused" ∷ decimal code ∷ map decimal (option_to_list first ++ option_to_list second)
+
+-- the packed metadata of a part, two digits for each byte
+abbrev pub part_text : Part → List ℕ
+part_text part = encode_lower (bytes_of (part_entries part))
+
+-- `buffer N S bB`
+abbrev pub returned_text : ℕ → ℕ → ℕ → List ℕ
+returned_text n s b = codes "buffer" ++ behind_spaces (decimal n ∷ decimal s ∷ buffer_text b ∷ [])
+
+-- the words of an entry's line
+abbrev pub entry_words : Entry → List (List ℕ)
+entry_words (Begin word) = codes "begin" ∷ word_text word ∷ []
+entry_words (Call index word reply) = codes "call" ∷ decimal index ∷ word_text word ∷ codes "=" ∷ reply_words reply
+entry_words (Send n r i same targets) = codes "send" ∷ decimal n.0 ∷ item_text r.0 i ∷ mark_text same ∷ map sent_text (four_list targets)
+entry_words (Dropped n r i) = codes "drop" ∷ decimal n.0 ∷ item_text r.0 i ∷ []
+entry_words (Shutter n time) = codes "shutter" ∷ decimal n.0 ∷ decimal time ∷ []
+entry_words (Partial n k part) = codes "partial" ∷ decimal n.0 ∷ decimal k ∷ part_text part ∷ []
+entry_words (Filled n s b f digest) = codes "buffer" ∷ decimal n.0 ∷ decimal s.0 ∷ buffer_text b.0 ∷ codes "ok" ∷ codes "-" ∷ encode_lower digest ∷ []
+entry_words (Failed n s b f) = codes "buffer" ∷ decimal n.0 ∷ decimal s.0 ∷ buffer_text b.0 ∷ codes "error" ∷ fence_text f ∷ []
+entry_words (ErrorRequest n) = codes "error" ∷ codes "request" ∷ decimal n.0 ∷ []
+entry_words (ErrorResult n) = codes "error" ∷ codes "result" ∷ decimal n.0 ∷ []
+entry_words (ErrorBuffer n s) = codes "error" ∷ codes "buffer" ∷ decimal n.0 ∷ decimal s.0 ∷ []
+entry_words ErrorDevice = codes "error" ∷ codes "device" ∷ []
+entry_words (Release b f) = codes "release" ∷ buffer_text b.0 ∷ fence_number f.0 ∷ []
+entry_words (Signal f) = codes "signal" ∷ fence_number f.0 ∷ []
+
+-- the line of an entry, with its end
+unfoldable pub line_of : Entry → List ℕ
+line_of entry = line_text (entry_words entry)
+
+-- a whole trace: `trace 1`, the lines of the entries in order, the oldest first, and `end`
+unfoldable pub spelling : List Entry → List ℕ
+spelling trace = line_text (codes "trace" ∷ codes "1" ∷ []) ++ (flat_map line_of trace ++ line_text (codes "end" ∷ []))

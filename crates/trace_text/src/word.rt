@@ -1,0 +1,88 @@
+//! Words of a line.
+
+ghost use Rattle.std.specs.Prelude.{◌≡◌, ◌≤◌, ◌+◌, ◌++◌, length};
+ghost use Rattle.trace_text.specs.Spelling.{word_text, buffer_text, fence_number, fence_text, request_text, item_text};
+
+use crate::room::{ROOM, Room};
+use cam_types::{BufferId, FenceNo, RequestId, Word};
+
+/// The text of a command's word.
+fn word_text(word: Word) -> &'static [u8]
+    ensures text { result.now ≡ word_text word }
+    ensures len { length result.now ≤ 10 }
+{
+    match word {
+        Word::Configure => b"configure",
+        Word::Once => b"once",
+        Word::Burst => b"burst",
+        Word::Repeat => b"repeat",
+        Word::Stop => b"stop",
+        Word::Wait => b"wait",
+        Word::Await => b"await",
+        Word::Flush => b"flush",
+        Word::Close => b"close",
+        Word::Disconnect => b"disconnect",
+    }
+}
+
+/// Writes a command's word.
+pub fn put_word(room: &mut Room, word: Word)
+    requires { length room.old + 10 ≤ ROOM }
+    ensures text { room.new ≡ room.old ++ word_text word }
+    ensures len { length room.new ≤ length room.old + 10 }
+{
+    room.put(word_text(word));
+}
+
+/// Writes a buffer.
+pub fn put_buffer(room: &mut Room, buffer: BufferId)
+    requires { length room.old + 11 ≤ ROOM }
+    ensures text { room.new ≡ room.old ++ buffer_text buffer.0 }
+    ensures len { length room.new ≤ length room.old + 11 }
+{
+    room.put(b"b");
+    room.put_small(buffer.0);
+}
+
+/// Writes a fence.
+pub fn put_fence_number(room: &mut Room, fence: FenceNo)
+    requires { length room.old + 11 ≤ ROOM }
+    ensures text { room.new ≡ room.old ++ fence_number fence.0 }
+    ensures len { length room.new ≤ length room.old + 11 }
+{
+    room.put(b"f");
+    room.put_small(fence.0);
+}
+
+/// Writes a fence, or `-` where there is none.
+pub fn put_fence(room: &mut Room, fence: Option<FenceNo>)
+    requires { length room.old + 11 ≤ ROOM }
+    ensures text { room.new ≡ room.old ++ fence_text fence }
+    ensures len { length room.new ≤ length room.old + 11 }
+{
+    match fence {
+        None => room.put(b"-"),
+        Some(fence) => put_fence_number(room, fence),
+    }
+}
+
+/// Writes a request.
+pub fn put_request(room: &mut Room, request: RequestId)
+    requires { length room.old + 11 ≤ ROOM }
+    ensures text { room.new ≡ room.old ++ request_text request.0 }
+    ensures len { length room.new ≤ length room.old + 11 }
+{
+    room.put(b"r");
+    room.put_small(request.0);
+}
+
+/// Writes an item of a request.
+pub fn put_item(room: &mut Room, request: RequestId, item: u32)
+    requires { length room.old + 22 ≤ ROOM }
+    ensures text { room.new ≡ room.old ++ item_text request.0 item }
+    ensures len { length room.new ≤ length room.old + 22 }
+{
+    put_request(room, request);
+    room.put(b".");
+    room.put_small(item);
+}
