@@ -40,11 +40,12 @@ passes p (x ∷ xs) i step h = elim (cases_Bool (p x)) [
 pub chosen-ready : (script : Script) (h : List Move) (step : StepName) → first_chosen script h ≡ Some step → first_move_of script h step ≡ None → ⊥
 chosen-ready script h step c none = unready (entry_of script (trace_of h) step) refl
   where
-  ready : is_first_ready script (trace_of h) step ≡ true
-  ready = passes (is_first_ready script (trace_of h)) (first_steps (trace_of h)) (pick_at script (length h) % length (first_candidates script (trace_of h))) step c
-  unready : (o : Option Entry) → entry_of script (trace_of h) step ≡ o → ⊥
-  unready None e = let r = rw e at ready in false≢true r
-  unready (Some x) e = let n = rw e at none in absurd (cc)
+    ready : is_first_ready script (trace_of h) step ≡ true
+    ready = passes (is_first_ready script (trace_of h)) (first_steps (trace_of h)) (pick_at script (length h) % length (first_candidates script (trace_of h))) step c
+
+    unready : (o : Option Entry) → entry_of script (trace_of h) step ≡ o → ⊥
+    unready None e = let r = rw e at ready in false≢true r
+    unready (Some x) e = let n = rw e at none in absurd (cc)
 
 -- a step that isn't ready has no move
 pub not-ready : (o : Option Move) (old new : State) (r : Step) → r ≡ NotReady → Answers o old r new → o ≡ None

@@ -15,5 +15,5 @@ returns-in_default-clause-ended c = record {
 pub returns-in-NotReady-clause-ended : goal.returns-in-NotReady-clause-ended
 returns-in-NotReady-clause-ended c =
     absurd (chosen-ready c.loop.service.script c.loop.service.history c.in-Some.step
-      (sym c.chosen.ensures ∙ c.in-Some.is)
-      (not-ready (first_move_of c.loop.service.script c.loop.service.history c.in-Some.step) c.loop.service c.step.new.self c.step.result c.in-NotReady.is c.step.ensures))
+    (sym c.chosen.ensures ∙ c.in-Some.is)
+    (not-ready (first_move_of c.loop.service.script c.loop.service.history c.in-Some.step) c.loop.service c.step.new.self c.step.result c.in-NotReady.is c.step.ensures))

@@ -1,0 +1,358 @@
+//! The top call over ends in memory: pieces, faults, full rooms.
+use super::*;
+use io_edge::{MemSink, MemSource};
+use std::test::Fail;
+
+const SCRIPT: &[u8] = b"camera 1\nconfigure raw16:160x120\nonce 0,100,10000000,100@0\n";
+
+/// What a configure alone writes.
+const NO_FRAME: &[u8] =
+    b"trace 1\nbegin configure\ncall 0 configure = ok 0:b0+5\nbegin close\ncall 1 close = ok\nend\n";
+
+const VERSION: &[u8] = b"refused script 1 32\n";
+
+const NUMBER: &[u8] = b"refused script 3 34\n";
+
+const NOT_BUILT: &[u8] = b"refused script 0 39\n";
+
+const TOO_LONG: &[u8] = b"refused script 0 37\n";
+
+const USAGE: &[u8] = b"usage: camera play | run --workers N | check | gen SEED COUNT | help\n";
+
+/// What row one_frame writes, in parts: up to the metadata, the metadata and the picture's digest, the rest.
+const OPENING: &[u8] =
+    b"trace 1\nbegin configure\ncall 0 configure = ok 0:b0+5\ncall 1 once = ok r0\nsend 0 r0.0 new 0:b0:-\nbegin close\nshutter 0 1000000000\n";
+
+const LOOK: &[u8] =
+    b"partial 0 1 010000000200000000000000300000000000008001000000000000000000000001000080010000006400000001000000\n";
+
+const LIGHT: &[u8] =
+    b"partial 0 2 0100000002000000080000003800000002000080010000000000000003000000030000800100000064000000010000008096980000000000\n";
+
+const TIME: &[u8] =
+    b"partial 0 3 010000000100000008000000280000000400008001000000000000000300000000ca9a3b00000000\n";
+
+const PICTURE: &[u8] =
+    b"buffer 0 0 b0 ok - 491c98e23a1dc04357f39fa7457341ce546f88359ebdda8a69dd70fee6c2314c\n";
+
+const ENDING: &[u8] = b"release b0 f0\nsignal f0\ncall 2 close = ok\nend\n";
+
+/// The words, the input, pieces and failing calls of the source, room, pieces and failing calls of the sink, the status,
+/// and how many bytes of the wanted text are written.
+struct Case {
+    words: &'static [&'static str],
+    input: &'static [u8],
+    source_piece: u32,
+    source_failing: &'static [u32],
+    room: u32,
+    sink_piece: u32,
+    sink_failing: &'static [u32],
+    status: u8,
+    text: Text,
+    written: usize,
+}
+
+#[derive(Clone, Copy, PartialEq, Eq)]
+enum Text {
+    OneFrame,
+    Line(&'static [u8]),
+}
+
+const CASES: &[Case] = &[
+    Case {
+        words: &["play"],
+        input: SCRIPT,
+        source_piece: 4096,
+        source_failing: &[],
+        room: 9000,
+        sink_piece: 4096,
+        sink_failing: &[],
+        status: 0,
+        text: Text::OneFrame,
+        written: 586,
+    },
+    Case {
+        words: &["play"],
+        input: SCRIPT,
+        source_piece: 1,
+        source_failing: &[],
+        room: 9000,
+        sink_piece: 1,
+        sink_failing: &[],
+        status: 0,
+        text: Text::OneFrame,
+        written: 586,
+    },
+    Case {
+        words: &["play"],
+        input: SCRIPT,
+        source_piece: 7,
+        source_failing: &[],
+        room: 9000,
+        sink_piece: 4096,
+        sink_failing: &[1],
+        status: 4,
+        text: Text::OneFrame,
+        written: 0,
+    },
+    Case {
+        words: &["play"],
+        input: SCRIPT,
+        source_piece: 7,
+        source_failing: &[],
+        room: 9000,
+        sink_piece: 100,
+        sink_failing: &[3],
+        status: 4,
+        text: Text::OneFrame,
+        written: 200,
+    },
+    Case {
+        words: &["play"],
+        input: SCRIPT,
+        source_piece: 7,
+        source_failing: &[],
+        room: 500,
+        sink_piece: 64,
+        sink_failing: &[],
+        status: 4,
+        text: Text::OneFrame,
+        written: 500,
+    },
+    Case {
+        words: &["play"],
+        input: SCRIPT,
+        source_piece: 7,
+        source_failing: &[1],
+        room: 9000,
+        sink_piece: 64,
+        sink_failing: &[],
+        status: 3,
+        text: Text::OneFrame,
+        written: 0,
+    },
+    Case {
+        words: &["play"],
+        input: SCRIPT,
+        source_piece: 7,
+        source_failing: &[2],
+        room: 9000,
+        sink_piece: 64,
+        sink_failing: &[],
+        status: 3,
+        text: Text::OneFrame,
+        written: 0,
+    },
+    Case {
+        words: &["play"],
+        input: b"camera 1\nconfigure raw16:160x120",
+        source_piece: 7,
+        source_failing: &[],
+        room: 9000,
+        sink_piece: 64,
+        sink_failing: &[],
+        status: 0,
+        text: Text::Line(NO_FRAME),
+        written: 87,
+    },
+    Case {
+        words: &["play"],
+        input: b"# a preview\r\ncamera 1\r\n\r\nconfigure raw16:160x120\nclose\n",
+        source_piece: 7,
+        source_failing: &[],
+        room: 9000,
+        sink_piece: 64,
+        sink_failing: &[],
+        status: 0,
+        text: Text::Line(NO_FRAME),
+        written: 87,
+    },
+    Case {
+        words: &["play"],
+        input: b"",
+        source_piece: 7,
+        source_failing: &[],
+        room: 9000,
+        sink_piece: 64,
+        sink_failing: &[],
+        status: 1,
+        text: Text::Line(VERSION),
+        written: 20,
+    },
+    Case {
+        words: &["play"],
+        input: b"camera 2\n",
+        source_piece: 7,
+        source_failing: &[],
+        room: 9000,
+        sink_piece: 64,
+        sink_failing: &[],
+        status: 1,
+        text: Text::Line(VERSION),
+        written: 20,
+    },
+    Case {
+        words: &["play"],
+        input: b"camera 1\nconfigure raw16:160x120\nonce 0,0100,100000,100@0\n",
+        source_piece: 7,
+        source_failing: &[],
+        room: 9000,
+        sink_piece: 64,
+        sink_failing: &[],
+        status: 1,
+        text: Text::Line(NUMBER),
+        written: 20,
+    },
+    Case {
+        words: &["play"],
+        input: b"camera 1\nconfigure raw16:160x120\nonce 0,100,99999,100@0\n",
+        source_piece: 7,
+        source_failing: &[],
+        room: 9000,
+        sink_piece: 64,
+        sink_failing: &[],
+        status: 1,
+        text: Text::Line(NOT_BUILT),
+        written: 20,
+    },
+    Case {
+        words: &["play"],
+        input: b"camera 1\nconfigure raw16:160x120 yuv:40x30\n",
+        source_piece: 7,
+        source_failing: &[],
+        room: 9000,
+        sink_piece: 64,
+        sink_failing: &[],
+        status: 1,
+        text: Text::Line(NOT_BUILT),
+        written: 20,
+    },
+    Case {
+        words: &["play"],
+        input: b"camera 1\nfault request 0\nconfigure raw16:160x120\n",
+        source_piece: 7,
+        source_failing: &[],
+        room: 9000,
+        sink_piece: 64,
+        sink_failing: &[],
+        status: 1,
+        text: Text::Line(NOT_BUILT),
+        written: 20,
+    },
+    Case {
+        words: &["play"],
+        input: b"camera 1\nconfigure raw16:160x120\nrepeat preview@0\n",
+        source_piece: 7,
+        source_failing: &[],
+        room: 9000,
+        sink_piece: 64,
+        sink_failing: &[],
+        status: 1,
+        text: Text::Line(NOT_BUILT),
+        written: 20,
+    },
+    Case {
+        words: &["play"],
+        input: b"",
+        source_piece: 7,
+        source_failing: &[],
+        room: 9000,
+        sink_piece: 4,
+        sink_failing: &[2],
+        status: 4,
+        text: Text::Line(VERSION),
+        written: 4,
+    },
+    Case {
+        words: &[],
+        input: SCRIPT,
+        source_piece: 7,
+        source_failing: &[],
+        room: 9000,
+        sink_piece: 64,
+        sink_failing: &[],
+        status: 2,
+        text: Text::Line(USAGE),
+        written: 69,
+    },
+    Case {
+        words: &["play", "play"],
+        input: SCRIPT,
+        source_piece: 7,
+        source_failing: &[],
+        room: 9000,
+        sink_piece: 64,
+        sink_failing: &[],
+        status: 2,
+        text: Text::Line(USAGE),
+        written: 69,
+    },
+    Case {
+        words: &["check"],
+        input: SCRIPT,
+        source_piece: 7,
+        source_failing: &[1],
+        room: 9000,
+        sink_piece: 64,
+        sink_failing: &[],
+        status: 2,
+        text: Text::Line(USAGE),
+        written: 69,
+    },
+    Case {
+        words: &["play", ""],
+        input: SCRIPT,
+        source_piece: 7,
+        source_failing: &[],
+        room: 0,
+        sink_piece: 64,
+        sink_failing: &[],
+        status: 4,
+        text: Text::Line(USAGE),
+        written: 0,
+    },
+];
+
+#[test]
+fn every_end_has_its_answer(rt: HostRuntime) -> Result<(), Fail> {
+    let alloc = rt.alloc();
+    let mut one_frame = Vec::new(alloc);
+    for piece in [OPENING, LOOK, LIGHT, TIME, PICTURE, ENDING] {
+        one_frame.extend_from_slice(piece)?;
+    }
+    for case in CASES {
+        assert!(rt; case.source_piece > 0);
+        assert!(rt; case.sink_piece > 0);
+        let mut source = MemSource::new(
+            case.input.to_vec(alloc)?,
+            case.source_piece,
+            case.source_failing.to_vec(alloc)?,
+        );
+        let mut sink = MemSink::new(
+            alloc,
+            case.room,
+            case.sink_piece,
+            case.sink_failing.to_vec(alloc)?,
+        )?;
+        let status = camera_main(alloc, case.words, &mut source, &mut sink);
+        let wanted = match case.text {
+            Text::OneFrame => one_frame.as_slice(),
+            Text::Line(line) => line,
+        };
+        assert_eq!(rt; status.number, case.status);
+        assert!(rt; case.written <= wanted.len());
+        assert_eq!(rt; sink.bytes(), &wanted[..case.written]);
+    }
+    Ok(())
+}
+
+#[test]
+fn a_script_may_have_65_536_bytes(rt: HostRuntime) -> Result<(), Fail> {
+    let alloc = rt.alloc();
+    let mut source = MemSource::new(vec![in alloc; b' '; 65_537]?, 4_096, Vec::new(alloc));
+    let mut sink = MemSink::new(alloc, 100, 100, Vec::new(alloc))?;
+    let status = camera_main(alloc, &["play"], &mut source, &mut sink);
+    assert_eq!(rt; status.number, 1);
+    assert_eq!(rt; sink.bytes(), TOO_LONG);
+    Ok(())
+}
