@@ -1,11 +1,11 @@
-use Rattle.std.specs.Prelude.{◌≡◌, ℕ, false, List, [], ◌∷◌, ◌++◌, Option, Result, Ok, Err, ◌⊎◌, codes, decimal, reverse}
+use Rattle.std.specs.Prelude.{◌≡◌, ◌≤◌, ℕ, false, length, List, [], ◌∷◌, ◌++◌, Option, Result, Ok, Err, ◌⊎◌, codes, decimal, reverse}
 use Rattle.std.specs.Io.KnownBytes.{Appends, Keeps}
 use Rattle.cam_types.specs.declared.script.Script.{Script}
 use Rattle.script_text.specs.Causes.{number_of}
 use Rattle.script_text.specs.Grammar.{script_of}
 use Rattle.script_text.specs.declared.cause.ScriptRefused.{ScriptRefused}
 use Rattle.script_text.specs.declared.cause.ScriptRefused.TheVariants.{Bad, NoMemory}
-use Rattle.service_core.specs.First.{IsFirstPlayedRun, IsFirstStuck}
+use Rattle.service_core.specs.First.{IsFirstPlayedRun, IsFirstStuck, move_bound}
 use Rattle.service_core.specs.History.{trace_of}
 use Rattle.service_core.specs.RawScripts.{is_raw_script}
 use Rattle.service_core.specs.declared.step.Move.{Move}
@@ -18,10 +18,11 @@ use Rattle.camera_top.specs.Answers.{Answers}
 abbrev pub refused_text : ℕ → ℕ → List ℕ
 refused_text line cause = codes "refused script " ++ (decimal line ++ 32 ∷ (decimal cause ++ 10 ∷ []))
 
--- the text is the trace of the played run of the script, which is complete
+-- the text is the trace of the played run of the script, which is complete within the bound on moves
 pub record IsPlayedText (script : Script) (text : List ℕ) : Type 0 where
   pub history : List Move
   pub run : IsFirstPlayedRun script history
+  pub within : length history ≤ move_bound script
   pub shown : text ≡ spelling (reverse (trace_of history))
 
 -- the run of the script can't go on, and isn't complete

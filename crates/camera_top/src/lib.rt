@@ -2,6 +2,7 @@
 #![tactic(auto)]
 
 mod commands;
+mod laws;
 mod play;
 mod print;
 mod status;
@@ -9,4 +10,5 @@ mod status;
 mod tests;
 
 pub use commands::{camera_main, play_call};
+pub use laws::complete_runs_are_not_stuck;
 pub use status::Status;
