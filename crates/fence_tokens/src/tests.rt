@@ -21,6 +21,16 @@ fn a_waiter_comes_back_until_the_signal(rt: HostRuntime) -> Result<(), Fail> {
 }
 
 #[test]
+fn the_first_fence_of_a_room_of_one_has_number_0(rt: HostRuntime) -> Result<(), Fail> {
+    let mut fences = Fences::with_room(rt.alloc(), 1)?;
+    let (signaller, waiter) = fences.make_in();
+    assert_eq!(rt; signaller.number(), 0);
+    fences.scrap_signaller(signaller);
+    fences.scrap_waiter(waiter);
+    Ok(())
+}
+
+#[test]
 fn fences_are_signalled_in_any_order(rt: HostRuntime) -> Result<(), Fail> {
     let mut fences = Fences::with_room(rt.alloc(), 3)?;
     let (first, first_waiter) = fences.make_in();
