@@ -21,12 +21,17 @@ use Rattle.trace_model.specs.Open.{is_quiet}
 use Rattle.trace_model.specs.Place.{all_in_pool, is_at, place}
 use Rattle.trace_model.specs.Place as in_trace
 use Rattle.trace_model.specs.Queue.{queued}
-use Rattle.trace_model.specs.Reply.{reply}
+use Rattle.trace_model.specs.Calls.{request_count}
+use Rattle.trace_model.specs.Entry.{is_refusal}
+use Rattle.trace_model.specs.Numbers.{call_count}
+use Rattle.trace_model.specs.Reply.{or_else, refused, reply, reply_with, where_true, with_value}
+use Rattle.cam_types.specs.Metadata.{range_fault}
 use Rattle.trace_model.specs.Stopping.{has_failed}
 use Rattle.service_core.specs.declared.step.StepName.TheVariants.{Client as ClientStep}
 use Rattle.service_core.specs.declared.tables.Place.TheVariants.{Pool}
 use Rattle.service_core.specs.First.{entry_of}
-use Rattle.service_core.specs.Fit.{Facts, Fit, AreCalls, item_for, raw_made, raw_spec, when_called}
+use Rattle.service_core.specs.Due.{once_of, once_reply}
+use Rattle.service_core.specs.Fit.{Facts, Fit, AreCalls, raw_made, raw_spec, when_called}
 use Rattle.service_core.specs.RawScripts.{requests_in, is_raw_item}
 use Rattle.service_core.specs.Due.{is_pool, is_resting, is_home}
 use Rattle.service_core.proofs.Frames.{quiet-yes, quiet-no}
@@ -34,7 +39,7 @@ use Rattle.service_core.proofs.FitSteps.{few-requests}
 use Rattle.service_core.proofs.Lists.{called}
 use Rattle.service_core.proofs.Plain.{none-plain, no-device-error}
 use Rattle.service_core.proofs.Queue.{queue-short, queue-is-empty, queue-empty}
-use Rattle.service_core.proofs.RawLemmas.{IsRaw, targets-are, in-range}
+use Rattle.service_core.proofs.RawLemmas.{IsRaw, targets-are}
 use Rattle.service_core.proofs.Sending.{pool-place}
 
 get-none : {T : Type 0} (xs : List T) (i : ℕ) → length xs ≤ i → slice_get xs i ≡ None
@@ -42,13 +47,19 @@ get-none [] i l = refl
 get-none (x ∷ xs) zero l = absurd (omega arith)
 get-none (x ∷ xs) (suc i) l = get-none xs i (omega arith)
 
+-- the next command is a request for stream 0
+pub record AtRequest (script : Script) (t : Facts) : Type 0 where
+  pub item : Item
+  pub command : command_at script t.calls ≡ Some (Once item)
+  pub raw : is_raw_item item ≡ true
+
 -- where the client is: at the configure, at a request, at the close, behind it
 abbrev pub Stage : Script → Facts → Type 0
 Stage script t =
     ((t.calls ≡ 0) × (command_at script t.calls ≡ Some (Configure (raw_spec ∷ []))))
-    ⊎ (((t.calls ≡ t.requests + 1) × (t.requests < requests_in script) × (command_at script t.calls ≡ Some (Once (item_for script t.requests))))
-    ⊎ (((t.calls ≡ requests_in script + 1) × (t.requests ≡ requests_in script) × (command_at script t.calls ≡ Some Close))
-    ⊎ ((t.calls ≡ requests_in script + 2) × (t.requests ≡ requests_in script) × (command_at script t.calls ≡ None))))
+    ⊎ (((0 < t.calls) × (t.calls < requests_in script + 1) × AtRequest script t)
+    ⊎ (((t.calls ≡ requests_in script + 1) × (command_at script t.calls ≡ Some Close))
+    ⊎ ((t.calls ≡ requests_in script + 2) × (command_at script t.calls ≡ None))))
 
 all-range : {T : Type 0} (p : T → Bool) (q : ℕ → Bool) (xs : List T) (start : ℕ) (d : T) → ((i : ℕ) → i < length xs → q (start + i) ≡ p (slice_index_or xs i d)) → list_all q (range_with_len start (length xs)) ≡ list_all p xs
 all-range p q [] start d h = refl
@@ -60,15 +71,20 @@ all-range p q (x ∷ xs) start d h =
 
 module _ (script : Script) (past : List Entry) (t : Facts) (raw : IsRaw script) (fit : Fit script past t) where
   pub stage : Stage script t
-  stage = at t.calls t.requests refl refl fit.are_calls
-    where
-      at : (calls requests : ℕ) → t.calls ≡ calls → t.requests ≡ requests → AreCalls (requests_in script) calls requests → Stage script t
-      at calls requests ec er (inl c) = inl (ec ∙ c.0, rw (ec, c.0) raw.configure)
-      at calls requests ec er (inr (inl c)) = elim (cases_lt requests (requests_in script)) [
-        | inl l ↦ inr (inl (omega (arith, ec, er, c.0), omega (arith, er, l), rw (ec, c.0, er, add-one) (raw.once requests l)))
-        | inr m ↦ (let few = c.1 in let e : requests ≡ requests_in script = omega (arith, few, m) in inr (inr (inl (omega (arith, ec, c.0, e), er ∙ e, rw (ec, c.0, e) raw.close))))
+  stage = at t.calls t.requests refl fit.are_calls
+   where
+    behind : (calls : ℕ) → t.calls ≡ calls → 0 < calls → calls ≤ requests_in script + 2 → Stage script t
+    behind zero e some few = absurd (omega arith)
+    behind (suc r) e some few = elim (cases_lt r (requests_in script)) [
+      | inl l ↦ (let c = raw.once r l in inr (inl (omega (arith, e), omega (arith, e, l), record { item = c.0; command = rw e c.1; raw = c.2 })))
+      | inr m ↦ elim (cases_eq r (requests_in script)) [
+        | inl last ↦ (let at' : t.calls ≡ requests_in script + 1 = omega (arith, e, last) in inr (inr (inl (at', rw at' raw.close))))
+        | inr ne ↦ (let at' : t.calls ≡ requests_in script + 2 = omega (arith, e, m, ne, few) in inr (inr (inr (at', rw at' (get-none script.commands (requests_in script + 2) (let s = raw.size in omega arith))))))
       ]
-      at calls requests ec er (inr (inr c)) = inr (inr (inr (ec ∙ c.0, er ∙ c.1, rw (ec, c.0) (get-none script.commands (requests_in script + 2) (let s = raw.size in omega arith)))))
+    ]
+    at : (calls requests : ℕ) → t.calls ≡ calls → AreCalls (requests_in script) calls requests → Stage script t
+    at calls requests e (inl c) = inl (e ∙ c.0, rw (e, c.0) raw.configure)
+    at calls requests e (inr c) = behind calls e (omega (arith, c.0)) c.2
 
   pub quiet-is : is_quiet past ≡ is_resting t
   quiet-is =
@@ -115,25 +131,32 @@ module _ (script : Script) (past : List Entry) (t : Facts) (raw : IsRaw script) 
     where
       none-yet : (k calls requests : ℕ) → AreCalls k calls requests → calls ≡ 0 → requests ≡ 0
       none-yet k calls requests (inl c) z = c.1
-      none-yet k calls requests (inr (inl c)) z = absurd (omega (arith, c.0, z))
-      none-yet k calls requests (inr (inr c)) z = absurd (omega (arith, c.0, z))
+      none-yet k calls requests (inr c) z = absurd (omega (arith, c.0, z))
 
   pub client-configure-call : (word : Word) → t.calls ≡ 0 → t.begun ≡ Some word → entry_of script past ClientStep ≡ Some (Call t.calls WordConfigure (Configured (record { a = Some raw_made; b = None; c = None; d = None })))
   client-configure-call word none begun' = rw (fit.calls, none, raw.configure, fit.begun, begun', configured none, idle-at-first none, fit.calls, none) refl
 
   -- ---- a request
 
-  submitted : t.calls ≡ t.requests + 1 → t.requests < requests_in script → reply script past (Once (item_for script t.requests)) ≡ Submitted (record { 0 = t.requests })
-  submitted calls l =
+  -- nothing stands against a request but its settings
+  pub room-for : (item : Item) → 0 < t.calls → t.calls < requests_in script + 1 → is_raw_item item ≡ true → (fault : Option ℕ) → range_fault item.settings ≡ fault → reply script past (Once item) ≡ once_reply t fault
+  room-for item some last plain fault range =
       let closed : nat_lt (requests_in script + 1) t.calls ≡ false = grind (arith, nat_tests) in
-      let some : nat_lt 0 t.calls ≡ true = grind (arith, nat_tests) in
+      let some' : nat_lt 0 t.calls ≡ true = grind (arith, nat_tests) in
       let short = queue-short script past t raw fit in
       let room : nat_lt 256 (length (queued script past) + 1) ≡ false = grind (arith, nat_tests) in
-      let item = raw.item t.requests l in
-      rw (fit.closed, closed, not-failed, fit.configured, some, fit.streams, called t.calls (raw_spec ∷ []) (omega (arith, calls)), targets-are (item_for script t.requests) item, in-range (item_for script t.requests) item, room, fit.requests) refl
+      rw (fit.closed, closed, not-failed, fit.configured, some', fit.streams, called t.calls (raw_spec ∷ []) some, targets-are item plain, range) (by-fault room fault)
+   where
+    by-fault : nat_lt 256 (length (queued script past) + 1) ≡ false → (f : Option ℕ) → reply_with (or_else (or_else (with_value 8 0 f) None) (where_true (nat_lt 256 (length (queued script past) + 1)) (refused 11))) (Submitted (record { 0 = request_count past })) ≡ once_reply t f
+    by-fault room None = rw (room, fit.requests) refl
+    by-fault room (Some tag) = refl
 
-  pub client-once : t.calls ≡ t.requests + 1 → t.requests < requests_in script → command_at script t.calls ≡ Some (Once (item_for script t.requests)) → entry_of script past ClientStep ≡ Some (Call t.calls WordOnce (Submitted (record { 0 = t.requests })))
-  client-once calls l at = rw (fit.calls, at, submitted calls l, fit.calls) refl
+  pub client-once : (item : Item) → 0 < t.calls → t.calls < requests_in script + 1 → is_raw_item item ≡ true → command_at script t.calls ≡ Some (Once item) → entry_of script past ClientStep ≡ Some (once_of t (range_fault item.settings))
+  client-once item some last plain at = rw (fit.calls, at, room-for item some last plain (range_fault item.settings) refl) (by-fault (range_fault item.settings))
+   where
+    by-fault : (f : Option ℕ) → (if is_refusal (once_reply t f) || true then Some (Call (call_count past) WordOnce (once_reply t f)) else None) ≡ Some (once_of t f)
+    by-fault None = rw fit.calls refl
+    by-fault (Some tag) = rw fit.calls refl
 
   -- ---- the close
 

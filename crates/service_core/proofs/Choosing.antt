@@ -137,8 +137,7 @@ module _ (script : Script) (past : List Entry) (t : Facts) (raw : IsRaw script) 
     where
       none-yet : (k calls requests : ℕ) → AreCalls k calls requests → calls ≡ 0 → requests ≡ 0
       none-yet k calls requests (inl c) z = c.1
-      none-yet k calls requests (inr (inl c)) z = absurd (omega (arith, c.0, z))
-      none-yet k calls requests (inr (inr c)) z = absurd (omega (arith, c.0, z))
+      none-yet k calls requests (inr c) z = absurd (omega (arith, c.0, z))
 
       nobody : t.calls ≡ 0 → position is_client t.places ≡ None
       nobody none =
@@ -213,18 +212,18 @@ module _ (script : Script) (past : List Entry) (t : Facts) (raw : IsRaw script) 
   glue : (xs ys : List StepName) (a b : Option StepName) → find (is_first_ready script past) xs ≡ a → find (is_first_ready script past) ys ≡ b → find (is_first_ready script past) (xs ++ ys) ≡ or_step a b
   glue xs ys a b ha hb = find-append (is_first_ready script past) xs ys ∙ (ap (λ (o : Option StepName). or_step o (find (is_first_ready script past) ys)) ha ∙ ap (or_step a) hb)
 
-  pub first-is : find (is_first_ready script past) (first_steps past) ≡ first_of script t (command_at script t.calls)
+  pub first-is : find (is_first_ready script past) (first_steps past) ≡ first_of t (command_at script t.calls)
   first-is =
       let device = glue (for_frames Partial past) (for_targets Deliver past) _ _ partials delivers in
       let shutter = glue (Shutter ∷ []) (for_frames Partial past ++ for_targets Deliver past) _ _ (one-step Shutter (shutter_of t) (shutter-is script past t raw fit) ∙ ap (λ (b : Bool). step_if b Shutter) (some-if (nat_lt t.shutters t.sent) shutter-entry)) device in
       let client = glue (Client ∷ []) (Shutter ∷ (for_frames Partial past ++ for_targets Deliver past)) _ _ (one-step Client (client_of t (command_at script t.calls) t.begun) (client-is script past t raw fit)) shutter in
       let signal = glue (for_numbers (λ f. Signal (record { 0 = f })) (next_fence past)) (Client ∷ (Shutter ∷ (for_frames Partial past ++ for_targets Deliver past))) _ _ signals client in
       let release = glue (for_numbers (λ b. Release (record { 0 = b })) (made_count past)) (for_numbers (λ f. Signal (record { 0 = f })) (next_fence past) ++ (Client ∷ (Shutter ∷ (for_frames Partial past ++ for_targets Deliver past)))) _ _ releases signal in
-      glue (Send ∷ []) (for_numbers (λ b. Release (record { 0 = b })) (made_count past) ++ (for_numbers (λ f. Signal (record { 0 = f })) (next_fence past) ++ (Client ∷ (Shutter ∷ (for_frames Partial past ++ for_targets Deliver past))))) _ _ (one-step Send (send_of script t) (send-is script past t raw fit)) release
+      glue (Send ∷ []) (for_numbers (λ b. Release (record { 0 = b })) (made_count past) ++ (for_numbers (λ f. Signal (record { 0 = f })) (next_fence past) ++ (Client ∷ (Shutter ∷ (for_frames Partial past ++ for_targets Deliver past))))) _ _ (one-step Send (send_of t) (send-is script past t raw fit)) release
     where
       shutter-entry : Entry
       shutter-entry = Rattle.trace_model.specs.declared.entry.Entry.TheVariants.Shutter (record { 0 = t.shutters }) t.next_time
 
-pub chosen-is : (script : Script) (h : List Move) (t : Facts) → IsRaw script → Fit script (trace_of h) t → first_chosen script h ≡ first_of script t (command_at script t.calls)
+pub chosen-is : (script : Script) (h : List Move) (t : Facts) → IsRaw script → Fit script (trace_of h) t → first_chosen script h ≡ first_of t (command_at script t.calls)
 chosen-is script h t raw fit =
     rw raw.picks (first-pick (first_candidates script (trace_of h)) ∙ (filter-first (is_first_ready script (trace_of h)) (first_steps (trace_of h)) ∙ first-is script (trace_of h) t raw fit))

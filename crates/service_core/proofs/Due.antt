@@ -90,7 +90,7 @@ module _ (script : Script) (past : List Entry) (t : Facts) (raw : IsRaw script) 
 
   -- ---- partial results
 
-  pub partial-yes : t.ended < t.shutters → partial_due script past t.ended ≡ Some (Partial (record { 0 = t.ended }) (t.parts + 1) (part_at (t.parts + 1) (settings_for script t.ended) t.time))
+  pub partial-yes : t.ended < t.shutters → partial_due script past t.ended ≡ Some (Partial (record { 0 = t.ended }) (t.parts + 1) (part_at (t.parts + 1) (settings_for t.items t.ended) t.time))
   partial-yes l =
       let o = fit.order in
       let sent : t.ended < t.sent = (let a = o.shutters in omega arith) in
@@ -98,7 +98,7 @@ module _ (script : Script) (past : List Entry) (t : Facts) (raw : IsRaw script) 
       let few = o.parts in
       let before = earlier script past t fit t.ended (λ m. is_metadata_ended m past) (λ m less _. (let e = ended-is script past t fit m in grind (arith, nat_tests))) in
       let may : may_part script past t.ended (t.parts + 1) ≡ true = rw (no-request-error script past t fit t.ended, no-result-error script past t fit t.ended, no-request-fault, no-result-fault, before) (grind (arith, nat_tests)) in
-      rw (now, fit.time l, may, frame-settings script past t t.ended raw fit (few-requests script past t fit) sent) refl
+      rw (now, fit.time l, may, frame-settings script past t t.ended fit sent) refl
     where
       part_count' : ℕ
       part_count' = Rattle.trace_model.specs.Partial.part_count t.ended past
@@ -132,10 +132,9 @@ module _ (script : Script) (past : List Entry) (t : Facts) (raw : IsRaw script) 
     where
       called' : (k calls requests : ℕ) → Rattle.service_core.specs.Fit.AreCalls k calls requests → 0 < requests → 0 < calls
       called' k calls requests (inl c) l = absurd (omega (arith, c.1, l))
-      called' k calls requests (inr (inl c)) l = omega (arith, c.0)
-      called' k calls requests (inr (inr c)) l = omega (arith, c.0)
+      called' k calls requests (inr c) l = omega (arith, c.0)
 
-  pub filled-yes : t.returned < t.shutters → passed t t.fence ≡ true → filled_due script past t.returned 0 ≡ Some (Filled (record { 0 = t.returned }) (record { 0 = 0 }) t.buffer None (digest raw_spec (settings_for script t.returned) t.returned))
+  pub filled-yes : t.returned < t.shutters → passed t t.fence ≡ true → filled_due script past t.returned 0 ≡ Some (Filled (record { 0 = t.returned }) (record { 0 = 0 }) t.buffer None (digest raw_spec (settings_for t.items t.returned) t.returned))
   filled-yes l pass =
       let o = fit.order in
       let sent : t.returned < t.sent = (let a = o.shutters in omega arith) in
@@ -144,7 +143,7 @@ module _ (script : Script) (past : List Entry) (t : Facts) (raw : IsRaw script) 
       let exposed : has_shutter t.returned past ≡ true = (let s = fit.shutters t.returned in grind (arith, nat_tests)) in
       let before = earlier script past t fit t.returned (lets_pass past 0) (λ m less _. (let r = fit.returned m in grind (arith, nat_tests))) in
       let some : 0 < t.calls = some-called (let a = o.sent in omega arith) in
-      rw (fit.last t.returned e, there, exposed, sound t.returned 0, passed-is script past t fit t.fence, pass, before, fit.streams, called t.calls (raw_spec ∷ []) some, frame-settings script past t t.returned raw fit (few-requests script past t fit) sent) refl
+      rw (fit.last t.returned e, there, exposed, sound t.returned 0, passed-is script past t fit t.fence, pass, before, fit.streams, called t.calls (raw_spec ∷ []) some, frame-settings script past t t.returned fit sent) refl
 
   filled-none : (n s : ℕ) (o : Option Sent) → ((x : Sent) → o ≡ Some x → may_deliver script past n s x ≡ false) → Rattle.trace_model.specs.Filled.filled_of script past n s o ≡ None
   filled-none n s None h = refl

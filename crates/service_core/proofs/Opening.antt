@@ -4,7 +4,7 @@ use Rattle.std.proofs.lemmas.Bool.Decides.{nat_tests}
 use Rattle.std.proofs.lemmas.Grind.{common_steps}
 use Rattle.cam_types.specs.declared.number.FenceNo.{FenceNo}
 use Rattle.cam_types.specs.declared.script.Script.{Script}
-use Rattle.service_core.specs.Fit.{Facts, Fit, as_place, first_facts}
+use Rattle.service_core.specs.Fit.{Facts, Fit, as_place, first_facts, no_item}
 use Rattle.service_core.specs.declared.tables.Place.TheVariants.{Pool}
 
 index-replicate : {T : Type 0} (n i : ℕ) (d : T) → slice_index_or (replicate n d) i d ≡ d
@@ -20,6 +20,9 @@ fit-first script = record {
   requests = refl;
   are_calls = inl (refl, refl);
   commands = λ r l. absurd (omega arith);
+  raw = λ r l. absurd (omega arith);
+  in_range = λ r l. absurd (omega arith);
+  unset = λ r l. index-replicate 32 r no_item;
   submitted = refl;
   streams = refl;
   made = refl;
@@ -59,6 +62,7 @@ fit-first script = record {
     places = refl;
     fences = refl;
     signalled = refl;
+    items = refl;
     buffer = omega arith;
     clients = refl;
     clock = omega arith;

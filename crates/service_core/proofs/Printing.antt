@@ -13,6 +13,8 @@ use Rattle.cam_types.specs.declared.item.Settings.{Settings}
 use Rattle.cam_types.specs.declared.number.BufferId.{BufferId}
 use Rattle.cam_types.specs.declared.number.FenceNo.{FenceNo}
 use Rattle.cam_types.specs.declared.reply.Reply.{Reply}
+use Rattle.cam_types.specs.declared.reply.Reply.TheVariants.{Refused}
+use Rattle.cam_types.specs.declared.script.Word.TheVariants.{Once as WordOnce}
 use Rattle.cam_types.specs.declared.script.Word.{Word}
 use Rattle.cam_types.specs.declared.stream.StreamSpec.{StreamSpec}
 use Rattle.trace_model.specs.declared.entry.Entry.{Entry}
@@ -107,3 +109,6 @@ filled-prints n b spec s m few within = rw (small-number n (omega arith), small-
 
 pub release-prints : (b : BufferId) (f : ℕ) → b.0 < 5 → f ≤ 32 → is_printable (Release b (record { 0 = f })) ≡ true
 release-prints b f within few = rw (small-number b.0 (omega arith), small-number f (omega arith)) refl
+
+pub refused-prints : (i tag : ℕ) → i ≤ 34 → tag ≤ 2147483651 → is_printable (Call i WordOnce (Refused 8 (Some 0) (Some tag))) ≡ true
+refused-prints i tag l small = let fits : is_small tag ≡ true = grind (arith, nat_tests) in rw (small-number i (omega arith), fits) refl

@@ -4,13 +4,10 @@ use Rattle.std.proofs.lemmas.List.Elements.{filter-append}
 use Rattle.std.specs.List.{list_any, list_all}
 use Rattle.std.proofs.lemmas.Bool.{cases_Bool, cases_lt, cases_eq, false≢true}
 use Rattle.std.proofs.lemmas.Bool.Decides.{nat_tests}
-use Rattle.cam_types.specs.declared.script.Command.{Command}
-use Rattle.cam_types.specs.declared.script.Command.TheVariants.{Once}
 use Rattle.cam_types.specs.declared.script.Script.{Script}
 use Rattle.trace_model.specs.declared.entry.Entry.{Entry}
-use Rattle.trace_model.specs.Calls.{command_at}
 use Rattle.trace_model.specs.Client.{is_empty}
-use Rattle.trace_model.specs.Queue.{Waiting, Next, first_in, is_taken, named, next, next_from, queued, queued_items, submitted}
+use Rattle.trace_model.specs.Queue.{Waiting, Next, first_in, is_taken, next, next_from, queued, submitted}
 use Rattle.service_core.specs.Fit.{Facts, Fit, item_for, requests_to}
 use Rattle.service_core.specs.RawScripts.{requests_in}
 use Rattle.service_core.proofs.FitSteps.{few-requests}
@@ -18,67 +15,66 @@ use Rattle.service_core.proofs.Plain.{nothing-repeats}
 use Rattle.service_core.proofs.RawLemmas.{IsRaw}
 
 -- request r, as it waits
-abbrev pub waiting : Script → ℕ → Waiting
-waiting script r = record { request = r; index = 0; item = item_for script r }
+abbrev pub waiting : Facts → ℕ → Waiting
+waiting t r = record { request = r; index = 0; item = item_for t.items r }
 
 -- the first requests, without those that were taken
-abbrev pub kept : Script → List Entry → ℕ → List Waiting
-kept script past r = filter (λ w. not (is_taken past w)) (requests_to script r)
+abbrev pub kept : Facts → List Entry → ℕ → List Waiting
+kept t past r = filter (λ w. not (is_taken past w)) (requests_to t.items r)
 
-one-more : (script : Script) (past : List Entry) (t : Facts) (r : ℕ) → IsRaw script → Fit script past t → r < requests_in script → kept script past (suc r) ≡ kept script past r ++ (if nat_lt r t.sent then [] else waiting script r ∷ [])
-one-more script past t r raw fit l =
-    let item : named r 0 (queued_items (command_at script (suc r))) ≡ waiting script r ∷ [] = rw (raw.once r l) refl in
-    rw (item, filter-append (λ w. not (is_taken past w)) (requests_to script r) (waiting script r ∷ [])) (ap (λ (ws : List Waiting). kept script past r ++ ws) (one (nat_lt r t.sent) (fit.taken r)))
+one-more : (script : Script) (past : List Entry) (t : Facts) (r : ℕ) → Fit script past t → kept t past (suc r) ≡ kept t past r ++ (if nat_lt r t.sent then [] else waiting t r ∷ [])
+one-more script past t r fit =
+    filter-append (λ w. not (is_taken past w)) (requests_to t.items r) (waiting t r ∷ []) ∙ ap (λ (ws : List Waiting). kept t past r ++ ws) (one (nat_lt r t.sent) (fit.taken r))
   where
-    one : (b : Bool) → is_taken past (waiting script r) ≡ b → filter (λ w. not (is_taken past w)) (waiting script r ∷ []) ≡ (if b then [] else waiting script r ∷ [])
-    one true h = rw h refl
-    one false h = rw h refl
+  one : (b : Bool) → is_taken past (waiting t r) ≡ b → filter (λ w. not (is_taken past w)) (waiting t r ∷ []) ≡ (if b then [] else waiting t r ∷ [])
+  one true h = rw h refl
+  one false h = rw h refl
 
-none-kept : (script : Script) (past : List Entry) (t : Facts) (r : ℕ) → IsRaw script → Fit script past t → r ≤ requests_in script → r ≤ t.sent → kept script past r ≡ []
-none-kept script past t zero raw fit few l = refl
-none-kept script past t (suc r) raw fit few l =
+none-kept : (script : Script) (past : List Entry) (t : Facts) (r : ℕ) → Fit script past t → r ≤ t.sent → kept t past r ≡ []
+none-kept script past t zero fit l = refl
+none-kept script past t (suc r) fit l =
     let taken : nat_lt r t.sent ≡ true = grind (arith, nat_tests) in
-    rw (one-more script past t r raw fit few, taken, none-kept script past t r raw fit (omega arith) (omega arith)) refl
+    rw (one-more script past t r fit, taken, none-kept script past t r fit (omega arith)) refl
 
 first-front : (xs ys : List Waiting) (w : Waiting) → first_in xs ≡ Some w → first_in (xs ++ ys) ≡ Some w
 first-front [] ys w h = absurd (cc)
 first-front (x ∷ xs) ys w h = h
 
-first-kept : (script : Script) (past : List Entry) (t : Facts) (r : ℕ) → IsRaw script → Fit script past t → r ≤ requests_in script → t.sent < r → first_in (kept script past r) ≡ Some (waiting script t.sent)
-first-kept script past t zero raw fit few l = absurd (omega arith)
-first-kept script past t (suc r) raw fit few l = elim (cases_eq t.sent r) [
-  | inl e ↦ (let waits : nat_lt r t.sent ≡ false = grind (arith, nat_tests) in rw (one-more script past t r raw fit few, waits, none-kept script past t r raw fit (omega arith) (omega arith), e) refl)
-  | inr ne ↦ rw (one-more script past t r raw fit few) (first-front _ _ _ (first-kept script past t r raw fit (omega arith) (omega arith)))
+first-kept : (script : Script) (past : List Entry) (t : Facts) (r : ℕ) → Fit script past t → t.sent < r → first_in (kept t past r) ≡ Some (waiting t t.sent)
+first-kept script past t zero fit l = absurd (omega arith)
+first-kept script past t (suc r) fit l = elim (cases_eq t.sent r) [
+  | inl e ↦ (let waits : nat_lt r t.sent ≡ false = grind (arith, nat_tests) in rw (one-more script past t r fit, waits, none-kept script past t r fit (omega arith), e) refl)
+  | inr ne ↦ rw (one-more script past t r fit) (first-front _ _ _ (first-kept script past t r fit (omega arith)))
 ]
 
-few-kept : (script : Script) (past : List Entry) (t : Facts) (r : ℕ) → IsRaw script → Fit script past t → r ≤ requests_in script → length (kept script past r) ≤ r
-few-kept script past t zero raw fit few = omega arith
-few-kept script past t (suc r) raw fit few =
-    let ih = few-kept script past t r raw fit (omega arith) in
-    rw (one-more script past t r raw fit few, length-append) (more (nat_lt r t.sent) ih)
+few-kept : (script : Script) (past : List Entry) (t : Facts) (r : ℕ) → Fit script past t → length (kept t past r) ≤ r
+few-kept script past t zero fit = omega arith
+few-kept script past t (suc r) fit =
+    let ih = few-kept script past t r fit in
+    rw (one-more script past t r fit, length-append) (more (nat_lt r t.sent) ih)
   where
-    more : (b : Bool) → length (kept script past r) ≤ r → length (kept script past r) + length (if b then [] else waiting script r ∷ []) ≤ suc r
+    more : (b : Bool) → length (kept t past r) ≤ r → length (kept t past r) + length (if b then [] else waiting t r ∷ []) ≤ suc r
     more true h = omega arith
     more false h = omega arith
 
 module _ (script : Script) (past : List Entry) (t : Facts) (raw : IsRaw script) (fit : Fit script past t) where
-  kept-is : queued script past ≡ kept script past t.requests
+  kept-is : queued script past ≡ kept t past t.requests
   kept-is = ap (λ (ws : List Waiting). filter (λ w. not (is_taken past w)) ws) fit.submitted
 
   pub queue-empty : t.requests ≤ t.sent → queued script past ≡ []
-  queue-empty l = kept-is ∙ none-kept script past t t.requests raw fit (few-requests script past t fit) l
+  queue-empty l = kept-is ∙ none-kept script past t t.requests fit l
 
-  pub queue-first : t.sent < t.requests → first_in (queued script past) ≡ Some (waiting script t.sent)
-  queue-first l = rw kept-is (first-kept script past t t.requests raw fit (few-requests script past t fit) l)
+  pub queue-first : t.sent < t.requests → first_in (queued script past) ≡ Some (waiting t t.sent)
+  queue-first l = rw kept-is (first-kept script past t t.requests fit l)
 
   pub queue-short : length (queued script past) ≤ 32
   queue-short =
       let few = few-requests script past t fit in
-      let short = few-kept script past t t.requests raw fit few in
+      let short = few-kept script past t t.requests fit in
       let all = raw.few in
       rw kept-is (omega (arith, short, few, all))
 
-  pub next-is : t.sent < t.requests → next script past ≡ Some (record { request = t.sent; index = 0; item = item_for script t.sent; repeats = false })
+  pub next-is : t.sent < t.requests → next script past ≡ Some (record { request = t.sent; index = 0; item = item_for t.items t.sent; repeats = false })
   next-is l = rw (queue-first l) refl
 
   pub next-none : t.requests ≤ t.sent → next script past ≡ None
@@ -90,6 +86,6 @@ module _ (script : Script) (past : List Entry) (t : Facts) (raw : IsRaw script) 
     | inr m ↦ (let none : nat_lt t.sent t.requests ≡ false = grind (arith, nat_tests) in rw (none, queue-empty m) refl)
   ]
     where
-      nonempty : (ws : List Waiting) → first_in ws ≡ Some (waiting script t.sent) → is_empty ws ≡ false
+      nonempty : (ws : List Waiting) → first_in ws ≡ Some (waiting t t.sent) → is_empty ws ≡ false
       nonempty [] h = absurd (cc)
       nonempty (w ∷ ws) h = refl

@@ -15,7 +15,7 @@ use Rattle.cam_types.specs.declared.stream.Format.TheVariants.{Raw16, Yuv, Other
 use Rattle.cam_types.specs.declared.stream.StreamSpec.{StreamSpec}
 use Rattle.trace_model.specs.Calls.{command_at}
 use Rattle.trace_model.specs.Reply.{is_raw}
-use Rattle.service_core.specs.Fit.{item_for, settings_for, raw_spec}
+use Rattle.service_core.specs.Fit.{raw_spec}
 use Rattle.service_core.specs.RawScripts.{is_raw_spec, is_raw_alone, is_raw_item, are_requests, are_raw_commands, is_raw_script, requests_in}
 use Rattle.service_core.proofs.Lists.{and_parts}
 
@@ -26,8 +26,7 @@ pub record IsRaw (script : Script) : Type 0 where
   pub size : length script.commands ≡ requests_in script + 2
   pub few : requests_in script ≤ 32
   pub configure : command_at script 0 ≡ Some (Configure (raw_spec ∷ []))
-  pub once : (r : ℕ) → r < requests_in script → command_at script (suc r) ≡ Some (Once (item_for script r))
-  pub item : (r : ℕ) → r < requests_in script → is_raw_item (item_for script r) ≡ true
+  pub once : (r : ℕ) → r < requests_in script → (item : Item) × (command_at script (suc r) ≡ Some (Once item)) × (is_raw_item item ≡ true)
   pub close : command_at script (requests_in script + 1) ≡ Some Close
 
 empty : {T : Type 0} (xs : List T) → (length xs == 0) ≡ true → xs ≡ []
@@ -81,9 +80,6 @@ requests-are (Close ∷ []) h = record { some = omega arith; once = λ r l. absu
 requests-are (Close ∷ (_ ∷ _)) h = absurd (false≢true h)
 requests-are (_ ∷ _) h = absurd (false≢true h)
 
-item-at : (script : Script) (specs : List StreamSpec) (commands : List Command) (r : ℕ) (item : Item) → script.commands ≡ Configure specs ∷ commands → slice_get commands r ≡ Some (Once item) → is_raw_item item ≡ true → (command_at script (suc r) ≡ Some (Once (item_for script r))) × (is_raw_item (item_for script r) ≡ true)
-item-at script specs commands r item all at item-raw = (rw all (rw at refl), rw all (rw at item-raw))
-
 raw-behind : (script : Script) (specs : List StreamSpec) (commands : List Command) → script.faults ≡ [] → script.picks ≡ [] → script.commands ≡ Configure specs ∷ commands → specs ≡ raw_spec ∷ [] → AreRequests commands → nat_le (length commands) 33 ≡ true → IsRaw script
 raw-behind script specs commands faults picks all one rest few =
     let some = rest.some in
@@ -96,13 +92,12 @@ raw-behind script specs commands faults picks all one rest few =
       size = omega (arith, size, some, k);
       few = omega (arith, k, few', some);
       configure = rw (all, one) refl;
-      once = λ r l. (at r (omega (arith, k, some, l))).0;
-      item = λ r l. (at r (omega (arith, k, some, l))).1;
+      once = λ r l. at r (omega (arith, k, some, l));
       close = rw (k, all, add-one) rest.close;
     }
   where
-    at : (r : ℕ) → r + 1 < length commands → (command_at script (suc r) ≡ Some (Once (item_for script r))) × (is_raw_item (item_for script r) ≡ true)
-    at r l = let c = rest.once r l in item-at script specs commands r c.0 all c.1 c.2
+    at : (r : ℕ) → r + 1 < length commands → (item : Item) × (command_at script (suc r) ≡ Some (Once item)) × (is_raw_item item ≡ true)
+    at r l = let c = rest.once r l in (c.0, rw all c.1, c.2)
 
 pub raw : (script : Script) → is_raw_script script ≡ true → IsRaw script
 raw script h =
@@ -126,18 +121,14 @@ alone (x ∷ xs) h = rw h refl
 
 pub targets-are : (item : Item) → is_raw_item item ≡ true → take item.targets.count item.targets.list ≡ 0 ∷ []
 targets-are item h =
-    let parts = and_parts ((item.targets.count == 1) && (slice_index_or item.targets.list 0 1 == 0)) (is_none (range_fault item.settings)) h in
-    let targets = and_parts (item.targets.count == 1) (slice_index_or item.targets.list 0 1 == 0) parts.0 in
+    let targets = and_parts (item.targets.count == 1) (slice_index_or item.targets.list 0 1 == 0) h in
     let one : item.targets.count ≡ 1 = grind (arith, nat_tests) in
     let zero' : slice_index_or item.targets.list 0 1 ≡ 0 = grind (arith, nat_tests) in
     rw one (alone item.targets.list zero')
 
-none-is : (x : Option ℕ) → is_none x ≡ true → x ≡ None
-none-is None h = refl
-none-is (Some n) h = absurd (false≢true h)
-
-pub in-range : (item : Item) → is_raw_item item ≡ true → range_fault item.settings ≡ None
-in-range item h = none-is _ (and_parts ((item.targets.count == 1) && (slice_index_or item.targets.list 0 1 == 0)) (is_none (range_fault item.settings)) h).1
+-- the tags of settings fit their fields
+pub small-tag : (s : Settings) (tag : ℕ) → range_fault s ≡ Some tag → tag ≤ 2147483651
+small-tag s tag h = grind (arith, nat_tests)
 
 pub short-exposure : (s : Settings) → range_fault s ≡ None → s.exposure ≤ 100000000
 short-exposure s h = grind (arith, nat_tests)

@@ -61,20 +61,20 @@ module _ (script : Script) (past : List Entry) (t : Facts) (raw : IsRaw script) 
   none-away e [] = refl
   none-away e (b ∷ bs) = (let away = fit.away b in let no' : is_at (place b past) in_trace.Device ≡ false = grind (arith, nat_tests) in rw no' (none-away e bs))
 
-  streams-of : t.sent < t.requests → targets_in_order (item_for script t.sent) ≡ 0 ∷ []
-  streams-of l = let few = few-requests script past t fit in rw (targets-are (item_for script t.sent) (raw.item t.sent (omega (arith, l, few)))) refl
+  streams-of : t.sent < t.requests → targets_in_order (item_for t.items t.sent) ≡ 0 ∷ []
+  streams-of l = rw (targets-are (item_for t.items t.sent) (fit.raw t.sent l)) refl
 
-  goes : t.ended ≡ t.sent → t.returned ≡ t.sent → t.sent < t.requests → may_go script past (record { request = t.sent; index = 0; item = item_for script t.sent; repeats = false }) ≡ true
+  goes : t.ended ≡ t.sent → t.returned ≡ t.sent → t.sent < t.requests → may_go script past (record { request = t.sent; index = 0; item = item_for t.items t.sent; repeats = false }) ≡ true
   goes e r l =
       rw (goes-on past fit.plain, streams-of l, none-open script past t fit e r, none-away r (buffers_of past 0), fit.streams, called t.calls (raw_spec ∷ []) (some-called script past t raw fit (omega (arith, l)))) refl
 
-  pub send-yes : t.ended ≡ t.sent → t.returned ≡ t.sent → t.sent < t.requests → entry_of script past SendStep ≡ sent_with script t (position is_pool t.places)
+  pub send-yes : t.ended ≡ t.sent → t.returned ≡ t.sent → t.sent < t.requests → entry_of script past SendStep ≡ sent_with t (position is_pool t.places)
   send-yes e r l =
       let some = some-called script past t raw fit (omega (arith, l)) in
       let least : find (λ b. is_at (place b past) in_trace.Pool) (range_with_len 0 5) ≡ position is_pool t.places = ap (λ (n : ℕ). find (λ b. is_at (place b past) in_trace.Pool) (range_with_len 0 n)) (sym fit.order.places) ∙ (find-range is_pool (λ b. is_at (place b past) in_trace.Pool) t.places Pool (λ i _. (rw (fit.places i) (pool-place (slice_index_or t.places i Pool))))) in
       rw (quiet-yes script past t fit e r, next-is script past t raw fit l, goes e r l, streams-of l, buffers-are some, least) (with-least (position is_pool t.places))
     where
-      with-least : (o : Option ℕ) → send_with script past (record { request = t.sent; index = 0; item = item_for script t.sent; repeats = false }) (with_target (target_with past 0 o) (Some [])) ≡ sent_with script t o
+      with-least : (o : Option ℕ) → send_with script past (record { request = t.sent; index = 0; item = item_for t.items t.sent; repeats = false }) (with_target (target_with past 0 o) (Some [])) ≡ sent_with t o
       with-least None = refl
       with-least (Some b) = rw (fit.fences b, fit.numbers, fit.settings) refl
 
@@ -99,10 +99,10 @@ module _ (script : Script) (past : List Entry) (t : Facts) (raw : IsRaw script) 
   same-bool true = refl
   same-bool false = refl
 
-  pub send-allowed : (b : BufferId) → t.ended ≡ t.sent → t.returned ≡ t.sent → t.sent < t.requests → b.0 < 5 → slice_index_or t.places b.0 Pool ≡ Pool → IsAllowed script past (Send (record { 0 = t.sent }) (record { 0 = t.sent }) 0 (are_last (settings_before script t.sent) (settings_for script t.sent)) (one_target (record { stream = record { 0 = 0 }; buffer = b; fence = slice_index_or t.fences b.0 None })))
+  pub send-allowed : (b : BufferId) → t.ended ≡ t.sent → t.returned ≡ t.sent → t.sent < t.requests → b.0 < 5 → slice_index_or t.places b.0 Pool ≡ Pool → IsAllowed script past (Send (record { 0 = t.sent }) (record { 0 = t.sent }) 0 (are_last (settings_before t.items t.sent) (settings_for t.items t.sent)) (one_target (record { stream = record { 0 = 0 }; buffer = b; fence = slice_index_or t.fences b.0 None })))
   send-allowed b e r l within home =
       let some = some-called script past t raw fit (omega (arith, l)) in
       let one : (t.sent == t.sent) ≡ true = grind (arith, nat_tests) in
       let at : is_at (place b.0 past) in_trace.Pool ≡ true = rw (fit.places b.0, home) refl in
-      let mark : mark_of script past (settings_for script t.sent) ≡ are_last (settings_before script t.sent) (settings_for script t.sent) = rw fit.settings refl in
-      rw (next-is script past t raw fit l, fit.numbers, one, goes e r l, streams-of l, buffers-are some, buffer-made b.0 within, at, fit.fences b.0, same-fence (slice_index_or t.fences b.0 None), mark, same-bool (are_last (settings_before script t.sent) (settings_for script t.sent))) refl
+      let mark : mark_of script past (settings_for t.items t.sent) ≡ are_last (settings_before t.items t.sent) (settings_for t.items t.sent) = rw fit.settings refl in
+      rw (next-is script past t raw fit l, fit.numbers, one, goes e r l, streams-of l, buffers-are some, buffer-made b.0 within, at, fit.fences b.0, same-fence (slice_index_or t.fences b.0 None), mark, same-bool (are_last (settings_before t.items t.sent) (settings_for t.items t.sent))) refl

@@ -21,14 +21,15 @@ use Rattle.trace_model.specs.Printable.{is_printable}
 use Rattle.trace_model.specs.Reply.{reply}
 use Rattle.std.specs.List.{list_all}
 use Rattle.cam_types.specs.declared.script.Word.TheVariants.{Once as WordOnce}
-use Rattle.service_core.proofs.Printing.{call-prints, fence-fits, filled-prints, part-fits, release-prints, send-prints, shutter-prints, small-number}
+use Rattle.service_core.proofs.Printing.{call-prints, fence-fits, filled-prints, part-fits, refused-prints, release-prints, send-prints, shutter-prints, small-number}
 use Rattle.trace_model.specs.Send.{are_last}
-use Rattle.cam_types.specs.Metadata.{part_at}
+use Rattle.cam_types.specs.Metadata.{part_at, range_fault}
+use Rattle.cam_types.specs.declared.item.Item.{Item}
 use Rattle.cam_types.specs.declared.number.FrameNo.{FrameNo}
 use Rattle.cam_types.specs.declared.number.RequestId.{RequestId}
 use Rattle.cam_types.specs.declared.part.Part.{Part}
 use Rattle.cam_types.specs.declared.reply.Reply.{Reply}
-use Rattle.cam_types.specs.declared.reply.Reply.TheVariants.{Ok, Submitted, Configured}
+use Rattle.cam_types.specs.declared.reply.Reply.TheVariants.{Ok, Submitted, Configured, Refused}
 use Rattle.cam_types.specs.declared.script.Command.{Command}
 use Rattle.cam_types.specs.declared.script.Word.TheVariants.{Configure as WordConfigure, Close as WordClose}
 use Rattle.service_core.specs.declared.step.StepName.{StepName}
@@ -40,11 +41,11 @@ use Rattle.service_core.specs.Ready.{or_entry}
 use Rattle.service_core.specs.Fit.{Facts, Fit, IsSmall, is_client, item_for, settings_for, noted, once_item, raw_made, raw_spec, settings_before}
 use Rattle.service_core.specs.RawScripts.{requests_in}
 use Rattle.service_core.specs.Due.{is_pool, is_home, passed, sent_with}
-use Rattle.service_core.proofs.Answering.{Stage, stage, client-configure-begin, client-configure-call, client-once, client-close-begin, client-close-call, client-close-wait, client-end}
+use Rattle.service_core.proofs.Answering.{AtRequest, Stage, stage, client-configure-begin, client-configure-call, client-once, client-close-begin, client-close-call, client-close-wait, client-end}
 use Rattle.service_core.proofs.Due.{release-is, signal-is, shutter-yes, shutter-no, partial-yes, partial-no, filled-yes, filled-no}
-use Rattle.service_core.proofs.FitSteps.{few-requests, fit-begin, fit-configure, fit-once, fit-close, fit-send, fit-shutter, fit-part, fit-third, fit-filled, fit-release, fit-signal}
+use Rattle.service_core.proofs.FitSteps.{few-requests, fit-begin, fit-configure, fit-once, fit-close, fit-refused, requests-room, fit-send, fit-shutter, fit-part, fit-third, fit-filled, fit-release, fit-signal}
 use Rattle.service_core.proofs.Lists.{and_parts, index-within}
-use Rattle.service_core.proofs.RawLemmas.{IsRaw, in-range, short-exposure}
+use Rattle.service_core.proofs.RawLemmas.{IsRaw, short-exposure, small-tag}
 use Rattle.service_core.proofs.Sending.{send-yes, send-busy, send-none, send-allowed}
 
 if-some : (b : Bool) (x e : Entry) → (if b then Some x else None) ≡ Some e → (b ≡ true) × (x ≡ e)
@@ -66,7 +67,7 @@ pool-only AtClient h = absurd (false≢true h)
 
 module _ (script : Script) (past : List Entry) (t : Facts) (raw : IsRaw script) (fit : Fit script past t) (printed : list_all is_printable past ≡ true) where
   -- the tables' numbers are small
-  pub small : IsSmall script t
+  pub small : IsSmall t
   small =
       let few = few-requests script past t fit in
       let o = fit.order in
@@ -87,18 +88,17 @@ module _ (script : Script) (past : List Entry) (t : Facts) (raw : IsRaw script) 
         released = omega (arith, a, b, d, f, few, all);
         parts = o.parts;
         next_time = omega (arith, a, b, g, few, all);
-        exposure = exposure' (omega (arith, a, b, few));
+        exposure = exposure';
       }
     where
       called : (k calls requests : ℕ) → k ≤ 32 → Rattle.service_core.specs.Fit.AreCalls k calls requests → calls ≤ 34
       called k calls requests l (inl c) = omega (arith, c.0)
-      called k calls requests l (inr (inl c)) = omega (arith, c.0, c.1, l)
-      called k calls requests l (inr (inr c)) = omega (arith, c.0, l)
+      called k calls requests l (inr c) = omega (arith, c.2, l)
 
-      exposure' : t.shutters ≤ requests_in script → (settings_for script t.shutters).exposure ≤ 100000000
-      exposure' l = elim (cases_lt t.shutters (requests_in script)) [
-        | inl less ↦ short-exposure (settings_for script t.shutters) (in-range (item_for script t.shutters) (raw.item t.shutters less))
-        | inr more ↦ (let e : t.shutters ≡ requests_in script = omega arith in let close : command_at script (suc t.shutters) ≡ Some Rattle.cam_types.specs.declared.script.Command.TheVariants.Close = rw (e, ← add-one) raw.close in let none : settings_for script t.shutters ≡ no_settings = ap (λ c. (once_item c).settings) close in rw none (omega arith))
+      exposure' : (settings_for t.items t.shutters).exposure ≤ 100000000
+      exposure' = elim (cases_lt t.shutters t.requests) [
+        | inl less ↦ short-exposure (settings_for t.items t.shutters) (fit.in_range t.shutters less)
+        | inr more ↦ (let none : settings_for t.items t.shutters ≡ no_settings = ap (λ (x : Item). x.settings) (fit.unset t.shutters more) in rw none (omega arith))
       ]
 
   small-time : t.time ≤ 4200000000
@@ -126,7 +126,7 @@ module _ (script : Script) (past : List Entry) (t : Facts) (raw : IsRaw script) 
 
   step-shutter : (e : Entry) → entry_of script past Shutter ≡ Some e → Goes e
   step-shutter e h = elim (cases_lt t.shutters t.sent) [
-    | inl l ↦ (let yes' = shutter-yes script past t raw fit l in let is = same-entry (sym yes' ∙ h) in rw (← is) (yes', fit-shutter script past t raw l fit, shutter-prints t.shutters t.next_time small.shutters small.next_time))
+    | inl l ↦ (let yes' = shutter-yes script past t raw fit l in let is = same-entry (sym yes' ∙ h) in rw (← is) (yes', fit-shutter script past t l fit, shutter-prints t.shutters t.next_time small.shutters small.next_time))
     | inr m ↦ absurd (let known = sym (shutter-no script past t raw fit m) ∙ h in cc)
   ]
 
@@ -147,15 +147,15 @@ module _ (script : Script) (past : List Entry) (t : Facts) (raw : IsRaw script) 
           let yes' = partial-yes script past t raw fit l in
           let is = same-entry (sym yes' ∙ rw at at h) in
           let few = fit.order.parts in
-          let within : t.ended < requests_in script = (let a = fit.order.shutters in let b = fit.order.sent in let c = few-requests script past t fit in omega arith) in
-          let range = in-range (item_for script t.ended) (raw.item t.ended within) in
+          let within : t.ended < t.requests = (let a = fit.order.shutters in let b = fit.order.sent in omega arith) in
+          let range = fit.in_range t.ended within in
           rw (← is) (
             yes',
             elim (cases_lt t.parts 2) [
-              | inl less ↦ rw (part-noted (record { 0 = t.ended }) (t.parts + 1) (part_at (t.parts + 1) (settings_for script t.ended) t.time) less) (fit-part script past t (t.parts + 1) (part_at (t.parts + 1) (settings_for script t.ended) t.time) refl less l fit)
-              | inr more ↦ (let two : t.parts ≡ 2 = omega (arith, few) in let three : t.parts + 1 ≡ 3 = omega arith in rw (third-noted (record { 0 = t.ended }) (t.parts + 1) (part_at (t.parts + 1) (settings_for script t.ended) t.time) two, three) (fit-third script past t (part_at 3 (settings_for script t.ended) t.time) two l fit))
+              | inl less ↦ rw (part-noted (record { 0 = t.ended }) (t.parts + 1) (part_at (t.parts + 1) (settings_for t.items t.ended) t.time) less) (fit-part script past t (t.parts + 1) (part_at (t.parts + 1) (settings_for t.items t.ended) t.time) refl less l fit)
+              | inr more ↦ (let two : t.parts ≡ 2 = omega (arith, few) in let three : t.parts + 1 ≡ 3 = omega arith in rw (third-noted (record { 0 = t.ended }) (t.parts + 1) (part_at (t.parts + 1) (settings_for t.items t.ended) t.time) two, three) (fit-third script past t (part_at 3 (settings_for t.items t.ended) t.time) two l fit))
             ],
-            rw (small-number t.ended (let few' = small.ended in omega arith), part-fits (t.parts + 1) (settings_for script t.ended) t.time (omega arith) (omega (arith, few)) range small-time) refl,
+            rw (small-number t.ended (let few' = small.ended in omega arith), part-fits (t.parts + 1) (settings_for t.items t.ended) t.time (omega arith) (omega (arith, few)) range small-time) refl,
           )
 
   step-deliver : (n s : ℕ) (e : Entry) → filled_due script past n s ≡ Some e → Goes e
@@ -174,7 +174,7 @@ module _ (script : Script) (past : List Entry) (t : Facts) (raw : IsRaw script) 
       due at stream l pass =
           let yes' = filled-yes script past t raw fit l pass in
           let is = same-entry (sym yes' ∙ rw (at, stream) at h) in
-          rw (← is) (yes', fit-filled script past t (digest raw_spec (settings_for script t.returned) t.returned) l fit, filled-prints t.returned t.buffer raw_spec (settings_for script t.returned) t.returned small.returned fit.order.buffer)
+          rw (← is) (yes', fit-filled script past t (digest raw_spec (settings_for t.items t.returned) t.returned) l fit, filled-prints t.returned t.buffer raw_spec (settings_for t.items t.returned) t.returned small.returned fit.order.buffer)
 
   -- ---- the client
 
@@ -199,16 +199,32 @@ module _ (script : Script) (past : List Entry) (t : Facts) (raw : IsRaw script) 
       end : {x : Entry} → entry_of script past Client ≡ Some x → Fit script (x ∷ past) (noted script x t) → is_printable x ≡ true → Fit script (e ∷ past) (noted script e t) × (is_printable e ≡ true)
       end known good prints = let is = same-entry (sym known ∙ h) in rw (← is) (good, prints)
 
+      accepted : 0 < t.calls → t.calls < requests_in script + 1 → (r : AtRequest script t) → range_fault r.item.settings ≡ None → Fit script (e ∷ past) (noted script e t) × (is_printable e ≡ true)
+      accepted some last r range =
+          end {x = trace.Call t.calls WordOnce (Submitted (record { 0 = t.requests }))} (client-once script past t raw fit r.item some last r.raw r.command ∙ rw range refl)
+            (rw r.command (fit-once script past t t.calls (record { 0 = t.requests }) r.item refl refl some last (requests-room script past t fit some last raw.few) r.command r.raw range fit))
+            (call-prints t.calls WordOnce (Submitted (record { 0 = t.requests })) small.calls (small-number t.requests (let few = small.requests in omega arith)))
+
+      refused : 0 < t.calls → t.calls < requests_in script + 1 → (r : AtRequest script t) → (tag : ℕ) → range_fault r.item.settings ≡ Some tag → Fit script (e ∷ past) (noted script e t) × (is_printable e ≡ true)
+      refused some last r tag range =
+          end {x = trace.Call t.calls WordOnce (Refused 8 (Some 0) (Some tag))} (client-once script past t raw fit r.item some last r.raw r.command ∙ rw range refl)
+            (fit-refused script past t t.calls 8 (Some 0) (Some tag) refl some last fit)
+            (refused-prints t.calls tag small.calls (small-tag r.item.settings tag range))
+
+      by-fault : 0 < t.calls → t.calls < requests_in script + 1 → (r : AtRequest script t) → (fault : Option ℕ) → range_fault r.item.settings ≡ fault → Fit script (e ∷ past) (noted script e t) × (is_printable e ≡ true)
+      by-fault some last r None range = accepted some last r range
+      by-fault some last r (Some tag) range = refused some last r tag range
+
       at : Stage script t → (begun : Option Word) → t.begun ≡ begun → Fit script (e ∷ past) (noted script e t) × (is_printable e ≡ true)
       at (inl c) None b = end (client-configure-begin script past t raw fit c.0 b) (fit-begin script past t WordConfigure refl fit) refl
       at (inl c) (Some w) b = end (client-configure-call script past t raw fit w c.0 b) (fit-configure script past t t.calls raw refl c.0 fit) (call-prints t.calls WordConfigure (Configured (record { a = Some raw_made; b = None; c = None; d = None })) small.calls refl)
-      at (inr (inl c)) b' b = end (client-once script past t raw fit c.0 c.1 c.2) (fit-once script past t t.calls (record { 0 = t.requests }) refl refl c.0 c.1 fit) (call-prints t.calls WordOnce (Submitted (record { 0 = t.requests })) small.calls (small-number t.requests (let few = small.requests in omega arith)))
-      at (inr (inr (inl c))) None b = end (client-close-begin script past t raw fit c.2 b) (fit-begin script past t WordClose refl fit) refl
+      at (inr (inl c)) b' b = by-fault c.0 c.1 c.2 (range_fault c.2.item.settings) refl
+      at (inr (inr (inl c))) None b = end (client-close-begin script past t raw fit c.1 b) (fit-begin script past t WordClose refl fit) refl
       at (inr (inr (inl c))) (Some w) b = elim (cases_Bool (is_home t)) [
-        | inl home ↦ end (client-close-call script past t raw fit w c.0 c.2 b home) (fit-close script past t t.calls refl c.0 c.1 fit) (call-prints t.calls WordClose Ok small.calls refl)
-        | inr away ↦ absurd (let known = sym (client-close-wait script past t raw fit w c.0 c.2 b away) ∙ h in cc)
+        | inl home ↦ end (client-close-call script past t raw fit w c.0 c.1 b home) (fit-close script past t t.calls refl c.0 fit) (call-prints t.calls WordClose Ok small.calls refl)
+        | inr away ↦ absurd (let known = sym (client-close-wait script past t raw fit w c.0 c.1 b away) ∙ h in cc)
       ]
-      at (inr (inr (inr c))) b' b = absurd (let known = sym (client-end script past t raw fit c.2) ∙ h in cc)
+      at (inr (inr (inr c))) b' b = absurd (let known = sym (client-end script past t raw fit c.1) ∙ h in cc)
 
   -- ---- sends
 
@@ -234,7 +250,7 @@ module _ (script : Script) (past : List Entry) (t : Facts) (raw : IsRaw script) 
           let within : b < 5 = (let f = found.0 in rw fit.order.places at f) in
           let known = rw p at (sym (send-yes script past t raw fit en re l) ∙ h) in
           let is = same-entry known in
-          rw (← is) (send-allowed script past t raw fit (record { 0 = b }) en re l within home, fit-send script past t (are_last (settings_before script t.sent) (settings_for script t.sent)) (record { 0 = b }) (slice_index_or t.fences b None) raw l en re within home fit, send-prints t.sent (are_last (settings_before script t.sent) (settings_for script t.sent)) (record { 0 = b }) (slice_index_or t.fences b None) small.sent within (rw (fit.fences b) at (fence-fits b past printed)))
+          rw (← is) (send-allowed script past t raw fit (record { 0 = b }) en re l within home, fit-send script past t (are_last (settings_before t.items t.sent) (settings_for t.items t.sent)) (record { 0 = b }) (slice_index_or t.fences b None) l en re within home fit, send-prints t.sent (are_last (settings_before t.items t.sent) (settings_for t.items t.sent)) (record { 0 = b }) (slice_index_or t.fences b None) small.sent within (rw (fit.fences b) at (fence-fits b past printed)))
 
   -- ---- any step
 

@@ -15,13 +15,12 @@ use Rattle.trace_model.specs.Shutter.{shutter_due}
 use Rattle.service_core.specs.declared.step.StepName.TheVariants.{Send as SendStep, Client as ClientStep}
 use Rattle.service_core.specs.First.{entry_of}
 use Rattle.cam_types.specs.Metadata.{range_fault}
-use Rattle.service_core.specs.Fit.{Facts, Fit, item_for, settings_for}
-use Rattle.service_core.proofs.FitSteps.{few-requests}
+use Rattle.service_core.specs.Fit.{Facts, Fit, settings_for}
 use Rattle.service_core.specs.Due.{client_of, filled_of, is_deliverable, is_home, is_pool, is_resting, partial_of, passed, send_of, sent_with, shutter_of}
 use Rattle.service_core.proofs.Answering.{Stage, stage, client-configure-begin, client-configure-call, client-once, client-close-begin, client-close-call, client-close-wait, client-end}
 use Rattle.service_core.proofs.Due.{shutter-yes, shutter-no, partial-yes, partial-no, filled-yes, filled-no}
 use Rattle.service_core.proofs.Lists.{and_parts}
-use Rattle.service_core.proofs.RawLemmas.{IsRaw, in-range}
+use Rattle.service_core.proofs.RawLemmas.{IsRaw}
 use Rattle.service_core.proofs.Sending.{send-yes, send-busy, send-none}
 
 abbrev frame : ℕ → FrameNo
@@ -37,18 +36,18 @@ module _ (script : Script) (past : List Entry) (t : Facts) (raw : IsRaw script) 
     | inr m ↦ (let n : nat_lt t.shutters t.sent ≡ false = grind (arith, nat_tests) in rw n (shutter-no script past t raw fit m))
   ]
 
-  pub partial-is : (n : FrameNo) → partial_due script past n.0 ≡ partial_of script t n
+  pub partial-is : (n : FrameNo) → partial_due script past n.0 ≡ partial_of t n
   partial-is n = elim (cases_Bool ((n.0 == t.ended) && nat_lt n.0 t.shutters)) [
     | inl y ↦ (let at : n.0 ≡ t.ended = grind (arith, nat_tests) in let l : t.ended < t.shutters = grind (arith, nat_tests) in rw y (due at l))
     | inr no' ↦ rw no' (partial-no script past t raw fit n.0 no')
   ]
     where
-      due : n.0 ≡ t.ended → t.ended < t.shutters → partial_due script past n.0 ≡ Some (Rattle.trace_model.specs.declared.entry.Entry.TheVariants.Partial n (t.parts + 1) (Rattle.cam_types.specs.Metadata.part_at (t.parts + 1) (settings_for script n.0) t.time))
+      due : n.0 ≡ t.ended → t.ended < t.shutters → partial_due script past n.0 ≡ Some (Rattle.trace_model.specs.declared.entry.Entry.TheVariants.Partial n (t.parts + 1) (Rattle.cam_types.specs.Metadata.part_at (t.parts + 1) (settings_for t.items n.0) t.time))
       due at l =
           let same : n ≡ record { 0 = t.ended } = ap frame at in
           rw same (partial-yes script past t raw fit l)
 
-  pub filled-is : (n : FrameNo) (s : StreamIx) → filled_due script past n.0 s.0 ≡ filled_of script t n s
+  pub filled-is : (n : FrameNo) (s : StreamIx) → filled_due script past n.0 s.0 ≡ filled_of t n s
   filled-is n s = elim (cases_Bool (is_deliverable t n s)) [
     | inl y ↦ (let a = and_parts (n.0 == t.returned) (nat_lt n.0 t.shutters && ((s.0 == 0) && passed t t.fence)) y in
         let b = and_parts (nat_lt n.0 t.shutters) ((s.0 == 0) && passed t t.fence) a.1 in
@@ -60,7 +59,7 @@ module _ (script : Script) (past : List Entry) (t : Facts) (raw : IsRaw script) 
     | inr no' ↦ rw no' (filled-no script past t raw fit n.0 s.0 no')
   ]
     where
-      due : n.0 ≡ t.returned → s.0 ≡ 0 → t.returned < t.shutters → passed t t.fence ≡ true → filled_due script past n.0 s.0 ≡ Some (Rattle.trace_model.specs.declared.entry.Entry.TheVariants.Filled n s t.buffer None (Rattle.trace_model.specs.Picture.digest Rattle.service_core.specs.Fit.raw_spec (settings_for script n.0) n.0))
+      due : n.0 ≡ t.returned → s.0 ≡ 0 → t.returned < t.shutters → passed t t.fence ≡ true → filled_due script past n.0 s.0 ≡ Some (Rattle.trace_model.specs.declared.entry.Entry.TheVariants.Filled n s t.buffer None (Rattle.trace_model.specs.Picture.digest Rattle.service_core.specs.Fit.raw_spec (settings_for t.items n.0) n.0))
       due at stream l pass =
           let same : n ≡ record { 0 = t.returned } = ap frame at in
           let first : s ≡ record { 0 = 0 } = ap stream_at stream in
@@ -72,15 +71,15 @@ module _ (script : Script) (past : List Entry) (t : Facts) (raw : IsRaw script) 
       at : Stage script t → (begun : Option Word) → t.begun ≡ begun → entry_of script past ClientStep ≡ client_of t (command_at script t.calls) begun
       at (inl c) None b = rw c.1 (client-configure-begin script past t raw fit c.0 b)
       at (inl c) (Some w) b = rw c.1 (client-configure-call script past t raw fit w c.0 b)
-      at (inr (inl c)) b' b = rw c.2 (client-once script past t raw fit c.0 c.1 c.2)
-      at (inr (inr (inl c))) None b = rw c.2 (client-close-begin script past t raw fit c.2 b)
+      at (inr (inl c)) b' b = rw c.2.command (client-once script past t raw fit c.2.item c.0 c.1 c.2.raw c.2.command)
+      at (inr (inr (inl c))) None b = rw c.1 (client-close-begin script past t raw fit c.1 b)
       at (inr (inr (inl c))) (Some w) b = elim (cases_Bool (is_home t)) [
-        | inl home ↦ rw (c.2, home) (client-close-call script past t raw fit w c.0 c.2 b home)
-        | inr away ↦ rw (c.2, away) (client-close-wait script past t raw fit w c.0 c.2 b away)
+        | inl home ↦ rw (c.1, home) (client-close-call script past t raw fit w c.0 c.1 b home)
+        | inr away ↦ rw (c.1, away) (client-close-wait script past t raw fit w c.0 c.1 b away)
       ]
-      at (inr (inr (inr c))) b' b = rw c.2 (client-end script past t raw fit c.2)
+      at (inr (inr (inr c))) b' b = rw c.1 (client-end script past t raw fit c.1)
 
-  pub send-is : entry_of script past SendStep ≡ send_of script t
+  pub send-is : entry_of script past SendStep ≡ send_of t
   send-is =
       let o = fit.order in let ended = o.ended in let shutters = o.shutters in let returned = o.returned in
       elim (cases_eq t.ended t.sent) [
@@ -95,17 +94,16 @@ module _ (script : Script) (past : List Entry) (t : Facts) (raw : IsRaw script) 
       ]
 
   -- the settings of a frame that can be delivered are in range
-  pub deliverable-range : (n : FrameNo) (s : StreamIx) → is_deliverable t n s ≡ true → range_fault (settings_for script n.0) ≡ None
+  pub deliverable-range : (n : FrameNo) (s : StreamIx) → is_deliverable t n s ≡ true → range_fault (settings_for t.items n.0) ≡ None
   deliverable-range n s y =
       let a = and_parts (n.0 == t.returned) (nat_lt n.0 t.shutters && ((s.0 == 0) && passed t t.fence)) y in
       let b = and_parts (nat_lt n.0 t.shutters) ((s.0 == 0) && passed t t.fence) a.1 in
       let l : n.0 < t.shutters = grind (arith, nat_tests) in
-      let few = few-requests script past t fit in
       let sent = fit.order.sent in
       let shutters = fit.order.shutters in
-      in-range (item_for script n.0) (raw.item n.0 (omega (arith, l, few, sent, shutters)))
+      fit.in_range n.0 (omega (arith, l, sent, shutters))
 
-  pub filled-yes-is : (n : FrameNo) (s : StreamIx) → is_deliverable t n s ≡ true → filled_due script past n.0 s.0 ≡ Some (Rattle.trace_model.specs.declared.entry.Entry.TheVariants.Filled n s t.buffer None (Rattle.trace_model.specs.Picture.digest Rattle.service_core.specs.Fit.raw_spec (settings_for script n.0) n.0))
+  pub filled-yes-is : (n : FrameNo) (s : StreamIx) → is_deliverable t n s ≡ true → filled_due script past n.0 s.0 ≡ Some (Rattle.trace_model.specs.declared.entry.Entry.TheVariants.Filled n s t.buffer None (Rattle.trace_model.specs.Picture.digest Rattle.service_core.specs.Fit.raw_spec (settings_for t.items n.0) n.0))
   filled-yes-is n s y = filled-is n s ∙ rw y refl
 
   pub filled-no-is : (n : FrameNo) (s : StreamIx) → is_deliverable t n s ≡ false → filled_due script past n.0 s.0 ≡ None

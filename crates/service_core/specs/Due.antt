@@ -1,14 +1,14 @@
 use Rattle.std.specs.Prelude.{ℕ, ◌==◌, ◌+◌, Bool, true, false, ◌&&◌, not, List, Option, Some, None, is_some, nat_lt, option_map, position, slice_index_or, take, if◌then◌else◌}
 use Rattle.std.specs.List.{list_all}
-use Rattle.cam_types.specs.Metadata.{part_at}
+use Rattle.cam_types.specs.Metadata.{part_at, range_fault}
 use Rattle.cam_types.specs.declared.number.BufferId.{BufferId}
 use Rattle.cam_types.specs.declared.number.FenceNo.{FenceNo}
 use Rattle.cam_types.specs.declared.number.FrameNo.{FrameNo}
 use Rattle.cam_types.specs.declared.number.StreamIx.{StreamIx}
-use Rattle.cam_types.specs.declared.reply.Reply.TheVariants.{Ok, Submitted, Configured}
+use Rattle.cam_types.specs.declared.reply.Reply.{Reply}
+use Rattle.cam_types.specs.declared.reply.Reply.TheVariants.{Ok, Submitted, Configured, Refused}
 use Rattle.cam_types.specs.declared.script.Command.{Command}
 use Rattle.cam_types.specs.declared.script.Command.TheVariants.{Configure, Once, Close}
-use Rattle.cam_types.specs.declared.script.Script.{Script}
 use Rattle.cam_types.specs.declared.script.Word.{Word}
 use Rattle.cam_types.specs.declared.script.Word.TheVariants.{Configure as WordConfigure, Once as WordOnce, Close as WordClose}
 use Rattle.trace_model.specs.declared.entry.Entry.{Entry}
@@ -56,40 +56,48 @@ release_of t b = if is_client (slice_index_or t.places b.0 Pool) then Some (Rele
 abbrev pub signal_of : Facts → FenceNo → Option Entry
 signal_of t f = if nat_lt f.0 t.released && not (slice_index_or t.signalled f.0 false) then Some (Signal f) else None
 
+-- of a request: it is accepted where no setting is out of its range
+abbrev pub once_reply : Facts → Option ℕ → Reply
+once_reply t None = Submitted (record { 0 = t.requests })
+once_reply t (Some tag) = Refused 8 (Some 0) (Some tag)
+
+abbrev pub once_of : Facts → Option ℕ → Entry
+once_of t fault = Call t.calls WordOnce (once_reply t fault)
+
 -- of the client's next command, and of the one that has begun
 abbrev pub client_of : Facts → Option Command → Option Word → Option Entry
 client_of t (Some (Configure _)) None = Some (Begin WordConfigure)
 client_of t (Some (Configure _)) (Some _) = Some (Call t.calls WordConfigure (Configured (record { a = Some raw_made; b = None; c = None; d = None })))
-client_of t (Some (Once _)) _ = Some (Call t.calls WordOnce (Submitted (record { 0 = t.requests })))
+client_of t (Some (Once item)) _ = Some (once_of t (range_fault item.settings))
 client_of t (Some Close) None = Some (Begin WordClose)
 client_of t (Some Close) (Some _) = if is_home t then Some (Call t.calls WordClose Ok) else None
 client_of t _ _ = None
 
 -- the mark, with which the next item is sent
-abbrev pub mark_for : Script → Facts → Bool
-mark_for script t = are_last (settings_before script t.sent) (settings_for script t.sent)
+abbrev pub mark_for : Facts → Bool
+mark_for t = are_last (settings_before t.items t.sent) (settings_for t.items t.sent)
 
 -- what is sent with this buffer, if there is one
-abbrev pub sent_with : Script → Facts → Option ℕ → Option Entry
-sent_with script t None = None
-sent_with script t (Some b) =
-    Some (Send (record { 0 = t.sent }) (record { 0 = t.sent }) 0 (mark_for script t) (one_target (record { stream = record { 0 = 0 }; buffer = record { 0 = b }; fence = slice_index_or t.fences b None })))
+abbrev pub sent_with : Facts → Option ℕ → Option Entry
+sent_with t None = None
+sent_with t (Some b) =
+    Some (Send (record { 0 = t.sent }) (record { 0 = t.sent }) 0 (mark_for t) (one_target (record { stream = record { 0 = 0 }; buffer = record { 0 = b }; fence = slice_index_or t.fences b None })))
 
-abbrev pub send_of : Script → Facts → Option Entry
-send_of script t = if is_resting t && nat_lt t.sent t.requests then sent_with script t (position is_pool t.places) else None
+abbrev pub send_of : Facts → Option Entry
+send_of t = if is_resting t && nat_lt t.sent t.requests then sent_with t (position is_pool t.places) else None
 
 abbrev pub shutter_of : Facts → Option Entry
 shutter_of t = if nat_lt t.shutters t.sent then Some (Shutter (record { 0 = t.shutters }) t.next_time) else None
 
-abbrev pub partial_of : Script → Facts → FrameNo → Option Entry
-partial_of script t n =
-    if (n.0 == t.ended) && nat_lt n.0 t.shutters then Some (Partial n (t.parts + 1) (part_at (t.parts + 1) (settings_for script n.0) t.time)) else None
+abbrev pub partial_of : Facts → FrameNo → Option Entry
+partial_of t n =
+    if (n.0 == t.ended) && nat_lt n.0 t.shutters then Some (Partial n (t.parts + 1) (part_at (t.parts + 1) (settings_for t.items n.0) t.time)) else None
 
 abbrev pub is_deliverable : Facts → FrameNo → StreamIx → Bool
 is_deliverable t n s = (n.0 == t.returned) && (nat_lt n.0 t.shutters && ((s.0 == 0) && passed t t.fence))
 
-abbrev pub filled_of : Script → Facts → FrameNo → StreamIx → Option Entry
-filled_of script t n s = if is_deliverable t n s then Some (Filled n s t.buffer None (digest raw_spec (settings_for script n.0) n.0)) else None
+abbrev pub filled_of : Facts → FrameNo → StreamIx → Option Entry
+filled_of t n s = if is_deliverable t n s then Some (Filled n s t.buffer None (digest raw_spec (settings_for t.items n.0) n.0)) else None
 
 -- ---- which step is the first that is ready
 
@@ -125,5 +133,5 @@ first_but_send t command =
     (or_step (step_if (is_some (client_of t command t.begun)) StepClient)
     (device_first t)))
 
-abbrev pub first_of : Script → Facts → Option Command → Option StepName
-first_of script t command = or_step (step_if (is_some (send_of script t)) StepSend) (first_but_send t command)
+abbrev pub first_of : Facts → Option Command → Option StepName
+first_of t command = or_step (step_if (is_some (send_of t)) StepSend) (first_but_send t command)

@@ -1,12 +1,13 @@
 use Rattle.std.specs.Prelude.{◌≡◌, ℕ, zero, suc, ◌==◌, ◌+◌, ◌-◌, ◌*◌, ◌<◌, ◌≤◌, ◌⊎◌, Bool, true, false, ◌&&◌, List, [], ◌∷◌, ◌++◌, Option, Some, None, length, max, count_by, nat_lt, replicate, slice_index_or, slice_set, if◌then◌else◌}
 use Rattle.std.specs.List.{list_any, list_all}
+use Rattle.cam_types.specs.Metadata.{range_fault}
 use Rattle.cam_types.specs.declared.four.Four.{Four}
 use Rattle.cam_types.specs.declared.item.Item.{Item}
 use Rattle.cam_types.specs.declared.item.Settings.{Settings}
 use Rattle.cam_types.specs.declared.number.BufferId.{BufferId}
 use Rattle.cam_types.specs.declared.number.FenceNo.{FenceNo}
 use Rattle.cam_types.specs.declared.reply.Made.{Made}
-use Rattle.cam_types.specs.declared.reply.Reply.TheVariants.{Ok, Submitted, Configured}
+use Rattle.cam_types.specs.declared.reply.Reply.TheVariants.{Ok, Submitted, Configured, Refused}
 use Rattle.cam_types.specs.declared.script.Command.{Command}
 use Rattle.cam_types.specs.declared.script.Command.TheVariants.{Once}
 use Rattle.cam_types.specs.declared.script.Script.{Script}
@@ -34,7 +35,7 @@ use Rattle.trace_model.specs.Shutter.{next_time}
 use Rattle.service_core.specs.declared.tables.Place.{Place}
 use Rattle.service_core.specs.declared.tables.Place.TheVariants.{Pool, Device, Client}
 use Rattle.service_core.specs.declared.tables.Tables.{Tables}
-use Rattle.service_core.specs.RawScripts.{requests_in}
+use Rattle.service_core.specs.RawScripts.{is_raw_item, requests_in}
 
 -- That the service's tables say what the definitions say of its trace. Nothing that a user of the service relies on
 -- stands here: this is the invariant that carries the proof.
@@ -44,6 +45,7 @@ pub record Facts : Type 0 where
   pub calls : ℕ
   pub begun : Option Word
   pub requests : ℕ
+  pub items : List Item
   pub sent : ℕ
   pub shutters : ℕ
   pub ended : ℕ
@@ -63,6 +65,7 @@ facts_of t = record {
   calls = t.calls;
   begun = t.begun;
   requests = t.requests;
+  items = t.items.items;
   sent = t.sent;
   shutters = t.shutters;
   ended = t.ended;
@@ -81,18 +84,18 @@ facts_of t = record {
 -- ---- the script's requests
 
 abbrev pub no_item : Item
-no_item = record { settings = no_settings; targets = record { count = 0; list = [] } }
+no_item = record { settings = no_settings; targets = record { count = 0; list = replicate 8 0 } }
 
 abbrev pub once_item : Option Command → Item
 once_item (Some (Once item)) = item
 once_item _ = no_item
 
--- the item of request r, which is the command behind the configure and r others
-abbrev pub item_for : Script → ℕ → Item
-item_for script r = once_item (command_at script (suc r))
+-- the item of request r, which the tables keep
+abbrev pub item_for : List Item → ℕ → Item
+item_for items r = slice_index_or items r no_item
 
-abbrev pub settings_for : Script → ℕ → Settings
-settings_for script r = (item_for script r).settings
+abbrev pub settings_for : List Item → ℕ → Settings
+settings_for items r = (item_for items r).settings
 
 -- ---- the tables before the first entry
 
@@ -101,6 +104,7 @@ first_facts = record {
   calls = 0;
   begun = None;
   requests = 0;
+  items = replicate 32 no_item;
   sent = 0;
   shutters = 0;
   ended = 0;
@@ -130,13 +134,14 @@ noted_target None t = t
 
 abbrev pub noted : Script → Entry → Facts → Facts
 noted script (Begin word) t = record t { begun = Some word }
-noted script (Call i word (Submitted r)) t = record t { begun = None; calls = t.calls + 1; requests = t.requests + 1 }
+noted script (Call i word (Submitted r)) t =
+    record t { begun = None; calls = t.calls + 1; requests = t.requests + 1; items = slice_set t.items t.requests (once_item (command_at script i)) }
 noted script (Call i word reply) t = record t { begun = None; calls = t.calls + 1 }
 noted script (Send n r i same targets) t = noted_target targets.a t
 noted script (Shutter n time) t = record t {
   shutters = t.shutters + 1;
   time = t.next_time;
-  next_time = t.next_time + max 33333333 (settings_for script t.shutters).exposure;
+  next_time = t.next_time + max 33333333 (settings_for t.items t.shutters).exposure;
 }
 noted script (Partial n k part) t = if t.parts == 2 then record t { ended = t.ended + 1; parts = 0 } else record t { parts = t.parts + 1 }
 noted script (Filled n s b f digest) t = record t {
@@ -170,6 +175,7 @@ abbrev pub is_plain : Entry → Bool
 is_plain (Begin word) = is_raw_call word
 is_plain (Call i WordConfigure (Configured m)) = true
 is_plain (Call i WordOnce (Submitted r)) = true
+is_plain (Call i WordOnce (Refused code first second)) = true
 is_plain (Call i WordClose Ok) = true
 is_plain (Send _ _ _ _ _) = true
 is_plain (Shutter _ _) = true
@@ -184,20 +190,19 @@ abbrev pub below : ℕ → List ℕ
 below zero = []
 below (suc n) = n ∷ below n
 
--- how the calls and the requests go together: none was made; the configure and the requests behind it; all of them
+-- how the calls and the requests go together: none was made; the configure stands, and each request has a call of its own
 abbrev pub AreCalls : ℕ → ℕ → ℕ → Type 0
-AreCalls k calls requests =
-    ((calls ≡ 0) × (requests ≡ 0)) ⊎ (((calls ≡ requests + 1) × (requests ≤ k)) ⊎ ((calls ≡ k + 2) × (requests ≡ k)))
+AreCalls k calls requests = ((calls ≡ 0) × (requests ≡ 0)) ⊎ ((requests + 1 ≤ calls) × (requests ≤ k) × (calls ≤ k + 2))
 
 -- this, once the configure is answered
 abbrev pub when_called : {T : Type 0} → ℕ → List T → List T
 when_called zero xs = []
 when_called (suc _) xs = xs
 
--- the items of the first requests
-abbrev pub requests_to : Script → ℕ → List Waiting
-requests_to script zero = []
-requests_to script (suc r) = requests_to script r ++ named r 0 (queued_items (command_at script (suc r)))
+-- the first requests, as they were put into the queue
+abbrev pub requests_to : List Item → ℕ → List Waiting
+requests_to items zero = []
+requests_to items (suc r) = requests_to items r ++ record { request = r; index = 0; item = item_for items r } ∷ []
 
 abbrev pub one_target : Sent → Four Sent
 one_target target = record { a = Some target; b = None; c = None; d = None }
@@ -224,9 +229,9 @@ abbrev pub is_client : Place → Bool
 is_client Client = true
 is_client _ = false
 
-abbrev pub settings_before : Script → ℕ → Option Settings
-settings_before script zero = None
-settings_before script (suc n) = Some (settings_for script n)
+abbrev pub settings_before : List Item → ℕ → Option Settings
+settings_before items zero = None
+settings_before items (suc n) = Some (settings_for items n)
 
 -- how the counts go together
 pub record InOrder (t : Facts) : Type 0 where
@@ -241,6 +246,7 @@ pub record InOrder (t : Facts) : Type 0 where
   pub places : length t.places ≡ 5
   pub fences : length t.fences ≡ 5
   pub signalled : length t.signalled ≡ 32
+  pub items : length t.items ≡ 32
   pub buffer : t.buffer.0 < 5
   pub clients : t.released + count_by is_client t.places ≡ t.returned
   pub clock : t.time ≤ t.next_time
@@ -253,8 +259,12 @@ pub record Fit (script : Script) (past : List Entry) (t : Facts) : Type 0 where
   pub begun : begun past ≡ t.begun
   pub requests : request_count past ≡ t.requests
   pub are_calls : AreCalls (requests_in script) t.calls t.requests
-  pub commands : (r : ℕ) → r < t.requests → command_of script past r ≡ command_at script (suc r)
-  pub submitted : submitted script past ≡ requests_to script t.requests
+  pub commands : (r : ℕ) → r < t.requests → command_of script past r ≡ Some (Once (item_for t.items r))
+  -- each item that was accepted asks for stream 0 alone, with settings in their ranges
+  pub raw : (r : ℕ) → r < t.requests → is_raw_item (item_for t.items r) ≡ true
+  pub in_range : (r : ℕ) → r < t.requests → range_fault (item_for t.items r).settings ≡ None
+  pub unset : (r : ℕ) → t.requests ≤ r → item_for t.items r ≡ no_item
+  pub submitted : submitted script past ≡ requests_to t.items t.requests
   pub streams : streams script past ≡ when_called t.calls (raw_spec ∷ [])
   pub made : made past ≡ when_called t.calls (raw_made ∷ [])
   pub made_count : made_count past ≡ (if t.calls == 0 then 0 else 5)
@@ -267,7 +277,7 @@ pub record Fit (script : Script) (past : List Entry) (t : Facts) : Type 0 where
   pub sends : (n : ℕ) → n < t.sent → IsSentAlone n (send_of n past)
   pub unsent : (n : ℕ) → t.sent ≤ n → send_of n past ≡ None
   pub last : (n : ℕ) → t.sent ≡ n + 1 → targets_of n past ≡ last_target t ∷ []
-  pub settings : last_settings script past ≡ settings_before script t.sent
+  pub settings : last_settings script past ≡ settings_before t.items t.sent
   pub shutters : (n : ℕ) → has_shutter n past ≡ nat_lt n t.shutters
   pub unexposed : (n : ℕ) → t.shutters ≤ n → shutter_time n past ≡ None
   pub time : t.ended < t.shutters → shutter_time t.ended past ≡ Some t.time
@@ -288,7 +298,7 @@ pub record Fit (script : Script) (past : List Entry) (t : Facts) : Type 0 where
 
 -- ---- how small the numbers are
 
-pub record IsSmall (script : Script) (t : Facts) : Type 0 where
+pub record IsSmall (t : Facts) : Type 0 where
   pub calls : t.calls ≤ 34
   pub requests : t.requests ≤ 32
   pub sent : t.sent ≤ 32
@@ -298,4 +308,4 @@ pub record IsSmall (script : Script) (t : Facts) : Type 0 where
   pub released : t.released ≤ 32
   pub parts : t.parts ≤ 2
   pub next_time : t.next_time ≤ 4200000000
-  pub exposure : (settings_for script t.shutters).exposure ≤ 100000000
+  pub exposure : (settings_for t.items t.shutters).exposure ≤ 100000000

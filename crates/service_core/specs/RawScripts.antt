@@ -9,7 +9,8 @@ use Rattle.cam_types.specs.declared.stream.Format.TheVariants.{Raw16}
 use Rattle.cam_types.specs.declared.stream.StreamSpec.{StreamSpec}
 use Rattle.trace_model.specs.Reply.{is_raw}
 
--- The scripts that the service runs today: one RAW16 stream, then at most 32 requests for a picture of it, then a close.
+-- The scripts that the service runs today: one RAW16 stream, then at most 32 requests for a picture of it, then a close. The
+-- settings of a request may be out of their ranges: then it is refused.
 
 abbrev pub is_raw_spec : StreamSpec → Bool
 is_raw_spec spec = (not spec.input && is_raw spec.format) && ((spec.width == 160) && (spec.height == 120))
@@ -19,10 +20,9 @@ abbrev pub is_raw_alone : List StreamSpec → Bool
 is_raw_alone (spec ∷ []) = is_raw_spec spec
 is_raw_alone _ = false
 
--- the item asks for a picture of stream 0 alone, with settings within their ranges
+-- the item asks for a picture of stream 0 alone
 abbrev pub is_raw_item : Item → Bool
-is_raw_item item =
-    ((item.targets.count == 1) && (slice_index_or item.targets.list 0 1 == 0)) && is_none (range_fault item.settings)
+is_raw_item item = (item.targets.count == 1) && (slice_index_or item.targets.list 0 1 == 0)
 
 -- requests, and a close behind them
 abbrev pub are_requests : List Command → Bool

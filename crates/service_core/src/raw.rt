@@ -2,7 +2,6 @@ ghost use Rattle.std.specs.Prelude.{◌≡◌};
 ghost use Rattle.service_core.specs.RawScripts.{are_raw_commands, are_requests, is_raw_alone, is_raw_item, is_raw_script, is_raw_spec};
 
 use cam_types::{Command, Format, Item, Script, StreamSpec};
-use meta_rules::range_fault;
 
 /// Whether the service runs the script today: one RAW16 stream, then at most 32 requests for it, then a `close`, without
 /// faults and picks.
@@ -53,9 +52,9 @@ fn are_requests(commands: &[Command]) -> bool
     matches!(rest, [Command::Close])
 }
 
-/// Whether the item asks for a picture of stream 0 alone, with settings in their ranges.
+/// Whether the item asks for a picture of stream 0 alone.
 fn is_raw_item(item: Item) -> bool
     ensures { result ≡ is_raw_item item }
 {
-    item.targets.count == 1 && item.targets.list[0] == 0 && range_fault(item.settings).is_none()
+    item.targets.count == 1 && item.targets.list[0] == 0
 }

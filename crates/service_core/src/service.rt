@@ -11,7 +11,7 @@ ghost use Rattle.service_core.specs.RawScripts.{is_raw_script};
 use crate::draw::Canvas;
 use crate::history::History;
 use crate::step::{Step, StepName};
-use crate::tables::{Tables, settings_of_request};
+use crate::tables::Tables;
 use cam_types::{BufferId, FenceNo, FrameNo, NoMemory, Script, StreamIx};
 use std::alloc::Global;
 use std::marker::Model;
@@ -130,7 +130,7 @@ impl Service {
     pub fn send(&mut self) -> Step
         ensures { Answers (first_move_of self.old.script self.old.history StepName.Send) self.old result self.new }
     {
-        let due = self.tables.due_send(&self.script);
+        let due = self.tables.due_send();
         self.make(StepName::Send, due)
     }
 
@@ -146,7 +146,7 @@ impl Service {
     pub fn partial(&mut self, frame: FrameNo) -> Step
         ensures { Answers (first_move_of self.old.script self.old.history (StepName.Partial frame)) self.old result self.new }
     {
-        let due = self.tables.due_partial(&self.script, frame);
+        let due = self.tables.due_partial(frame);
         self.make(StepName::Partial(frame), due)
     }
 
@@ -158,7 +158,7 @@ impl Service {
         if !self.tables.is_deliverable(frame, stream) {
             return None;
         }
-        let settings = settings_of_request(&self.script, frame.0);
+        let settings = self.tables.settings_for(frame.0);
         match self.canvas.take() {
             None => None,
             Some(canvas) => {
@@ -206,7 +206,7 @@ impl Service {
         ensures { result ≡ first_chosen self.now.script self.now.history }
     {
         let command = self.script.commands.get(self.tables.calls);
-        self.tables.first(&self.script, command)
+        self.tables.first(command)
     }
 
     /// Makes a step by its name.

@@ -7,15 +7,18 @@ ghost use Rattle.cam_types.specs.declared.part.Part.{Part as SomePart};
 ghost use Rattle.cam_types.specs.declared.script.Script.{Script as SomeScript};
 ghost use Rattle.cam_types.specs.declared.script.Word.{Word as SomeWord};
 ghost use Rattle.cam_types.specs.declared.stream.StreamSpec.{StreamSpec as SomeSpec};
+ghost use Rattle.cam_types.specs.Metadata.{range_fault};
+ghost use Rattle.trace_model.specs.Calls.{command_at};
 ghost use Rattle.trace_model.specs.Send.{are_same};
-ghost use Rattle.service_core.specs.Fit.{IsSmall, facts_of, first_facts, is_client, noted, noted_target, settings_for};
-ghost use Rattle.service_core.specs.Due.{buffer_number, client_of, device_first, fence_number, first_but_send, first_of, has_all_signals, is_deliverable, is_home, is_pool, is_resting, mark_for, partial_of, passed, release_of, send_of, sent_with, shutter_of, signal_of};
+ghost use Rattle.service_core.specs.Fit.{IsSmall, facts_of, first_facts, is_client, noted, noted_target, once_item, settings_for};
+ghost use Rattle.service_core.specs.Due.{buffer_number, client_of, device_first, fence_number, first_but_send, first_of, has_all_signals, is_deliverable, is_home, is_pool, is_resting, mark_for, once_of, once_reply, partial_of, passed, release_of, send_of, sent_with, shutter_of, signal_of};
 
 use crate::step::StepName;
 use cam_types::{
-    BufferId, Command, FenceNo, Four, FrameNo, Made, NoMemory, Reply, RequestId, Script, Settings,
-    StreamIx, Word,
+    BufferId, Command, FenceNo, Four, FrameNo, Item, Made, NoMemory, Reply, RequestId, Script,
+    Settings, StreamIx, Targets, Word,
 };
+use meta_rules::range_fault;
 use partial_results::part;
 use std::alloc::Global;
 use trace_model::{Entry, Sent};
@@ -26,18 +29,30 @@ pub const BUFFERS: u32 = 5;
 /// The most fences that a run has: one for each frame.
 const FENCES: usize = 32;
 
+/// The refusal of a request with a setting out of its range.
+const BAD_SETTING: u8 = 8;
+
 /// The time of the first shutter, in nanoseconds.
 const FIRST_SHUTTER: u64 = 1_000_000_000;
 
 /// The least time between two shutters, in nanoseconds.
 const FRAME_TIME: u64 = 33_333_333;
 
-/// The settings of no request.
-const NO_SETTINGS: Settings = Settings {
-    pattern: 0,
-    level: 0,
-    exposure: 0,
-    iso: 0,
+/// The most requests that a script of the form has.
+const REQUESTS: usize = 32;
+
+/// The item of no request.
+const NO_ITEM: Item = Item {
+    settings: Settings {
+        pattern: 0,
+        level: 0,
+        exposure: 0,
+        iso: 0,
+    },
+    targets: Targets {
+        count: 0,
+        list: [0; 8],
+    },
 };
 
 /// The buffers that the configure makes.
@@ -68,6 +83,8 @@ pub struct Tables {
     pub begun: Option<Word>,
     /// How many requests were accepted.
     pub requests: u32,
+    /// Their items, by number; there is room for as many as a script of the form has.
+    pub items: Vec<Item>,
     /// How many frames were sent.
     pub sent: u32,
     /// How many frames had their shutter.
@@ -96,14 +113,13 @@ pub struct Tables {
     pub signalled: Vec<bool>,
 }
 
-/// The settings of a request of the script.
-pub fn settings_of_request(script: &Script, request: u32) -> Settings
-    requires { request < 100 }
-    ensures { result ≡ settings_for script.now request }
+/// The item of the script's command at a place.
+fn item_of_command(script: &Script, place: u32) -> Item
+    ensures { result ≡ once_item (command_at script.now place) }
 {
-    match script.commands.get(request + 1) {
-        Some(Command::Once(item)) => item.settings,
-        _ => NO_SETTINGS,
+    match script.commands.get(place) {
+        Some(Command::Once(item)) => *item,
+        _ => NO_ITEM,
     }
 }
 
@@ -158,6 +174,7 @@ impl Tables {
             calls: 0,
             begun: None,
             requests: 0,
+            items: Vec::from_array(alloc, [NO_ITEM; REQUESTS])?,
             sent: 0,
             shutters: 0,
             ended: 0,
@@ -175,6 +192,16 @@ impl Tables {
     }
 
     // ---- what the service asks
+
+    /// The settings of a request.
+    pub fn settings_for(&self, request: u32) -> Settings
+        ensures { result ≡ settings_for self.now.items.items request }
+    {
+        match self.items.get(request as usize) {
+            Some(item) => item.settings,
+            None => NO_ITEM.settings,
+        }
+    }
 
     /// Whether no frame is open.
     pub fn is_resting(&self) -> bool
@@ -314,16 +341,34 @@ impl Tables {
         }
     }
 
+    fn once_reply(&self, fault: Option<u32>) -> Reply
+        ensures { result ≡ once_reply (facts_of self.now) fault }
+    {
+        match fault {
+            None => Reply::Submitted(RequestId(self.requests)),
+            Some(tag) => Reply::Refused {
+                code: BAD_SETTING,
+                first: Some(0),
+                second: Some(tag),
+            },
+        }
+    }
+
+    /// The call of a request: refused where a setting is out of its range.
+    fn due_once(&self, settings: Settings) -> Option<Entry>
+        ensures { result ≡ Option.Some (once_of (facts_of self.now) (range_fault settings)) }
+    {
+        let reply = self.once_reply(range_fault(settings));
+        self.call(Word::Once, reply)
+    }
+
     /// The `begin` or the `call` of the next command.
     pub fn due_client(&self, command: Option<&Command>) -> Option<Entry>
         ensures { result ≡ client_of (facts_of self.now) (option_copied command.entry) self.now.begun }
     {
         match command {
             Some(Command::Configure(_)) => self.due_configure(),
-            Some(Command::Once(_)) => self.call(
-                Word::Once,
-                Reply::Submitted(RequestId(self.requests)),
-            ),
+            Some(Command::Once(item)) => self.due_once(item.settings),
             Some(Command::Close) => self.due_close(),
             Some(Command::Burst(_)) => None,
             Some(Command::Repeat(_)) => None,
@@ -337,22 +382,17 @@ impl Tables {
     }
 
     /// Whether the next item has the settings of the one before.
-    fn is_marked(&self, script: &Script) -> bool
-        requires { self.now.sent < 100 }
-        ensures { result ≡ mark_for script.now (facts_of self.now) }
+    fn is_marked(&self) -> bool
+        ensures { result ≡ mark_for (facts_of self.now) }
     {
         if self.sent == 0 {
             return false;
         }
-        is_same_settings(
-            settings_of_request(script, self.sent - 1),
-            settings_of_request(script, self.sent),
-        )
+        is_same_settings(self.settings_for(self.sent - 1), self.settings_for(self.sent))
     }
 
-    fn send_with(&self, script: &Script, buffer: u32) -> Option<Entry>
-        requires { self.now.sent < 100 }
-        ensures { result ≡ sent_with script.now (facts_of self.now) (Option.Some buffer) }
+    fn send_with(&self, buffer: u32) -> Option<Entry>
+        ensures { result ≡ sent_with (facts_of self.now) (Option.Some buffer) }
     {
         let target = Sent {
             stream: StreamIx(0),
@@ -363,7 +403,7 @@ impl Tables {
             frame: FrameNo(self.sent),
             request: RequestId(self.sent),
             item: 0,
-            same: self.is_marked(script),
+            same: self.is_marked(),
             targets: Four {
                 a: Some(target),
                 b: None,
@@ -374,16 +414,15 @@ impl Tables {
     }
 
     /// The next item's send, with the least buffer of the pool, while no frame is open.
-    pub fn due_send(&self, script: &Script) -> Option<Entry>
-        requires sent { self.now.sent < 100 }
-        requires places { length self.now.places.items ≡ 5 }
-        ensures { result ≡ send_of script.now (facts_of self.now) }
+    pub fn due_send(&self) -> Option<Entry>
+        requires { length self.now.places.items ≡ 5 }
+        ensures { result ≡ send_of (facts_of self.now) }
     {
         if !self.is_resting() || self.sent >= self.requests {
             return None;
         }
         match self.least_in_pool() {
-            Some(buffer) => self.send_with(script, buffer),
+            Some(buffer) => self.send_with(buffer),
             None => None,
         }
     }
@@ -403,10 +442,9 @@ impl Tables {
     }
 
     /// The next metadata result of a frame.
-    pub fn due_partial(&self, script: &Script, frame: FrameNo) -> Option<Entry>
-        requires shutters { self.now.shutters < 100 }
-        requires parts { self.now.parts ≤ 2 }
-        ensures { result ≡ partial_of script.now (facts_of self.now) frame }
+    pub fn due_partial(&self, frame: FrameNo) -> Option<Entry>
+        requires { self.now.parts ≤ 2 }
+        ensures { result ≡ partial_of (facts_of self.now) frame }
     {
         if frame.0 != self.ended || frame.0 >= self.shutters {
             return None;
@@ -415,7 +453,7 @@ impl Tables {
         Some(Entry::Partial {
             frame,
             number,
-            part: part(number, settings_of_request(script, frame.0), self.time),
+            part: part(number, self.settings_for(frame.0), self.time),
         })
     }
 
@@ -486,14 +524,13 @@ impl Tables {
     }
 
     /// The first step that is ready.
-    pub fn first(&self, script: &Script, command: Option<&Command>) -> Option<StepName>
-        requires sent { self.now.sent < 100 }
+    pub fn first(&self, command: Option<&Command>) -> Option<StepName>
         requires places { length self.now.places.items ≡ 5 }
         requires released { self.now.released ≤ 32 }
         requires signalled { length self.now.signalled.items ≡ 32 }
-        ensures { result ≡ first_of script.now (facts_of self.now) (option_copied command.entry) }
+        ensures { result ≡ first_of (facts_of self.now) (option_copied command.entry) }
     {
-        if self.due_send(script).is_some() {
+        if self.due_send().is_some() {
             return Some(StepName::Send);
         }
         self.first_but_send(command)
@@ -518,11 +555,14 @@ impl Tables {
     }
 
     /// Takes note of an accepted request.
-    fn note_submission(&mut self)
+    fn note_submission(&mut self, item: Item)
         requires calls { self.old.calls < 100 }
         requires requests { self.old.requests < 100 }
-        ensures { facts_of self.new ≡ record (facts_of self.old) { begun = Option.None; calls = self.old.calls + 1; requests = self.old.requests + 1 } }
+        ensures { facts_of self.new ≡ record (facts_of self.old) { begun = Option.None; calls = self.old.calls + 1; requests = self.old.requests + 1; items = slice_set (facts_of self.old).items self.old.requests item } }
     {
+        if (self.requests as usize) < self.items.len() {
+            self.items[self.requests as usize] = item;
+        }
         self.begun = None;
         self.calls += 1;
         self.requests += 1;
@@ -537,13 +577,13 @@ impl Tables {
         self.calls += 1;
     }
 
-    fn note_call(&mut self, reply: Reply)
+    fn note_call(&mut self, script: &Script, index: u32, reply: Reply)
         requires calls { self.old.calls < 100 }
         requires requests { self.old.requests < 100 }
-        ensures { (script : SomeScript) (i : ℕ) (word : SomeWord) → facts_of self.new ≡ noted script (Entry.Call i word reply) (facts_of self.old) }
+        ensures { (word : SomeWord) → facts_of self.new ≡ noted script.now (Entry.Call index word reply) (facts_of self.old) }
     {
         match reply {
-            Reply::Submitted(_) => self.note_submission(),
+            Reply::Submitted(_) => self.note_submission(item_of_command(script, index)),
             Reply::Ok => self.note_answer(),
             Reply::Configured(_) => self.note_answer(),
             Reply::Refused { .. } => self.note_answer(),
@@ -581,6 +621,16 @@ impl Tables {
         self.shutters += 1;
         self.time = self.next_time;
         self.next_time += exposure.max(FRAME_TIME);
+    }
+
+    /// Takes note of the shutter of the next frame.
+    fn note_next_shutter(&mut self)
+        requires { IsSmall (facts_of self.old) }
+        ensures { (script : SomeScript) (n : SomeFrame) (time : ℕ) → facts_of self.new ≡ noted script (Entry.Shutter n time) (facts_of self.old) }
+    {
+        let frame = self.shutters;
+        let settings = self.settings_for(frame);
+        self.note_shutter(settings.exposure);
     }
 
     fn note_partial(&mut self)
@@ -624,16 +674,14 @@ impl Tables {
 
     /// Takes note of an entry.
     pub fn note(&mut self, script: &Script, entry: Entry)
-        requires { IsSmall script.now (facts_of self.old) }
+        requires { IsSmall (facts_of self.old) }
         ensures { facts_of self.new ≡ noted script.now entry (facts_of self.old) }
     {
         match entry {
             Entry::Begin { word } => self.begun = Some(word),
-            Entry::Call { reply, .. } => self.note_call(reply),
+            Entry::Call { index, reply, .. } => self.note_call(script, index, reply),
             Entry::Send { targets, .. } => self.note_target(targets.a),
-            Entry::Shutter { .. } => self.note_shutter(
-                settings_of_request(script, self.shutters).exposure,
-            ),
+            Entry::Shutter { .. } => self.note_next_shutter(),
             Entry::Partial { .. } => self.note_partial(),
             Entry::Filled { buffer, .. } => self.note_filled(buffer),
             Entry::Release { buffer, fence } => self.note_release(buffer, fence),

@@ -11,6 +11,6 @@ use Rattle.service_core.proofs.service.Service.chosen.Goals as goal
 pub returns : goal.returns
 returns c =
     c.first.ensures
-    ∙ (ap (λ (o : Option Command). first_of c.self.inside.script (facts_of c.self.inside.tables) o) c.get-command.ensures
+    ∙ (ap (λ (o : Option Command). first_of (facts_of c.self.inside.tables) o) c.get-command.ensures
     ∙ (sym (chosen-is c.self.inside.script c.self.inside.history (facts_of c.self.inside.tables) (raw c.self.inside.script c.self.invariant.0) c.self.invariant.4)
     ∙ ap (λ (s : State). first_chosen s.script s.history) c.self.view_is))

@@ -9,7 +9,7 @@ pub returns-then-not-is_deliverable-clause-value : goal.returns-then-not-is_deli
 returns-then-not-is_deliverable-clause-value c = rw (← c.self.view_is) (sym (filled-no-is c.self.inside.script (trace_of c.self.inside.history) (facts_of c.self.inside.tables) (raw c.self.inside.script c.self.invariant.0) c.self.invariant.4 c.args.frame c.args.stream (grind arith)))
 
 pub draw-canvas-requires-clause-settings : goal.draw-canvas-requires-clause-settings
-draw-canvas-requires-clause-settings c = rw c.settings_of_request-settings.ensures (deliverable-range c.self.inside.script (trace_of c.self.inside.history) (facts_of c.self.inside.tables) (raw c.self.inside.script c.self.invariant.0) c.self.invariant.4 c.args.frame c.args.stream (grind arith))
+draw-canvas-requires-clause-settings c = rw c.settings_for-settings.ensures (deliverable-range c.self.inside.script (trace_of c.self.inside.history) (facts_of c.self.inside.tables) (raw c.self.inside.script c.self.invariant.0) c.self.invariant.4 c.args.frame c.args.stream (grind arith))
 
 pub returns-in-Some-clause-value : goal.returns-in-Some-clause-value
-returns-in-Some-clause-value c = rw (← c.self.view_is, c.draw-canvas.ensures.digest, c.settings_of_request-settings.ensures) (sym (filled-yes-is c.self.inside.script (trace_of c.self.inside.history) (facts_of c.self.inside.tables) (raw c.self.inside.script c.self.invariant.0) c.self.invariant.4 c.args.frame c.args.stream (grind arith)))
+returns-in-Some-clause-value c = rw (← c.self.view_is, c.draw-canvas.ensures.digest, c.settings_for-settings.ensures) (sym (filled-yes-is c.self.inside.script (trace_of c.self.inside.history) (facts_of c.self.inside.tables) (raw c.self.inside.script c.self.invariant.0) c.self.invariant.4 c.args.frame c.args.stream (grind arith)))
