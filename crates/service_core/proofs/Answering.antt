@@ -1,21 +1,18 @@
 -- When the client's next command begins and when it is answered.
-use Rattle.std.proofs.Common.{◌≡◌, ℕ, zero, suc, ◌==◌, ◌+◌, ◌<◌, ◌≤◌, ◌⊎◌, Bool, true, false, ◌&&◌, ◌||◌, not, List, [], ◌∷◌, Option, Some, None, refl, sym, ap, ◌∙◌, arith, inl, inr, nat_lt, length, slice_get, slice_index_or, is_some, add-one, if◌then◌else◌}
-use Rattle.std.specs.List.{list_any, list_all, range_with_len}
-use Rattle.std.proofs.lemmas.Bool.{cases_Bool, cases_lt, cases_eq, false≢true}
+use Rattle.std.proofs.Common.{◌≡◌, ℕ, zero, suc, ◌+◌, ◌<◌, ◌≤◌, ◌⊎◌, Bool, true, false, ◌&&◌, ◌||◌, List, [], ◌∷◌, Option, Some, None, refl, sym, ap, ◌∙◌, arith, inl, inr, nat_lt, length, slice_get, slice_index_or, if◌then◌else◌}
+use Rattle.std.specs.List.{list_all, range_with_len}
+use Rattle.std.proofs.lemmas.Bool.{cases_lt, cases_eq}
 use Rattle.std.proofs.lemmas.Bool.Decides.{nat_tests}
 use Rattle.cam_types.specs.declared.item.Item.{Item}
-use Rattle.cam_types.specs.declared.reply.Reply.{Reply}
 use Rattle.cam_types.specs.declared.reply.Reply.TheVariants.{Ok, Submitted, Configured}
-use Rattle.cam_types.specs.declared.script.Command.{Command}
 use Rattle.cam_types.specs.declared.script.Command.TheVariants.{Configure, Once, Close}
 use Rattle.cam_types.specs.declared.script.Script.{Script}
 use Rattle.cam_types.specs.declared.script.Word.{Word}
 use Rattle.cam_types.specs.declared.script.Word.TheVariants.{Configure as WordConfigure, Once as WordOnce, Close as WordClose}
-use Rattle.cam_types.specs.declared.stream.StreamSpec.{StreamSpec}
 use Rattle.trace_model.specs.declared.entry.Entry.{Entry}
 use Rattle.trace_model.specs.declared.entry.Entry.TheVariants.{Begin, Call}
 use Rattle.trace_model.specs.Calls.{command_at}
-use Rattle.trace_model.specs.Client.{is_empty, is_idle}
+use Rattle.trace_model.specs.Client.{is_idle}
 use Rattle.trace_model.specs.Entry.{is_error_device}
 use Rattle.trace_model.specs.Open.{is_quiet}
 use Rattle.trace_model.specs.Place.{all_in_pool, is_at, place}
@@ -31,11 +28,10 @@ use Rattle.service_core.specs.declared.step.StepName.TheVariants.{Client as Clie
 use Rattle.service_core.specs.declared.tables.Place.TheVariants.{Pool}
 use Rattle.service_core.specs.First.{entry_of}
 use Rattle.service_core.specs.Due.{once_of, once_reply}
-use Rattle.service_core.specs.Fit.{Facts, Fit, AreCalls, raw_made, raw_spec, when_called}
+use Rattle.service_core.specs.Fit.{Facts, Fit, AreCalls, raw_made, raw_spec}
 use Rattle.service_core.specs.RawScripts.{requests_in, is_raw_item}
 use Rattle.service_core.specs.Due.{is_pool, is_resting, is_home}
 use Rattle.service_core.proofs.Frames.{quiet-yes, quiet-no}
-use Rattle.service_core.proofs.FitSteps.{few-requests}
 use Rattle.service_core.proofs.Lists.{called}
 use Rattle.service_core.proofs.Plain.{none-plain, no-device-error}
 use Rattle.service_core.proofs.Queue.{queue-short, queue-is-empty, queue-empty}
@@ -72,19 +68,20 @@ all-range p q (x ∷ xs) start d h =
 module _ (script : Script) (past : List Entry) (t : Facts) (raw : IsRaw script) (fit : Fit script past t) where
   pub stage : Stage script t
   stage = at t.calls t.requests refl fit.are_calls
-   where
-    behind : (calls : ℕ) → t.calls ≡ calls → 0 < calls → calls ≤ requests_in script + 2 → Stage script t
-    behind zero e some few = absurd (omega arith)
-    behind (suc r) e some few = elim (cases_lt r (requests_in script)) [
-      | inl l ↦ (let c = raw.once r l in inr (inl (omega (arith, e), omega (arith, e, l), record { item = c.0; command = rw e c.1; raw = c.2 })))
-      | inr m ↦ elim (cases_eq r (requests_in script)) [
-        | inl last ↦ (let at' : t.calls ≡ requests_in script + 1 = omega (arith, e, last) in inr (inr (inl (at', rw at' raw.close))))
-        | inr ne ↦ (let at' : t.calls ≡ requests_in script + 2 = omega (arith, e, m, ne, few) in inr (inr (inr (at', rw at' (get-none script.commands (requests_in script + 2) (let s = raw.size in omega arith))))))
+    where
+      behind : (calls : ℕ) → t.calls ≡ calls → 0 < calls → calls ≤ requests_in script + 2 → Stage script t
+      behind zero e some few = absurd (omega arith)
+      behind (suc r) e some few = elim (cases_lt r (requests_in script)) [
+        | inl l ↦ (let c = raw.once r l in inr (inl (omega (arith, e), omega (arith, e, l), record { item = c.0; command = rw e c.1; raw = c.2 })))
+        | inr m ↦ elim (cases_eq r (requests_in script)) [
+          | inl last ↦ (let at' : t.calls ≡ requests_in script + 1 = omega (arith, e, last) in inr (inr (inl (at', rw at' raw.close))))
+          | inr ne ↦ (let at' : t.calls ≡ requests_in script + 2 = omega (arith, e, m, ne, few) in inr (inr (inr (at', rw at' (get-none script.commands (requests_in script + 2) (let s = raw.size in omega arith))))))
+        ]
       ]
-    ]
-    at : (calls requests : ℕ) → t.calls ≡ calls → AreCalls (requests_in script) calls requests → Stage script t
-    at calls requests e (inl c) = inl (e ∙ c.0, rw (e, c.0) raw.configure)
-    at calls requests e (inr c) = behind calls e (omega (arith, c.0)) c.2
+
+      at : (calls requests : ℕ) → t.calls ≡ calls → AreCalls (requests_in script) calls requests → Stage script t
+      at calls requests e (inl c) = inl (e ∙ c.0, rw (e, c.0) raw.configure)
+      at calls requests e (inr c) = behind calls e (omega (arith, c.0)) c.2
 
   pub quiet-is : is_quiet past ≡ is_resting t
   quiet-is =
@@ -146,17 +143,17 @@ module _ (script : Script) (past : List Entry) (t : Facts) (raw : IsRaw script) 
       let short = queue-short script past t raw fit in
       let room : nat_lt 256 (length (queued script past) + 1) ≡ false = grind (arith, nat_tests) in
       rw (fit.closed, closed, not-failed, fit.configured, some', fit.streams, called t.calls (raw_spec ∷ []) some, targets-are item plain, range) (by-fault room fault)
-   where
-    by-fault : nat_lt 256 (length (queued script past) + 1) ≡ false → (f : Option ℕ) → reply_with (or_else (or_else (with_value 8 0 f) None) (where_true (nat_lt 256 (length (queued script past) + 1)) (refused 11))) (Submitted (record { 0 = request_count past })) ≡ once_reply t f
-    by-fault room None = rw (room, fit.requests) refl
-    by-fault room (Some tag) = refl
+    where
+      by-fault : nat_lt 256 (length (queued script past) + 1) ≡ false → (f : Option ℕ) → reply_with (or_else (or_else (with_value 8 0 f) None) (where_true (nat_lt 256 (length (queued script past) + 1)) (refused 11))) (Submitted (record { 0 = request_count past })) ≡ once_reply t f
+      by-fault room None = rw (room, fit.requests) refl
+      by-fault room (Some tag) = refl
 
   pub client-once : (item : Item) → 0 < t.calls → t.calls < requests_in script + 1 → is_raw_item item ≡ true → command_at script t.calls ≡ Some (Once item) → entry_of script past ClientStep ≡ Some (once_of t (range_fault item.settings))
   client-once item some last plain at = rw (fit.calls, at, room-for item some last plain (range_fault item.settings) refl) (by-fault (range_fault item.settings))
-   where
-    by-fault : (f : Option ℕ) → (if is_refusal (once_reply t f) || true then Some (Call (call_count past) WordOnce (once_reply t f)) else None) ≡ Some (once_of t f)
-    by-fault None = rw fit.calls refl
-    by-fault (Some tag) = rw fit.calls refl
+    where
+      by-fault : (f : Option ℕ) → (if is_refusal (once_reply t f) || true then Some (Call (call_count past) WordOnce (once_reply t f)) else None) ≡ Some (once_of t f)
+      by-fault None = rw fit.calls refl
+      by-fault (Some tag) = rw fit.calls refl
 
   -- ---- the close
 

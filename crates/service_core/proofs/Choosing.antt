@@ -1,15 +1,13 @@
 -- The first step that is ready.
-use Rattle.std.proofs.Common.{◌≡◌, ℕ, zero, suc, ◌==◌, ◌+◌, ◌%◌, ◌<◌, ◌≤◌, ◌⊎◌, Bool, true, false, ◌&&◌, ◌||◌, not, List, [], ◌∷◌, ◌++◌, Option, Some, None, refl, sym, ap, ◌∙◌, arith, inl, inr, nat_lt, length, filter, find, map, reverse, option_map, position, slice_get, slice_index_or, take, count_by, is_some, add-one, if◌then◌else◌}
+use Rattle.std.proofs.Common.{◌≡◌, ℕ, zero, suc, ◌==◌, ◌+◌, ◌%◌, ◌<◌, ◌≤◌, Bool, true, false, ◌&&◌, not, List, [], ◌∷◌, ◌++◌, Option, Some, None, refl, sym, ap, ◌∙◌, arith, inl, inr, nat_lt, length, filter, find, map, reverse, option_map, position, slice_get, slice_index_or, take, count_by, is_some, if◌then◌else◌}
 use Rattle.std.proofs.lemmas.List.{length-take-le, map-append, reverse-append}
 use Rattle.std.proofs.lemmas.List.Concat.{flat_map-append}
 use Rattle.std.proofs.Math.Nat.{zero-mod}
 use Rattle.std.specs.List.{flat_map, range_with_len, position_from}
-use Rattle.std.proofs.lemmas.Bool.{cases_Bool, cases_lt, cases_eq, false≢true}
+use Rattle.std.proofs.lemmas.Bool.{cases_Bool, cases_lt, cases_eq}
 use Rattle.std.proofs.lemmas.Bool.Decides.{nat_tests}
 use Rattle.std.proofs.lemmas.Grind.{common_steps}
 use Rattle.std.proofs.lemmas.Iterator.Adapters.{position_from-zero}
-use Rattle.cam_types.specs.declared.number.FrameNo.{FrameNo}
-use Rattle.cam_types.specs.declared.number.StreamIx.{StreamIx}
 use Rattle.cam_types.specs.declared.script.Script.{Script}
 use Rattle.trace_model.specs.declared.entry.Entry.{Entry}
 use Rattle.trace_model.specs.Calls.{command_at}
@@ -19,13 +17,12 @@ use Rattle.trace_model.specs.Numbers.{next_fence}
 use Rattle.service_core.specs.declared.step.Move.{Move}
 use Rattle.service_core.specs.declared.step.StepName.{StepName}
 use Rattle.service_core.specs.declared.step.StepName.TheVariants.{Send, Release, Signal, Client, Shutter, Partial, Deliver}
-use Rattle.service_core.specs.Due.{client_of, filled_of, first_of, is_deliverable, or_step, partial_of, passed, release_of, release_step, send_of, shutter_of, signal_of, signal_step, step_if}
+use Rattle.service_core.specs.Due.{client_of, first_of, is_deliverable, or_step, passed, release_step, send_of, shutter_of, signal_step, step_if}
 use Rattle.service_core.specs.First.{entry_of, first_candidates, first_chosen, first_steps, is_first_ready}
 use Rattle.service_core.specs.Fit.{AreCalls, Facts, Fit, below, is_client}
 use Rattle.service_core.specs.History.{trace_of}
 use Rattle.service_core.specs.Played.{for_frames, for_targets, for_numbers}
 use Rattle.service_core.specs.RawScripts.{requests_in}
-use Rattle.service_core.specs.declared.tables.Place.{Place}
 use Rattle.service_core.specs.declared.tables.Place.TheVariants.{Pool}
 use Rattle.service_core.proofs.Due.{release-is, signal-is}
 use Rattle.service_core.proofs.RawLemmas.{IsRaw}

@@ -1,44 +1,35 @@
 -- Which entries the tables say are due, kind by kind: what the definitions say.
-use Rattle.std.proofs.Common.{◌≡◌, ℕ, zero, suc, ◌==◌, ◌+◌, ◌<◌, ◌≤◌, ◌⊎◌, Bool, true, false, ◌&&◌, ◌||◌, not, List, [], ◌∷◌, Option, Some, None, refl, sym, ap, ◌∙◌, arith, inl, inr, nat_lt, length, filter, find, take, max, slice_get, slice_index_or, is_some, add-one, if◌then◌else◌}
-use Rattle.std.specs.List.{list_any, list_all, range_with_len}
-use Rattle.std.proofs.lemmas.Bool.{cases_Bool, cases_lt, cases_eq, false≢true}
+use Rattle.std.proofs.Common.{◌≡◌, ℕ, zero, suc, ◌==◌, ◌+◌, ◌<◌, ◌≤◌, ◌⊎◌, Bool, true, false, ◌&&◌, ◌||◌, not, List, [], ◌∷◌, Option, Some, None, refl, sym, ◌∙◌, arith, inl, inr, nat_lt, find, slice_index_or, if◌then◌else◌}
+use Rattle.std.proofs.lemmas.Bool.{cases_lt, cases_eq}
 use Rattle.std.proofs.lemmas.Bool.Decides.{nat_tests}
 use Rattle.cam_types.specs.Metadata.{part_at}
-use Rattle.cam_types.specs.declared.item.Item.{Item}
 use Rattle.cam_types.specs.declared.number.BufferId.{BufferId}
 use Rattle.cam_types.specs.declared.number.FenceNo.{FenceNo}
 use Rattle.cam_types.specs.declared.script.Script.{Script}
 use Rattle.trace_model.specs.declared.entry.Entry.{Entry}
-use Rattle.trace_model.specs.declared.entry.Entry.TheVariants.{Send, Shutter, Partial, Filled, Release, Signal}
+use Rattle.trace_model.specs.declared.entry.Entry.TheVariants.{Shutter, Partial, Filled, Release, Signal}
 use Rattle.trace_model.specs.declared.entry.Sent.{Sent}
-use Rattle.trace_model.specs.Configuration.{buffers_of}
-use Rattle.trace_model.specs.Faults.{request_fault, result_fault, buffer_fault, device_fault}
+use Rattle.trace_model.specs.Faults.{request_fault, result_fault, device_fault}
 use Rattle.trace_model.specs.Fence.{is_passed}
 use Rattle.trace_model.specs.Filled.{filled_due, lets_pass, is_sound, may_deliver}
 use Rattle.trace_model.specs.Frames.{frames, has_shutter, each_earlier, target_of, targets_of}
-use Rattle.trace_model.specs.Open.{is_metadata_ended, is_quiet}
+use Rattle.trace_model.specs.Open.{is_metadata_ended}
 use Rattle.trace_model.specs.Partial.{partial_due, may_part}
 use Rattle.trace_model.specs.Picture.{digest}
 use Rattle.trace_model.specs.Place.{is_at}
 use Rattle.trace_model.specs.Place as in_trace
-use Rattle.trace_model.specs.Queue.{Next}
 use Rattle.trace_model.specs.Release.{release_due, signal_due}
-use Rattle.trace_model.specs.Send.{send_due, are_last, targets_in_order, at_device_count, has_room, may_go, least_in_pool}
-use Rattle.trace_model.specs.Shutter.{shutter_due, may_expose, is_next_for_sensor}
+use Rattle.trace_model.specs.Shutter.{shutter_due, may_expose}
 use Rattle.service_core.specs.declared.tables.Place.{Place}
 use Rattle.service_core.specs.declared.tables.Place.TheVariants.{Pool, Device, Client}
-use Rattle.service_core.specs.First.{entry_of}
-use Rattle.service_core.specs.declared.step.StepName.{StepName}
-use Rattle.service_core.specs.declared.step.StepName.TheVariants.{Send as SendStep}
 use Rattle.service_core.specs.Fit.{Facts, Fit, as_place, below, is_client, item_for, settings_for, last_target, one_target, raw_made, raw_spec, settings_before, when_called}
-use Rattle.service_core.specs.RawScripts.{requests_in, is_raw_item}
+use Rattle.service_core.specs.RawScripts.{requests_in}
 use Rattle.service_core.specs.Due.{passed}
-use Rattle.service_core.proofs.FitSteps.{frame-settings, few-requests}
-use Rattle.service_core.proofs.Frames.{no-request-error, no-result-error, no-buffer-error, no-errors, sent-is, ended-is, earlier, quiet-yes, quiet-no, none-open}
-use Rattle.service_core.proofs.Lists.{and_from, and_parts, below-suc, called, none-below}
+use Rattle.service_core.proofs.FitSteps.{frame-settings}
+use Rattle.service_core.proofs.Frames.{no-request-error, no-result-error, no-buffer-error, no-errors, sent-is, ended-is, earlier}
+use Rattle.service_core.proofs.Lists.{called, none-below}
 use Rattle.service_core.proofs.Plain.{goes-on}
-use Rattle.service_core.proofs.Queue.{next-is, next-none}
-use Rattle.service_core.proofs.RawLemmas.{IsRaw, targets-are}
+use Rattle.service_core.proofs.RawLemmas.{IsRaw}
 
 client-place : (p : Place) → is_at (as_place p) in_trace.Client ≡ is_client p
 client-place Pool = refl

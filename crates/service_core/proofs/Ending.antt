@@ -1,16 +1,13 @@
 -- When a run is complete, and which steps its moves are.
-use Rattle.std.proofs.Common.{◌≡◌, ℕ, zero, suc, ◌==◌, ◌+◌, ◌<◌, ◌≤◌, ◌⊎◌, ◌↔◌, Bool, true, false, ◌&&◌, ◌||◌, not, List, [], ◌∷◌, Option, Some, None, refl, sym, ap, ◌∙◌, arith, inl, inr, nat_lt, length, slice_index_or, is_some, add-one, IsTrue, if◌then◌else◌}
-use Rattle.std.specs.List.{list_any, list_all}
-use Rattle.std.proofs.lemmas.Bool.{cases_Bool, cases_lt, cases_eq, false≢true}
+use Rattle.std.proofs.Common.{◌≡◌, ℕ, zero, suc, ◌==◌, ◌<◌, Bool, true, false, ◌&&◌, not, List, [], ◌∷◌, refl, sym, ◌∙◌, arith, inl, inr, nat_lt, length, IsTrue}
+use Rattle.std.specs.List.{list_all}
+use Rattle.std.proofs.lemmas.Bool.{cases_eq}
 use Rattle.std.proofs.lemmas.Bool.Decides.{nat_tests}
 use Rattle.cam_types.specs.declared.script.Script.{Script}
 use Rattle.trace_model.specs.declared.entry.Entry.{Entry}
-use Rattle.trace_model.specs.Client.{is_empty}
-use Rattle.trace_model.specs.Complete.{IsComplete, is_all_called, is_all_signalled, is_queue_empty, released}
+use Rattle.trace_model.specs.Complete.{IsComplete, is_all_called, is_all_signalled}
 use Rattle.trace_model.specs.Fence.{is_signalled}
 use Rattle.trace_model.specs.Legal.{IsLegal}
-use Rattle.trace_model.specs.Open.{is_quiet}
-use Rattle.trace_model.specs.Place.{all_in_pool}
 use Rattle.service_core.specs.Fit.{Facts, Fit, below}
 use Rattle.service_core.specs.Due.{is_home, is_resting, is_pool, has_signal, has_all_signals}
 use Rattle.service_core.proofs.Answering.{quiet-is, pool-is}

@@ -1,15 +1,15 @@
 -- What the tables say of the frames of a raw script.
-use Rattle.std.proofs.Common.{◌≡◌, ℕ, zero, suc, ◌==◌, ◌+◌, ◌<◌, ◌≤◌, ◌⊎◌, Bool, true, false, ◌&&◌, ◌||◌, not, List, [], ◌∷◌, Option, Some, None, refl, sym, ap, ◌∙◌, arith, inl, inr, nat_lt, length, filter, find, is_some, add-one}
-use Rattle.std.specs.List.{list_any, list_all}
-use Rattle.std.proofs.lemmas.Bool.{cases_Bool, cases_lt, cases_eq, false≢true}
+use Rattle.std.proofs.Common.{◌≡◌, ℕ, suc, ◌<◌, ◌⊎◌, Bool, true, false, ◌&&◌, ◌||◌, not, List, [], ◌∷◌, refl, arith, inl, inr, nat_lt, find, is_some}
+use Rattle.std.specs.List.{list_any}
+use Rattle.std.proofs.lemmas.Bool.{cases_Bool, cases_lt}
 use Rattle.std.proofs.lemmas.Bool.Decides.{nat_tests}
 use Rattle.cam_types.specs.declared.script.Script.{Script}
 use Rattle.trace_model.specs.declared.entry.Entry.{Entry}
 use Rattle.trace_model.specs.Entry.{sends, is_error_of, is_error_request, is_error_result, is_error_buffer}
-use Rattle.trace_model.specs.Frames.{frames, is_sent, send_of, has_error, has_error_request, each_earlier, targets_of, has_shutter}
-use Rattle.trace_model.specs.Open.{is_metadata_ended, has_error_result, has_error_buffer, all_returned, is_open, is_quiet, open_count, is_returned}
-use Rattle.service_core.specs.Fit.{Facts, Fit, below}
-use Rattle.service_core.proofs.Lists.{and_from, all-below, below-suc, filter-none-below}
+use Rattle.trace_model.specs.Frames.{is_sent, has_error, has_error_request, each_earlier}
+use Rattle.trace_model.specs.Open.{is_metadata_ended, has_error_result, has_error_buffer, all_returned, is_open, is_quiet, open_count}
+use Rattle.service_core.specs.Fit.{Facts, Fit}
+use Rattle.service_core.proofs.Lists.{all-below, filter-none-below}
 use Rattle.service_core.proofs.Plain.{none-plain, no-error, no-error-request, no-error-result, no-error-buffer}
 
 any-found : {T : Type 0} (p : T → Bool) (xs : List T) → list_any p xs ≡ is_some (find p xs)

@@ -1,10 +1,10 @@
 -- The tables before the first entry.
-use Rattle.std.proofs.Common.{◌≡◌, ℕ, zero, suc, ◌+◌, ◌<◌, ◌≤◌, Bool, true, false, List, [], ◌∷◌, Option, Some, None, refl, arith, inl, inr, replicate, slice_index_or}
+use Rattle.std.proofs.Common.{◌≡◌, ℕ, zero, suc, false, [], Option, None, refl, arith, inl, replicate, slice_index_or}
 use Rattle.std.proofs.lemmas.Bool.Decides.{nat_tests}
 use Rattle.std.proofs.lemmas.Grind.{common_steps}
 use Rattle.cam_types.specs.declared.number.FenceNo.{FenceNo}
 use Rattle.cam_types.specs.declared.script.Script.{Script}
-use Rattle.service_core.specs.Fit.{Facts, Fit, as_place, first_facts, no_item}
+use Rattle.service_core.specs.Fit.{Fit, first_facts, no_item}
 use Rattle.service_core.specs.declared.tables.Place.TheVariants.{Pool}
 
 index-replicate : {T : Type 0} (n i : ℕ) (d : T) → slice_index_or (replicate n d) i d ≡ d

@@ -1,18 +1,18 @@
 -- What doesn't stand in a plain trace: no errors, no drops, no stop, no repeating list.
-use Rattle.std.proofs.Common.{◌≡◌, ℕ, ◌==◌, Bool, true, false, ◌&&◌, ◌||◌, not, List, [], ◌∷◌, Option, Some, None, refl, sym, ap, ◌∙◌, arith}
+use Rattle.std.proofs.Common.{◌≡◌, ℕ, Bool, true, false, List, [], ◌∷◌, Some, None, refl}
 use Rattle.std.specs.List.{list_any, list_all}
-use Rattle.std.proofs.lemmas.Bool.{cases_Bool, false≢true}
+use Rattle.std.proofs.lemmas.Bool.{false≢true}
 use Rattle.cam_types.specs.declared.reply.Reply.{Reply}
 use Rattle.cam_types.specs.declared.reply.Reply.TheVariants.{Ok, Submitted, Configured, Refused}
 use Rattle.cam_types.specs.declared.script.Script.{Script}
 use Rattle.cam_types.specs.declared.script.Word.{Word}
-use Rattle.cam_types.specs.declared.script.Word.TheVariants.{Configure, Once, Burst, Repeat, Stop, Wait, Await, Flush, Close, Disconnect}
+use Rattle.cam_types.specs.declared.script.Word.TheVariants.{Configure, Once, Flush, Close, Disconnect}
 use Rattle.trace_model.specs.declared.entry.Entry.{Entry}
-use Rattle.trace_model.specs.declared.entry.Entry.TheVariants.{Begin, Call, Send, Dropped, Shutter, Partial, Filled, Failed, ErrorRequest, ErrorResult, ErrorBuffer, ErrorDevice, Release, Signal}
+use Rattle.trace_model.specs.declared.entry.Entry.TheVariants.{Begin, Call, ErrorRequest, ErrorResult, ErrorBuffer, ErrorDevice}
 use Rattle.trace_model.specs.Calls.{begun}
 use Rattle.trace_model.specs.Entry.{is_error_device, is_error_of, is_error_request, is_error_result, is_error_buffer}
 use Rattle.trace_model.specs.Queue.{repeating}
-use Rattle.trace_model.specs.Stopping.{is_stopping, stops_by, has_failed}
+use Rattle.trace_model.specs.Stopping.{is_stopping, stops_by}
 use Rattle.service_core.specs.Fit.{is_plain, is_raw_call}
 use Rattle.service_core.proofs.Lists.{and_parts}
 

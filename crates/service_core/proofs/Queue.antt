@@ -1,15 +1,13 @@
 -- The queue of a raw script: the requests that were accepted and not sent.
-use Rattle.std.proofs.Common.{◌≡◌, ℕ, zero, suc, ◌==◌, ◌+◌, ◌<◌, ◌≤◌, Bool, true, false, ◌&&◌, ◌||◌, not, List, [], ◌∷◌, ◌++◌, Option, Some, None, refl, sym, ap, ◌∙◌, arith, inl, inr, nat_lt, length, filter, add-one, append-nil, length-append, if◌then◌else◌}
+use Rattle.std.proofs.Common.{◌≡◌, ℕ, zero, suc, ◌+◌, ◌<◌, ◌≤◌, Bool, true, false, not, List, [], ◌∷◌, ◌++◌, Some, None, refl, ap, ◌∙◌, arith, inl, inr, nat_lt, length, filter, length-append, if◌then◌else◌}
 use Rattle.std.proofs.lemmas.List.Elements.{filter-append}
-use Rattle.std.specs.List.{list_any, list_all}
-use Rattle.std.proofs.lemmas.Bool.{cases_Bool, cases_lt, cases_eq, false≢true}
+use Rattle.std.proofs.lemmas.Bool.{cases_lt, cases_eq}
 use Rattle.std.proofs.lemmas.Bool.Decides.{nat_tests}
 use Rattle.cam_types.specs.declared.script.Script.{Script}
 use Rattle.trace_model.specs.declared.entry.Entry.{Entry}
 use Rattle.trace_model.specs.Client.{is_empty}
-use Rattle.trace_model.specs.Queue.{Waiting, Next, first_in, is_taken, next, next_from, queued, submitted}
+use Rattle.trace_model.specs.Queue.{Waiting, first_in, is_taken, next, queued}
 use Rattle.service_core.specs.Fit.{Facts, Fit, item_for, requests_to}
-use Rattle.service_core.specs.RawScripts.{requests_in}
 use Rattle.service_core.proofs.FitSteps.{few-requests}
 use Rattle.service_core.proofs.Plain.{nothing-repeats}
 use Rattle.service_core.proofs.RawLemmas.{IsRaw}
@@ -26,9 +24,9 @@ one-more : (script : Script) (past : List Entry) (t : Facts) (r : ℕ) → Fit s
 one-more script past t r fit =
     filter-append (λ w. not (is_taken past w)) (requests_to t.items r) (waiting t r ∷ []) ∙ ap (λ (ws : List Waiting). kept t past r ++ ws) (one (nat_lt r t.sent) (fit.taken r))
   where
-  one : (b : Bool) → is_taken past (waiting t r) ≡ b → filter (λ w. not (is_taken past w)) (waiting t r ∷ []) ≡ (if b then [] else waiting t r ∷ [])
-  one true h = rw h refl
-  one false h = rw h refl
+    one : (b : Bool) → is_taken past (waiting t r) ≡ b → filter (λ w. not (is_taken past w)) (waiting t r ∷ []) ≡ (if b then [] else waiting t r ∷ [])
+    one true h = rw h refl
+    one false h = rw h refl
 
 none-kept : (script : Script) (past : List Entry) (t : Facts) (r : ℕ) → Fit script past t → r ≤ t.sent → kept t past r ≡ []
 none-kept script past t zero fit l = refl

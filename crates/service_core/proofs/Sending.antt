@@ -1,10 +1,8 @@
 -- When an item is sent, and with which buffer.
-use Rattle.std.proofs.Common.{◌≡◌, ℕ, zero, suc, ◌==◌, ◌+◌, ◌<◌, ◌≤◌, ◌⊎◌, Bool, true, false, ◌&&◌, ◌||◌, not, List, [], ◌∷◌, Option, Some, None, refl, sym, ap, ◌∙◌, arith, inl, inr, nat_lt, length, filter, find, take, option_map, position, slice_get, slice_index_or, is_some, add-one, if◌then◌else◌}
-use Rattle.std.specs.List.{list_any, list_all, range_with_len, position_from}
+use Rattle.std.proofs.Common.{◌≡◌, ℕ, suc, ◌==◌, ◌+◌, ◌<◌, ◌≤◌, ◌⊎◌, Bool, true, false, List, [], ◌∷◌, Option, Some, None, refl, sym, ap, ◌∙◌, arith, length, filter, find, position, slice_index_or}
+use Rattle.std.specs.List.{list_any, range_with_len, position_from}
 use Rattle.std.proofs.lemmas.Iterator.Adapters.{position_from-zero}
-use Rattle.std.proofs.lemmas.Bool.{cases_Bool, cases_lt, cases_eq, false≢true}
 use Rattle.std.proofs.lemmas.Bool.Decides.{nat_tests}
-use Rattle.cam_types.specs.declared.item.Item.{Item}
 use Rattle.cam_types.specs.declared.number.BufferId.{BufferId}
 use Rattle.cam_types.specs.declared.script.Script.{Script}
 use Rattle.trace_model.specs.declared.entry.Entry.{Entry}
@@ -13,20 +11,17 @@ use Rattle.trace_model.specs.Configuration.{buffers_of}
 use Rattle.trace_model.specs.Open.{is_quiet}
 use Rattle.trace_model.specs.Place.{is_at, place}
 use Rattle.trace_model.specs.Place as in_trace
-use Rattle.trace_model.specs.Queue.{Next}
 use Rattle.trace_model.specs.Allowed.{IsAllowed}
 use Rattle.trace_model.specs.Fence.{is_same_fence}
 use Rattle.cam_types.specs.declared.number.FenceNo.{FenceNo}
-use Rattle.trace_model.specs.Send.{send_due, are_last, is_same_bool, mark_of, targets_in_order, at_device_count, has_room, has_capacity, may_go, least_in_pool, target_with, send_with, with_target}
+use Rattle.trace_model.specs.Send.{are_last, is_same_bool, mark_of, targets_in_order, may_go, target_with, send_with, with_target}
 use Rattle.service_core.specs.declared.tables.Place.{Place}
 use Rattle.service_core.specs.declared.tables.Place.TheVariants.{Pool, Device, Client}
 use Rattle.service_core.specs.First.{entry_of}
 use Rattle.service_core.specs.Ready.{where_entry}
 use Rattle.service_core.specs.declared.step.StepName.TheVariants.{Send as SendStep}
 use Rattle.service_core.specs.Fit.{Facts, Fit, as_place, item_for, settings_for, one_target, raw_made, raw_spec, settings_before}
-use Rattle.service_core.specs.RawScripts.{requests_in, is_raw_item}
 use Rattle.service_core.proofs.Due.{some-called}
-use Rattle.service_core.proofs.FitSteps.{few-requests}
 use Rattle.service_core.proofs.Frames.{quiet-yes, quiet-no, none-open}
 use Rattle.service_core.proofs.Lists.{called}
 use Rattle.service_core.proofs.Plain.{goes-on}

@@ -1,5 +1,5 @@
 -- An entry that a step adds is allowed, and leaves the tables in order.
-use Rattle.std.proofs.Common.{◌≡◌, ℕ, zero, suc, ◌==◌, ◌+◌, ◌*◌, ◌<◌, ◌≤◌, ◌⊎◌, Bool, true, false, ◌&&◌, ◌||◌, not, List, [], ◌∷◌, Option, Some, None, refl, sym, ap, ◌∙◌, arith, inl, inr, nat_lt, length, position, slice_index_or, count_by, is_some, add-one, if◌then◌else◌}
+use Rattle.std.proofs.Common.{◌≡◌, ℕ, ◌==◌, ◌+◌, ◌<◌, ◌≤◌, Bool, true, false, ◌&&◌, not, List, ◌∷◌, Option, Some, None, refl, sym, ap, ◌∙◌, arith, inl, inr, nat_lt, position, slice_index_or, is_some, if◌then◌else◌}
 use Rattle.std.proofs.lemmas.Bool.{cases_Bool, cases_lt, cases_eq, false≢true}
 use Rattle.std.proofs.lemmas.Bool.Decides.{nat_tests}
 use Rattle.std.proofs.lemmas.List.Quantifiers.{position-Some}
@@ -10,7 +10,7 @@ use Rattle.cam_types.specs.declared.script.Word.{Word}
 use Rattle.trace_model.specs.declared.entry.Entry.{Entry}
 use Rattle.trace_model.specs.declared.entry.Entry.TheVariants as trace
 use Rattle.trace_model.specs.Allowed.{IsAllowed}
-use Rattle.trace_model.specs.Calls.{command_at, begun, is_waiting, next_command, word_of}
+use Rattle.trace_model.specs.Calls.{begun, is_waiting, next_command, word_of}
 use Rattle.trace_model.specs.Client.{begin_due, begin_of, call_due, call_of, may_answer}
 use Rattle.trace_model.specs.Filled.{filled_due}
 use Rattle.trace_model.specs.Frames.{no_settings}
@@ -26,21 +26,20 @@ use Rattle.trace_model.specs.Send.{are_last}
 use Rattle.cam_types.specs.Metadata.{part_at, range_fault}
 use Rattle.cam_types.specs.declared.item.Item.{Item}
 use Rattle.cam_types.specs.declared.number.FrameNo.{FrameNo}
-use Rattle.cam_types.specs.declared.number.RequestId.{RequestId}
 use Rattle.cam_types.specs.declared.part.Part.{Part}
 use Rattle.cam_types.specs.declared.reply.Reply.{Reply}
 use Rattle.cam_types.specs.declared.reply.Reply.TheVariants.{Ok, Submitted, Configured, Refused}
 use Rattle.cam_types.specs.declared.script.Command.{Command}
 use Rattle.cam_types.specs.declared.script.Word.TheVariants.{Configure as WordConfigure, Close as WordClose}
 use Rattle.service_core.specs.declared.step.StepName.{StepName}
-use Rattle.service_core.specs.declared.step.StepName.TheVariants.{Send, Release, Signal, Client, DropQueued, Fail, ReturnFailed, Shutter, SensorDone, Partial, TakeFill, FillDone, Deliver}
+use Rattle.service_core.specs.declared.step.StepName.TheVariants.{Send, Release, Signal, Client, Shutter, Partial, Deliver}
 use Rattle.service_core.specs.declared.tables.Place.{Place}
 use Rattle.service_core.specs.declared.tables.Place.TheVariants.{Pool, Device, Client as AtClient}
 use Rattle.service_core.specs.First.{entry_of}
 use Rattle.service_core.specs.Ready.{or_entry}
 use Rattle.service_core.specs.Fit.{Facts, Fit, IsSmall, is_client, item_for, settings_for, noted, once_item, raw_made, raw_spec, settings_before}
 use Rattle.service_core.specs.RawScripts.{requests_in}
-use Rattle.service_core.specs.Due.{is_pool, is_home, passed, sent_with}
+use Rattle.service_core.specs.Due.{is_pool, is_home, passed}
 use Rattle.service_core.proofs.Answering.{AtRequest, Stage, stage, client-configure-begin, client-configure-call, client-once, client-close-begin, client-close-call, client-close-wait, client-end}
 use Rattle.service_core.proofs.Due.{release-is, signal-is, shutter-yes, shutter-no, partial-yes, partial-no, filled-yes, filled-no}
 use Rattle.service_core.proofs.FitSteps.{few-requests, fit-begin, fit-configure, fit-once, fit-close, fit-refused, requests-room, fit-send, fit-shutter, fit-part, fit-third, fit-filled, fit-release, fit-signal}
@@ -202,14 +201,14 @@ module _ (script : Script) (past : List Entry) (t : Facts) (raw : IsRaw script) 
       accepted : 0 < t.calls → t.calls < requests_in script + 1 → (r : AtRequest script t) → range_fault r.item.settings ≡ None → Fit script (e ∷ past) (noted script e t) × (is_printable e ≡ true)
       accepted some last r range =
           end {x = trace.Call t.calls WordOnce (Submitted (record { 0 = t.requests }))} (client-once script past t raw fit r.item some last r.raw r.command ∙ rw range refl)
-            (rw r.command (fit-once script past t t.calls (record { 0 = t.requests }) r.item refl refl some last (requests-room script past t fit some last raw.few) r.command r.raw range fit))
-            (call-prints t.calls WordOnce (Submitted (record { 0 = t.requests })) small.calls (small-number t.requests (let few = small.requests in omega arith)))
+          (rw r.command (fit-once script past t t.calls (record { 0 = t.requests }) r.item refl refl some last (requests-room script past t fit some last raw.few) r.command r.raw range fit))
+          (call-prints t.calls WordOnce (Submitted (record { 0 = t.requests })) small.calls (small-number t.requests (let few = small.requests in omega arith)))
 
       refused : 0 < t.calls → t.calls < requests_in script + 1 → (r : AtRequest script t) → (tag : ℕ) → range_fault r.item.settings ≡ Some tag → Fit script (e ∷ past) (noted script e t) × (is_printable e ≡ true)
       refused some last r tag range =
           end {x = trace.Call t.calls WordOnce (Refused 8 (Some 0) (Some tag))} (client-once script past t raw fit r.item some last r.raw r.command ∙ rw range refl)
-            (fit-refused script past t t.calls 8 (Some 0) (Some tag) refl some last fit)
-            (refused-prints t.calls tag small.calls (small-tag r.item.settings tag range))
+          (fit-refused script past t t.calls 8 (Some 0) (Some tag) refl some last fit)
+          (refused-prints t.calls tag small.calls (small-tag r.item.settings tag range))
 
       by-fault : 0 < t.calls → t.calls < requests_in script + 1 → (r : AtRequest script t) → (fault : Option ℕ) → range_fault r.item.settings ≡ fault → Fit script (e ∷ past) (noted script e t) × (is_printable e ≡ true)
       by-fault some last r None range = accepted some last r range

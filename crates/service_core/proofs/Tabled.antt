@@ -1,10 +1,9 @@
 -- What the tables say is due is what the definitions say.
-use Rattle.std.proofs.Common.{◌≡◌, ℕ, zero, suc, ◌==◌, ◌+◌, ◌<◌, ◌≤◌, ◌⊎◌, Bool, true, false, ◌&&◌, ◌||◌, not, List, [], ◌∷◌, Option, Some, None, refl, sym, ap, ◌∙◌, arith, inl, inr, nat_lt, position, slice_index_or}
-use Rattle.std.proofs.lemmas.Bool.{cases_Bool, cases_lt, cases_eq, false≢true}
+use Rattle.std.proofs.Common.{◌≡◌, ℕ, ◌==◌, ◌+◌, ◌<◌, true, false, ◌&&◌, List, Option, Some, None, refl, ap, ◌∙◌, arith, inl, inr, nat_lt}
+use Rattle.std.proofs.lemmas.Bool.{cases_Bool, cases_lt, cases_eq}
 use Rattle.std.proofs.lemmas.Bool.Decides.{nat_tests}
 use Rattle.cam_types.specs.declared.number.FrameNo.{FrameNo}
 use Rattle.cam_types.specs.declared.number.StreamIx.{StreamIx}
-use Rattle.cam_types.specs.declared.script.Command.{Command}
 use Rattle.cam_types.specs.declared.script.Script.{Script}
 use Rattle.cam_types.specs.declared.script.Word.{Word}
 use Rattle.trace_model.specs.declared.entry.Entry.{Entry}
@@ -16,7 +15,7 @@ use Rattle.service_core.specs.declared.step.StepName.TheVariants.{Send as SendSt
 use Rattle.service_core.specs.First.{entry_of}
 use Rattle.cam_types.specs.Metadata.{range_fault}
 use Rattle.service_core.specs.Fit.{Facts, Fit, settings_for}
-use Rattle.service_core.specs.Due.{client_of, filled_of, is_deliverable, is_home, is_pool, is_resting, partial_of, passed, send_of, sent_with, shutter_of}
+use Rattle.service_core.specs.Due.{client_of, filled_of, is_deliverable, is_home, is_resting, partial_of, passed, send_of, shutter_of}
 use Rattle.service_core.proofs.Answering.{Stage, stage, client-configure-begin, client-configure-call, client-once, client-close-begin, client-close-call, client-close-wait, client-end}
 use Rattle.service_core.proofs.Due.{shutter-yes, shutter-no, partial-yes, partial-no, filled-yes, filled-no}
 use Rattle.service_core.proofs.Lists.{and_parts}

@@ -1,4 +1,4 @@
-use Rattle.std.specs.Prelude.{ℕ, ◌==◌, ◌+◌, Bool, true, false, ◌&&◌, not, List, Option, Some, None, is_some, nat_lt, option_map, position, slice_index_or, take, if◌then◌else◌}
+use Rattle.std.specs.Prelude.{ℕ, ◌==◌, ◌+◌, Bool, true, false, ◌&&◌, not, Option, Some, None, is_some, nat_lt, option_map, position, slice_index_or, take, if◌then◌else◌}
 use Rattle.std.specs.List.{list_all}
 use Rattle.cam_types.specs.Metadata.{part_at, range_fault}
 use Rattle.cam_types.specs.declared.number.BufferId.{BufferId}
@@ -18,7 +18,7 @@ use Rattle.trace_model.specs.Send.{are_last}
 use Rattle.service_core.specs.declared.step.StepName.{StepName}
 use Rattle.service_core.specs.declared.step.StepName.TheVariants.{Send as StepSend, Release as StepRelease, Signal as StepSignal, Client as StepClient, Shutter as StepShutter, Partial as StepPartial, Deliver as StepDeliver}
 use Rattle.service_core.specs.declared.tables.Place.{Place}
-use Rattle.service_core.specs.declared.tables.Place.TheVariants.{Pool, Device, Client}
+use Rattle.service_core.specs.declared.tables.Place.TheVariants.{Pool}
 use Rattle.service_core.specs.Fit.{Facts, below, is_client, one_target, raw_made, raw_spec, settings_before, settings_for}
 
 -- What the tables say: what is at rest, and which entry is due. Lemmas say that this is what the definitions say.

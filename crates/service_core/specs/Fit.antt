@@ -1,4 +1,4 @@
-use Rattle.std.specs.Prelude.{◌≡◌, ℕ, zero, suc, ◌==◌, ◌+◌, ◌-◌, ◌*◌, ◌<◌, ◌≤◌, ◌⊎◌, Bool, true, false, ◌&&◌, List, [], ◌∷◌, ◌++◌, Option, Some, None, length, max, count_by, nat_lt, replicate, slice_index_or, slice_set, if◌then◌else◌}
+use Rattle.std.specs.Prelude.{◌≡◌, ℕ, zero, suc, ◌==◌, ◌+◌, ◌*◌, ◌<◌, ◌≤◌, ◌⊎◌, Bool, true, false, ◌&&◌, List, [], ◌∷◌, ◌++◌, Option, Some, None, length, max, count_by, nat_lt, replicate, slice_index_or, slice_set, if◌then◌else◌}
 use Rattle.std.specs.List.{list_any, list_all}
 use Rattle.cam_types.specs.Metadata.{range_fault}
 use Rattle.cam_types.specs.declared.four.Four.{Four}
@@ -29,7 +29,7 @@ use Rattle.trace_model.specs.Open.{has_part, is_returned}
 use Rattle.trace_model.specs.Partial.{part_count}
 use Rattle.trace_model.specs.Place.{place, is_at, is_at_device_by}
 use Rattle.trace_model.specs.Place as in_trace
-use Rattle.trace_model.specs.Queue.{Waiting, named, queued_items, submitted}
+use Rattle.trace_model.specs.Queue.{Waiting, submitted}
 use Rattle.trace_model.specs.Send.{last_settings}
 use Rattle.trace_model.specs.Shutter.{next_time}
 use Rattle.service_core.specs.declared.tables.Place.{Place}

@@ -8,6 +8,8 @@ mod raw;
 mod service;
 mod step;
 mod tables;
+#[cfg(test)]
+mod tests;
 
 pub use raw::is_raw_script;
 pub use service::Service;

@@ -388,7 +388,10 @@ impl Tables {
         if self.sent == 0 {
             return false;
         }
-        is_same_settings(self.settings_for(self.sent - 1), self.settings_for(self.sent))
+        is_same_settings(
+            self.settings_for(self.sent - 1),
+            self.settings_for(self.sent),
+        )
     }
 
     fn send_with(&self, buffer: u32) -> Option<Entry>

@@ -1,10 +1,8 @@
-use Rattle.std.proofs.Common.{◌≡◌, ◌∙◌, ◌∷◌, Some, None, refl, sym, ap, arith}
+use Rattle.std.proofs.Common.{◌≡◌, ◌∷◌, Some, refl, arith}
 use Rattle.service_core.specs.Fit.{facts_of}
 use Rattle.service_core.specs.History.{trace_of}
 use Rattle.service_core.proofs.Lists.{and_from}
 use Rattle.service_core.proofs.RawLemmas.{raw}
-use Rattle.trace_model.specs.declared.entry.Entry.{Entry}
-use Rattle.service_core.specs.declared.step.Move.{Move}
 use Rattle.service_core.specs.First.{entry_of}
 use Rattle.service_core.specs.Fit.{noted}
 use Rattle.service_core.proofs.Steps.{goes, small}

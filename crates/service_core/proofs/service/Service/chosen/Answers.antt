@@ -1,4 +1,4 @@
-use Rattle.std.proofs.Common.{◌≡◌, ◌∙◌, Option, ap, sym}
+use Rattle.std.proofs.Common.{◌∙◌, Option, ap, sym}
 use Rattle.cam_types.specs.declared.script.Command.{Command}
 use Rattle.service_core.specs.Answers.{State}
 use Rattle.service_core.specs.Due.{first_of}

@@ -1,4 +1,4 @@
-use Rattle.std.proofs.Common.{◌≡◌, ◌∙◌, ◌∷◌, Some, None, refl, sym, ap, arith}
+use Rattle.std.proofs.Common.{arith}
 use Rattle.service_core.specs.Fit.{facts_of}
 use Rattle.service_core.specs.History.{trace_of}
 use Rattle.service_core.proofs.RawLemmas.{raw}

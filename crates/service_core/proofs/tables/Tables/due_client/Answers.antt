@@ -1,5 +1,4 @@
 use Rattle.std.proofs.Common.{◌≡◌, Some, option_copied, arith}
-use Rattle.cam_types.specs.declared.script.Command.{Command}
 use Rattle.cam_types.specs.declared.script.Command.TheVariants.{Configure}
 use Rattle.service_core.proofs.tables.Tables.due_client.Goals as goal
 

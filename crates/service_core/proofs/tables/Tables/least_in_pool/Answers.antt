@@ -1,4 +1,4 @@
-use Rattle.std.proofs.Common.{arith, ◌≡◌, ◌<◌, Some}
+use Rattle.std.proofs.Common.{arith}
 use Rattle.std.proofs.lemmas.List.Quantifiers.{position-Some}
 use Rattle.service_core.specs.Due.{is_pool}
 use Rattle.service_core.specs.declared.tables.Place.TheVariants.{Pool}
