@@ -9,6 +9,10 @@ const SCRIPT: &[u8] = b"camera 1\nconfigure raw16:160x120\nonce 0,100,10000000,1
 const NO_FRAME: &[u8] =
     b"trace 1\nbegin configure\ncall 0 configure = ok 0:b0+5\nbegin close\ncall 1 close = ok\nend\n";
 
+/// What a request writes whose exposure is a nanosecond too short.
+const BAD_SETTING: &[u8] =
+    b"trace 1\nbegin configure\ncall 0 configure = ok 0:b0+5\ncall 1 once = refused 8 0 2147483650\nbegin close\ncall 2 close = ok\nend\n";
+
 const VERSION: &[u8] = b"refused script 1 32\n";
 
 const NUMBER: &[u8] = b"refused script 3 34\n";
@@ -211,9 +215,9 @@ const CASES: &[Case] = &[
         room: 9000,
         sink_piece: 64,
         sink_failing: &[],
-        status: 1,
-        text: Text::Line(NOT_BUILT),
-        written: 20,
+        status: 0,
+        text: Text::Line(BAD_SETTING),
+        written: 124,
     },
     Case {
         words: &["play"],
