@@ -1,6 +1,6 @@
 use super::*;
 use cam_types::{Part, Settings};
-use metadata::{Int32List, Packed, Values};
+use metadata::{AddRefused, ByteList, Int32List, Packed, PackedRefused, Values};
 use std::test::*;
 
 /// Part 1 of 0,100,10000000,100.
@@ -133,5 +133,69 @@ fn settings_and_their_list(rt: HostRuntime) -> Result<(), Fail> {
         assert_eq!(rt; settings_of(alloc, &packed), want);
         assert!(rt; packed.erase(2_147_483_649));
     }
+    Ok(())
+}
+
+/// Bytes made of those of part 1: one byte changed, their front, or one byte more.
+#[derive(Clone, Copy)]
+enum Hostile {
+    Changed(usize, u8),
+    Front(usize),
+    Longer,
+}
+
+/// What is read of them.
+const HOSTILE: &[(Hostile, Option<PackedRefused>)] = &[
+    (Hostile::Changed(0, 2), Some(PackedRefused::BadHeader)),
+    (Hostile::Longer, Some(PackedRefused::BadHeader)),
+    (Hostile::Changed(20, 0), Some(PackedRefused::BadCount)),
+    (Hostile::Changed(29, 1), Some(PackedRefused::BadType)),
+    (Hostile::Changed(25, 1), Some(PackedRefused::Overlap)),
+    (Hostile::Changed(20, 5), Some(PackedRefused::Overlap)),
+    (Hostile::Changed(16, 2), Some(PackedRefused::Unsorted)),
+    (Hostile::Changed(32, 0), Some(PackedRefused::Repeated)),
+    (Hostile::Changed(28, 2), Some(PackedRefused::BadType)),
+    (Hostile::Front(15), Some(PackedRefused::Short)),
+    (Hostile::Front(47), Some(PackedRefused::Short)),
+    (Hostile::Front(48), None),
+];
+
+#[test]
+fn hostile_bytes_and_the_list_of_a_part(rt: HostRuntime) -> Result<(), Fail> {
+    let alloc = rt.alloc();
+    for (bytes, want) in HOSTILE {
+        let mut longer = [0; 49];
+        longer[..48].copy_from_slice(&LOOK);
+        let len = match *bytes {
+            Hostile::Changed(at, value) => {
+                assert!(rt; at < 48);
+                longer[at] = value;
+                48
+            }
+            Hostile::Front(len) => len,
+            Hostile::Longer => 49,
+        };
+        assert!(rt; len <= 49);
+        assert_eq!(rt; Packed::read(alloc, &longer[..len]).err(), *want);
+    }
+
+    let mut list = Packed::new(alloc);
+    let mut level = Int32List::new(alloc);
+    level.push(100)?;
+    let mut pattern = ByteList::new(alloc);
+    pattern.push(0)?;
+    let mut other = ByteList::new(alloc);
+    other.push(1)?;
+    assert_eq!(rt; list.add(LEVEL, Values::Int32(level)), Ok(()));
+    assert_eq!(rt; list.add(PATTERN, Values::Bytes(pattern)), Ok(()));
+    assert_eq!(rt; list.to_bytes(alloc)?.as_slice(), LOOK.as_slice());
+    assert_eq!(rt;
+        list.add(PATTERN, Values::Bytes(other)),
+        Err(AddRefused::Repeated)
+    );
+    assert_eq!(rt;
+        settings_of(alloc, &list),
+        Err(SettingsRefused::BadSetting { tag: EXPOSURE })
+    );
     Ok(())
 }
