@@ -1,5 +1,5 @@
 use Rattle.std.proofs.Common.{◌≡◌, ℕ, zero, suc, ◌+◌, ◌<◌, ◌≤◌, Bool, true, false, cond, List, [], ◌∷◌, ◌++◌, length, Option, Some, None, is_some, slice_set, get_or, refl, arith, sym, ◌∙◌, ap}
-use Rattle.std.specs.List.{position, remove}
+use Rattle.std.specs.List.{list_all, position, remove}
 use Rattle.std.specs.Option.{option_and_then, option_map}
 use Rattle.std.proofs.lemmas.Grind.{common_steps}
 use Rattle.std.proofs.lemmas.List.Edits.{length-remove}
@@ -7,8 +7,9 @@ use Rattle.std.proofs.lemmas.List.Quantifiers.{position-Some}
 use Rattle.cam_types.specs.declared.four.Four.{Four}
 use Rattle.inflight_table.specs.declared.row.Row.{Row}
 use Rattle.inflight_table.specs.Kept.{IsKept}
-use Rattle.inflight_table.specs.Rows.{are_below, are_in_order, frame_of, has_place, is_of, parked_at, parked_for, passes, placed_at, row_of, view_of, with_parked, with_row, without}
-use Rattle.inflight_table.proofs.RowsLemmas.{order-push, order-remove, order-set, position-none, row_of-at, with_row-at, with_row-none, without-at}
+use Rattle.inflight_table.specs.Rows.{are_below, are_in_order, frame_of, has_place, is_of, is_sound, parked_at, parked_for, passes, placed_at, row_of, view_of, with_parked, with_row, without}
+use Rattle.inflight_table.proofs.RowsLemmas.{all-at, all-remove, order-push, order-remove, order-set, position-none, row_of-at, with_row-at, with_row-none, without-at}
+use Rattle.inflight_table.proofs.Reach.{sound-push, sound-set}
 
 -- no row of the frame stands
 pub record Absent {B : Type 0} (f : ℕ) (rows : List (Row B)) : Type 0 where
@@ -107,18 +108,23 @@ put-rows f s rows i row thing new there h =
 length-changed : {X : Type 0} (xs : List X) (i : ℕ) (x : X) → length (slice_set xs i x) ≡ length xs
 length-changed xs i x = grind (arith, common_steps)
 
-pub kept-set : {B : Type 0} (f : ℕ) (rows : List (Row B)) (i : ℕ) (row new : Row B) (capacity : ℕ) → IsKept rows capacity → Present f rows i row → frame_of new ≡ frame_of row → IsKept (slice_set rows i new) capacity
-kept-set f rows i row new capacity kept there same = record {
+-- the row at place i is sound
+pub sound-at : {B : Type 0} (rows : List (Row B)) (i : ℕ) (row : Row B) → list_all is_sound rows ≡ true → i < length rows → row ≡ get_or rows i row → is_sound row ≡ true
+sound-at rows i row sound l is = rw (← is) at (all-at is_sound rows i row sound l)
+
+pub kept-set : {B : Type 0} (f : ℕ) (rows : List (Row B)) (i : ℕ) (row new : Row B) (capacity : ℕ) → IsKept rows capacity → Present f rows i row → frame_of new ≡ frame_of row → is_sound new ≡ true → IsKept (slice_set rows i new) capacity
+kept-set f rows i row new capacity kept there same sound = record {
   room = kept.room;
   within = rw (length-changed rows i new) kept.within;
   ordered = there.ordered new same;
+  sound = sound-set is_sound rows i new kept.sound sound;
 }
 
-pub kept-push : {B : Type 0} (rows after : List (Row B)) (new : Row B) (capacity more : ℕ) → IsKept rows capacity → capacity ≤ more → length rows < 6 → are_below (frame_of new) rows ≡ true → after ≡ rows ++ new ∷ [] → IsKept after more
-kept-push rows after new capacity more kept l room below is =
+pub kept-push : {B : Type 0} (rows after : List (Row B)) (new : Row B) (capacity more : ℕ) → IsKept rows capacity → capacity ≤ more → length rows < 6 → are_below (frame_of new) rows ≡ true → is_sound new ≡ true → after ≡ rows ++ new ∷ [] → IsKept after more
+kept-push rows after new capacity more kept l room below sound is =
     let old = kept.room in
     let size : length (rows ++ new ∷ []) ≤ 6 = grind (arith, common_steps) in
-    rw is (record { room = omega arith; within = size; ordered = order-push rows new kept.ordered below })
+    rw is (record { room = omega arith; within = size; ordered = order-push rows new kept.ordered below; sound = sound-push is_sound rows new kept.sound sound })
 
 pub kept-remove : {B : Type 0} (rows after : List (Row B)) (i capacity same : ℕ) → IsKept rows capacity → same ≡ capacity → i < length rows → after ≡ remove rows i → IsKept after same
 kept-remove rows after i capacity same kept e l is =
@@ -126,4 +132,4 @@ kept-remove rows after i capacity same kept e l is =
     let old' = kept.within in
     let size = length-remove rows i l in
     let within : length (remove rows i) ≤ 6 = omega arith in
-    rw is (record { room = omega arith; within = within; ordered = order-remove rows i kept.ordered })
+    rw is (record { room = omega arith; within = within; ordered = order-remove rows i kept.ordered; sound = all-remove is_sound rows i kept.sound })

@@ -14,7 +14,7 @@ and-parts false b h = absurd (cc)
 and-both : (a b : Bool) → a ≡ true → b ≡ true → (a && b) ≡ true
 and-both a b p q = rw (p, q) refl
 
-all-at : {X : Type 0} (p : X → Bool) (xs : List X) (i : ℕ) (d : X) → list_all p xs ≡ true → i < length xs → p (get_or xs i d) ≡ true
+pub all-at : {X : Type 0} (p : X → Bool) (xs : List X) (i : ℕ) (d : X) → list_all p xs ≡ true → i < length xs → p (get_or xs i d) ≡ true
 all-at p [] i d h l = absurd (omega arith)
 all-at p (x ∷ xs) zero d h l = (and-parts (p x) (list_all p xs) h).0
 all-at p (x ∷ xs) (suc i) d h l = all-at p xs i d (and-parts (p x) (list_all p xs) h).1 (omega arith)
@@ -139,7 +139,7 @@ order-push (r ∷ rs) new order below =
     let ih = order-push rs new parts.1 low.1 in
     rw (list_all-append (λ other. nat_lt (frame_of r) (frame_of other)) rs (new ∷ []), parts.0, low.0, ih) refl
 
-all-remove : {X : Type 0} (p : X → Bool) (xs : List X) (i : ℕ) → list_all p xs ≡ true → list_all p (remove xs i) ≡ true
+pub all-remove : {X : Type 0} (p : X → Bool) (xs : List X) (i : ℕ) → list_all p xs ≡ true → list_all p (remove xs i) ≡ true
 all-remove p [] i h = grind (arith, common_steps)
 all-remove p (x ∷ xs) zero h = (and-parts (p x) (list_all p xs) h).1
 all-remove p (x ∷ xs) (suc i) h =

@@ -113,6 +113,20 @@ abbrev pub is_one_each : {B : Type 0} → Four TargetView → Four B → Bool
 is_one_each targets parked =
     are_both targets.a parked.a && (are_both targets.b parked.b && (are_both targets.c parked.c && are_both targets.d parked.d))
 
+-- nothing is parked where there is no target
+abbrev pub is_at_target : {B : Type 0} → Option TargetView → Option B → Bool
+is_at_target None thing = not (is_some thing)
+is_at_target (Some target) thing = true
+
+-- the streams of the targets differ, and what is parked is parked for a target: so each thing can be taken by its stream
+abbrev pub is_in_reach : {B : Type 0} → Four TargetView → Four B → Bool
+is_in_reach targets parked =
+    are_apart targets
+    && (is_at_target targets.a parked.a && (is_at_target targets.b parked.b && (is_at_target targets.c parked.c && is_at_target targets.d parked.d)))
+
+abbrev pub is_sound : {B : Type 0} → Row B → Bool
+is_sound row = is_in_reach row.view.targets row.parked
+
 -- the frames rise from row to row
 abbrev pub are_in_order : {B : Type 0} → List (Row B) → Bool
 are_in_order [] = true

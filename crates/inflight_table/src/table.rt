@@ -1,6 +1,7 @@
 ghost use Rattle.std.specs.Prelude.{◌≡◌, ◌<◌, ◌≤◌, ◌↔◌, [], ◌∷◌, ◌++◌, length, position, if◌then◌else◌, is_some, slice_get, IfErr, IfOk, IsErr, IsTrue, OnErr, OnOk};
+ghost use Rattle.std.specs.List.{list_all};
 ghost use Rattle.std.specs.Option.{option_and_then, option_map};
-ghost use Rattle.inflight_table.specs.Rows.{are_apart, are_below, are_in_order, has_place, is_cleared, is_of, is_one_each, parked_for, passes, row_of, view_of, with_mark, with_parked, with_row, without};
+ghost use Rattle.inflight_table.specs.Rows.{are_apart, are_below, are_in_order, has_place, is_cleared, is_of, is_one_each, is_sound, parked_for, passes, row_of, view_of, with_mark, with_parked, with_row, without};
 
 use crate::mark::{Mark, marked};
 use crate::parked::{put_parked, take_parked};
@@ -65,6 +66,7 @@ impl<B> Table<B> {
     pub fn view(&self, frame: FrameNo) -> Option<RowView>
         ensures value { result ≡ option_map view_of (row_of frame.0 self.now) }
         ensures kept { IsTrue (are_in_order self.now) × (length self.now ≤ FRAME_DEPTH) }
+        ensures sound { IsTrue (list_all is_sound self.now) }
     {
         let Some(place) = place_of(&self.rows, frame) else {
             return None;

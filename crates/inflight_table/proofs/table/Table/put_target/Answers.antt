@@ -1,6 +1,7 @@
 use Rattle.std.proofs.Common.{Some, None, refl}
 use Rattle.inflight_table.specs.Rows.{has_place, passes, row_of, with_parked, with_row}
-use Rattle.inflight_table.proofs.Places.{absent, cond-false, cond-like, kept-set, passes-is, passes-none, present, put-rows}
+use Rattle.inflight_table.proofs.Places.{absent, cond-false, cond-like, kept-set, passes-is, passes-none, present, sound-at, put-rows}
+use Rattle.inflight_table.proofs.Reach.{sound-put}
 use Rattle.inflight_table.proofs.table.Table.put_target.Goals as goal
 
 pub returns-in_default-clause-handed_back : goal.returns-in_default-clause-handed_back
@@ -16,7 +17,7 @@ returns-in_default-clause-parked g c =
 pub invariant_of-self : goal.invariant_of-self
 invariant_of-self g c =
     let there = present c.args.frame.0 c.self.inside.rows.items c.deref.result.now c.place_of.result c.in-Some.place c.index_mut-row.result.now c.deref.ensures.value c.place_of.ensures c.in-Some.is c.index_mut-row.ensures.value c.self.invariant.ordered in
-    kept-set c.args.frame.0 c.self.inside.rows.items c.in-Some.place c.index_mut-row.result.now _ _ c.self.invariant there refl
+    kept-set c.args.frame.0 c.self.inside.rows.items c.in-Some.place c.index_mut-row.result.now _ _ c.self.invariant there refl (sound-put c.args.stream.0 c.index_mut-row.result.now (Some c.args.parked) c.put_parked.new.parked (sound-at c.self.inside.rows.items c.in-Some.place c.index_mut-row.result.now c.self.invariant.sound there.within c.index_mut-row.ensures.value) c.put_parked.ensures.kept)
 
 pub returns-clause-handed_back : goal.returns-clause-handed_back
 returns-clause-handed_back g c =

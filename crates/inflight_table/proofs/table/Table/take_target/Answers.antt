@@ -1,6 +1,7 @@
 use Rattle.std.proofs.Common.{None, refl, sym}
 use Rattle.inflight_table.specs.Rows.{row_of, with_parked}
-use Rattle.inflight_table.proofs.Places.{absent, kept-set, present, taken-is, taken-none, taken-rows}
+use Rattle.inflight_table.proofs.Places.{absent, kept-set, present, sound-at, taken-is, taken-none, taken-rows}
+use Rattle.inflight_table.proofs.Reach.{sound-placed}
 use Rattle.inflight_table.proofs.table.Table.take_target.Goals as goal
 
 pub returns-in_default-clause-taken : goal.returns-in_default-clause-taken
@@ -16,7 +17,7 @@ returns-in_default-clause-left g c =
 pub invariant_of-self : goal.invariant_of-self
 invariant_of-self g c =
     let there = present c.args.frame.0 c.self.inside.rows.items c.deref.result.now c.place_of.result c.in-Some.place c.index_mut-row.result.now c.deref.ensures.value c.place_of.ensures c.in-Some.is c.index_mut-row.ensures.value c.self.invariant.ordered in
-    kept-set c.args.frame.0 c.self.inside.rows.items c.in-Some.place c.index_mut-row.result.now _ _ c.self.invariant there refl
+    kept-set c.args.frame.0 c.self.inside.rows.items c.in-Some.place c.index_mut-row.result.now _ _ c.self.invariant there refl (sound-placed c.args.stream.0 c.index_mut-row.result.now.view.targets None c.index_mut-row.result.now.parked c.take_parked.new.parked (sound-at c.self.inside.rows.items c.in-Some.place c.index_mut-row.result.now c.self.invariant.sound there.within c.index_mut-row.ensures.value) c.take_parked.ensures.left)
 
 pub returns-clause-taken : goal.returns-clause-taken
 returns-clause-taken g c =
