@@ -78,6 +78,21 @@ pub wide-all : (values : List ℕ) (pair : ℕ) (xs : List ℕ) → 60 ≤ pair 
 wide-all values pair xs all len each =
     plane-all (λ x y. at_cell luma values (x / 2 * 2) (y / 2 * 2)) 160 120 xs len (λ k h. each k (omega arith) ∙ pairs-are-rows luma values k)
 
+-- rows of 80 places are pairs of rows of 40, whose cells are four columns and rows of the sensor apart
+quarter-rows : (part : ℕ → ℕ → ℕ → ℕ) (values : List ℕ) (k : ℕ) → at_cell part values (k % 80 % 40 * 4) (k % 80 / 40 * 4 + k / 80 * 8) ≡ at_cell part values (k % 40 * 4) (k / 40 * 4)
+quarter-rows part values k =
+    let column : k % 80 % 40 * 4 ≡ k % 40 * 4 = omega arith in
+    let row : k % 80 / 40 * 4 + k / 80 * 8 ≡ k / 40 * 4 = omega arith in
+    rw (column, row) refl
+
+pub quarter-luma-all : (values : List ℕ) (pair : ℕ) (xs : List ℕ) → 15 ≤ pair → length xs ≡ 1200 → ((k : ℕ) → k < pair * 80 → get_or xs k 0 ≡ at_cell luma values (k % 80 % 40 * 4) (k % 80 / 40 * 4 + k / 80 * 8)) → xs ≡ plane (λ x y. at_cell luma values (x * 4) (y * 4)) 40 30
+quarter-luma-all values pair xs all len each =
+    plane-all (λ x y. at_cell luma values (x * 4) (y * 4)) 40 30 xs len (λ k h. each k (omega arith) ∙ quarter-rows luma values k)
+
+pub quarter-chroma-all : (part : ℕ → ℕ → ℕ → ℕ) (values : List ℕ) (pair : ℕ) (xs : List ℕ) → 15 ≤ pair → length xs ≡ 300 → ((k : ℕ) → k < pair * 20 → get_or xs k 0 ≡ at_cell part values (k % 20 * 8) (k / 20 * 8)) → xs ≡ plane (λ x y. at_cell part values (x * 8) (y * 8)) 20 15
+quarter-chroma-all part values pair xs all len each =
+    plane-all (λ x y. at_cell part values (x * 8) (y * 8)) 20 15 xs len (λ k h. each k (omega arith))
+
 -- ---- the pictures of the three sizes
 
 luma-80 : (values : List ℕ) (x y : ℕ) → at_cell luma values (x * 2) (y * 2) ≡ of_cell luma values 80 60 x y

@@ -4,6 +4,7 @@ ghost use Rattle.cam_types.specs.Picture.{is_yuv_size, yuv_picture};
 ghost use Rattle.sha2.specs.Sha256.{sha256};
 
 use crate::planes::{write_chroma_planes, write_narrow_plane, write_wide_plane};
+use crate::quarter::write_quarter_planes;
 use cam_types::{PixelBuf, Readout};
 use sha2::{Digest, Sha256};
 
@@ -42,8 +43,7 @@ fn write_quarter(values: &[u16], bytes: &mut [u8])
 {
     let (luma, chroma) = bytes.split_at_mut(1_200);
     let (blue, red) = chroma.split_at_mut(300);
-    write_narrow_plane::<4>(values, 40, 30, luma);
-    write_chroma_planes::<8>(values, 20, 15, blue, red);
+    write_quarter_planes(values, luma, blue, red);
 }
 
 /// Writes the YUV picture of a readout, of one of the three sizes.

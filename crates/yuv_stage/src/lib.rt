@@ -5,6 +5,7 @@ mod colour;
 mod fill;
 mod laws;
 mod planes;
+mod quarter;
 mod rows;
 
 pub use fill::fill_yuv;

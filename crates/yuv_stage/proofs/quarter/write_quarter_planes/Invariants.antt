@@ -1,0 +1,15 @@
+use Rattle.std.proofs.Common.{◌≡◌, ℕ, ◌+◌, ◌*◌, ◌/◌, ◌%◌, ◌<◌, ◌≤◌, slice_index}
+use Rattle.std.specs.List.{All}
+use Rattle.cam_types.specs.Picture.{luma, chroma_blue, chroma_red}
+use Rattle.yuv_stage.specs.Cells.{at_cell}
+use Rattle.yuv_stage.proofs.quarter.write_quarter_planes.Given as goal
+
+abbrev pub invariant-loop-pair : goal.invariant-loop-pair
+invariant-loop-pair l = record {
+  luma : (k : ℕ) → k < l.pair * 80 → slice_index l.luma_plane k ≡ at_cell luma l.values (k % 80 % 40 * 4) (k % 80 / 40 * 4 + k / 80 * 8);
+  blue : (k : ℕ) → k < l.pair * 20 → slice_index l.blue k ≡ at_cell chroma_blue l.values (k % 20 * 8) (k / 20 * 8);
+  red : (k : ℕ) → k < l.pair * 20 → slice_index l.red k ≡ at_cell chroma_red l.values (k % 20 * 8) (k / 20 * 8);
+  red_range : All (λ v. (64 ≤ v) × (v ≤ 1023)) l.lines.red;
+  green_range : All (λ v. (64 ≤ v) × (v ≤ 1023)) l.lines.green;
+  blue_range : All (λ v. (64 ≤ v) × (v ≤ 1023)) l.lines.blue;
+}
