@@ -1,3 +1,4 @@
 pub mod RuleLemmas
 pub mod SameEntry
 pub mod RuleLaws
+pub mod FillLaws

@@ -5,6 +5,7 @@
 pub mod buffer;
 pub mod client;
 pub mod error;
+pub mod filled;
 pub mod metadata;
 pub mod queued;
 pub mod rule;

@@ -1,12 +1,15 @@
-//! Whether an entry of a kind is allowed after the entries before it: all kinds but calls, sends and filled buffers.
-ghost use Rattle.std.specs.Prelude.{◌≡◌, ◌↔◌, ◌==◌, ◌+◌, reverse, IsTrue};
+//! Whether an entry of a kind is allowed after the entries before it: all kinds but calls and sends, and of a filled buffer
+//! all but its digest.
+ghost use Rattle.std.specs.Prelude.{◌≡◌, ◌↔◌, ◌==◌, ◌+◌, ℕ, List, reverse, IsTrue};
 ghost use Rattle.cam_types.specs.declared.script.Script.{Script as SomeScript};
 ghost use Rattle.trace_model.specs.Allowed.{IsAllowed};
 ghost use Rattle.trace_model.specs.Partial.{part_count};
+ghost use Rattle.trace_model.specs.Picture.{digest_of};
 
 use crate::buffer::{failed_due, releases, signals_next};
 use crate::client::begin_due;
 use crate::error::{may_fail_buffer, may_fail_device, may_fail_request, may_fail_result};
+use crate::filled::fills;
 use crate::metadata::part_numbered;
 use crate::queued::drops;
 use crate::same::is_due;
@@ -68,6 +71,20 @@ pub fn is_partial_due(
                 part,
             },
         )
+}
+
+/// Whether the buffer is due back with its picture and the fence: with the picture's digest, and with no other one.
+pub fn is_fill_due(
+    script: &Script,
+    entries: &[Entry],
+    frame: FrameNo,
+    stream: StreamIx,
+    buffer: BufferId,
+    fence: Option<FenceNo>,
+) -> bool
+    ensures { (digest : List ℕ) → ((IsTrue result × (digest ≡ digest_of script.now (reverse entries.now) frame.0 stream.0)) ↔ IsAllowed script.now (reverse entries.now) (Entry.Filled frame stream buffer fence digest)) }
+{
+    fills(script, entries, frame, stream, buffer, fence)
 }
 
 /// Whether the buffer is due back in error, with the fence.
