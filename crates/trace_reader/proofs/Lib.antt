@@ -1,0 +1,17 @@
+pub mod Cuts
+pub mod Digits
+pub mod Digests
+pub mod Fours
+pub mod Fronts
+pub mod AgainWords
+pub mod AgainValues
+pub mod PartBytes
+pub mod AgainLines
+pub mod WordLemmas
+pub mod Again
+pub mod Means
+pub mod HexMeans
+pub mod MeansLines
+pub mod MeansEntries
+pub mod MeansParts
+pub mod MeansText

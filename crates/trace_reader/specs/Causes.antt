@@ -1,0 +1,10 @@
+use Rattle.std.specs.Prelude.{ℕ}
+use Rattle.trace_reader.specs.declared.cause.Cause.{Cause}
+use Rattle.trace_reader.specs.declared.cause.Cause.TheVariants.{Truncated, BadNumber, BadLine, BadMetadata}
+
+-- the number of a cause
+abbrev pub number_of : Cause → ℕ
+number_of Truncated = 41
+number_of BadNumber = 42
+number_of BadLine = 43
+number_of BadMetadata = 44

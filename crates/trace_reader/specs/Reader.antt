@@ -1,0 +1,29 @@
+-- What the readers answer.
+use Rattle.std.specs.Prelude.{ℕ, List, Result, Ok, Err, ◌≡◌}
+use Rattle.trace_model.specs.declared.entry.Entry.{Entry}
+use Rattle.trace_reader.specs.declared.cause.Cause.{Cause}
+use Rattle.trace_reader.specs.declared.cause.LineRefused.{LineRefused}
+use Rattle.trace_reader.specs.declared.cause.LineRefused.TheVariants as line
+use Rattle.trace_reader.specs.declared.cause.TraceRefused.{TraceRefused}
+use Rattle.trace_reader.specs.declared.cause.TraceRefused.TheVariants.{Bad, NoMemory}
+
+-- a reader's refusal is the grammar's, unless memory ran out
+abbrev pub Refuses : {A : Type 0} → LineRefused → Result A Cause → Type 0
+Refuses (line.Bad cause) read = read ≡ Err cause
+Refuses line.NoMemory read = Unit {0}
+
+-- a reader of a line answers what the grammar says, unless memory ran out
+abbrev pub Gives : {A : Type 0} → Result A LineRefused → Result A Cause → Type 0
+Gives (Ok x) read = read ≡ Ok x
+Gives (Err refused) read = Refuses refused read
+
+-- the answer is what the text means, or that memory ran out
+abbrev pub Answers : Result (List Entry) TraceRefused → Result (List Entry) TraceRefused → Type 0
+Answers (Ok trace) meaning = meaning ≡ Ok trace
+Answers (Err (Bad line cause)) meaning = meaning ≡ Err (Bad line cause)
+Answers (Err NoMemory) meaning = Unit {0}
+
+-- a line's refusal with its number
+abbrev pub refused : ℕ → LineRefused → TraceRefused
+refused n (line.Bad cause) = Bad n cause
+refused n line.NoMemory = NoMemory

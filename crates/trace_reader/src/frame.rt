@@ -1,0 +1,228 @@
+//! The lines of a frame's events, and those of fences.
+
+ghost use Rattle.std.specs.Prelude.{◌≡◌};
+ghost use Rattle.trace_reader.specs.Words.{words_behind};
+ghost use Rattle.trace_reader.specs.Values.{sent};
+ghost use Rattle.trace_reader.specs.Lines.{up_to_four, nothing, next_value, rest_of, send_of, drop_of, shutter_of, buffer_of, returned_buffer, no_fence, one_frame, error_buffer, filled_behind, failed_behind, error_of, release_of, signal_of};
+
+use crate::cause::Cause;
+use crate::digest::digest;
+use crate::number::{byte, large, small};
+use crate::text::{next_word, one_word, two_words};
+use crate::word::{both, buffer, fence, fence_number, item, mark, sent};
+use cam_types::{BufferId, FenceNo, Four, FrameNo, RequestId, StreamIx};
+use trace_model::{Entry, Sent};
+
+/// A target, where there is one more word, and what stands behind it.
+fn next_sent(rest: &[u8]) -> (Result<Option<Sent>, Cause>, &[u8])
+    ensures value { result.0 ≡ next_value sent (words_behind rest.now) }
+    ensures rest { words_behind result.1.now ≡ rest_of (words_behind rest.now) }
+{
+    match next_word(rest) {
+        None => (Ok(None), rest),
+        Some((word, rest)) => match sent(word) {
+            Ok(sent) => (Ok(Some(sent)), rest),
+            Err(cause) => (Err(cause), rest),
+        },
+    }
+}
+
+/// Up to four targets.
+fn targets(rest: &[u8]) -> Result<Four<Sent>, Cause>
+    ensures { result ≡ up_to_four (λ s. sent) (words_behind rest.now) }
+{
+    let (a, rest) = next_sent(rest);
+    let (b, rest) = next_sent(rest);
+    let (c, rest) = next_sent(rest);
+    let (d, rest) = next_sent(rest);
+    if next_word(rest).is_some() {
+        return Err(Cause::BadLine);
+    }
+    let (a, (b, (c, d))) = both(a, both(b, both(c, d)))?;
+    Ok(Four { a, b, c, d })
+}
+
+/// `N rR.I MARK ..` of a send.
+#[tactic(auto, unfolding(crate::specs::Lines::send_of))]
+pub fn send_of(rest: &[u8]) -> Result<Entry, Cause>
+    ensures { result ≡ send_of (words_behind rest.now) }
+{
+    let (number, rest) = next_word(rest).ok_or(Cause::BadLine)?;
+    let (name, rest) = next_word(rest).ok_or(Cause::BadLine)?;
+    let (sign, rest) = next_word(rest).ok_or(Cause::BadLine)?;
+    let (frame, ((request, item), (same, targets))) = both(
+        small(number),
+        both(item(name), both(mark(sign), targets(rest))),
+    )?;
+    Ok(Entry::Send {
+        frame: FrameNo(frame),
+        request: RequestId(request),
+        item,
+        same,
+        targets,
+    })
+}
+
+/// `N rR.I` of a drop.
+pub fn drop_of(rest: &[u8]) -> Result<Entry, Cause>
+    ensures { result ≡ drop_of (words_behind rest.now) }
+{
+    let (frame, name) = two_words(rest).ok_or(Cause::BadLine)?;
+    let (frame, (request, item)) = both(small(frame), item(name))?;
+    Ok(Entry::Dropped {
+        frame: FrameNo(frame),
+        request: RequestId(request),
+        item,
+    })
+}
+
+/// `N T` of a shutter.
+pub fn shutter_of(rest: &[u8]) -> Result<Entry, Cause>
+    ensures { result ≡ shutter_of (words_behind rest.now) }
+{
+    let (frame, time) = two_words(rest).ok_or(Cause::BadLine)?;
+    let (frame, time) = both(small(frame), large(time))?;
+    Ok(Entry::Shutter {
+        frame: FrameNo(frame),
+        time,
+    })
+}
+
+/// The place of a fence, where there is none.
+fn no_fence(word: &[u8]) -> Result<Option<FenceNo>, Cause>
+    ensures { result ≡ no_fence word.now }
+{
+    match word {
+        b"-" => Ok(None),
+        _ => Err(Cause::BadLine),
+    }
+}
+
+/// The frame, the stream and the buffer of a buffer that comes back.
+fn returned_buffer(frame: &[u8], stream: &[u8], name: &[u8]) -> Result<(u32, u8, u32), Cause>
+    ensures { result ≡ returned_buffer frame.now stream.now name.now }
+{
+    let (frame, (stream, buffer)) = both(small(frame), both(byte(stream), buffer(name)))?;
+    Ok((frame, stream, buffer))
+}
+
+/// `- HEX` of a buffer that comes back with its picture.
+fn filled_behind(place: Result<(u32, u8, u32), Cause>, rest: &[u8]) -> Result<Entry, Cause>
+    ensures { result ≡ filled_behind place (words_behind rest.now) }
+{
+    let (sign, hex) = two_words(rest).ok_or(Cause::BadLine)?;
+    let ((frame, stream, buffer), (fence, digest)) = both(
+        place,
+        both(no_fence(sign), digest(hex)),
+    )?;
+    Ok(Entry::Filled {
+        frame: FrameNo(frame),
+        stream: StreamIx(stream),
+        buffer: BufferId(buffer),
+        fence,
+        digest,
+    })
+}
+
+/// `F` of a buffer that comes back in error.
+fn failed_behind(place: Result<(u32, u8, u32), Cause>, rest: &[u8]) -> Result<Entry, Cause>
+    ensures { result ≡ failed_behind place (words_behind rest.now) }
+{
+    let word = one_word(rest).ok_or(Cause::BadLine)?;
+    let ((frame, stream, buffer), fence) = both(place, fence(word))?;
+    Ok(Entry::Failed {
+        frame: FrameNo(frame),
+        stream: StreamIx(stream),
+        buffer: BufferId(buffer),
+        fence,
+    })
+}
+
+/// `N S bB ..` of a buffer that comes back.
+#[tactic(auto, unfolding(crate::specs::Lines::buffer_of))]
+pub fn buffer_of(rest: &[u8]) -> Result<Entry, Cause>
+    ensures { result ≡ buffer_of (words_behind rest.now) }
+{
+    let (frame, rest) = next_word(rest).ok_or(Cause::BadLine)?;
+    let (stream, rest) = next_word(rest).ok_or(Cause::BadLine)?;
+    let (name, rest) = next_word(rest).ok_or(Cause::BadLine)?;
+    let (how, rest) = next_word(rest).ok_or(Cause::BadLine)?;
+    let place = returned_buffer(frame, stream, name);
+    match how {
+        b"ok" => filled_behind(place, rest),
+        b"error" => failed_behind(place, rest),
+        _ => Err(Cause::BadLine),
+    }
+}
+
+/// The number of a frame alone.
+fn one_frame(rest: &[u8]) -> Result<FrameNo, Cause>
+    ensures { result ≡ one_frame (words_behind rest.now) }
+{
+    let word = one_word(rest).ok_or(Cause::BadLine)?;
+    Ok(FrameNo(small(word)?))
+}
+
+/// `N S` of an error of a buffer.
+fn error_buffer(rest: &[u8]) -> Result<Entry, Cause>
+    ensures { result ≡ error_buffer (words_behind rest.now) }
+{
+    let (frame, stream) = two_words(rest).ok_or(Cause::BadLine)?;
+    let (frame, stream) = both(small(frame), byte(stream))?;
+    Ok(Entry::ErrorBuffer {
+        frame: FrameNo(frame),
+        stream: StreamIx(stream),
+    })
+}
+
+/// An error of the device, which has no further words.
+fn error_device(rest: &[u8]) -> Result<Entry, Cause>
+    ensures { result ≡ nothing Entry.ErrorDevice (words_behind rest.now) }
+{
+    match next_word(rest) {
+        None => Ok(Entry::ErrorDevice),
+        Some(_) => Err(Cause::BadLine),
+    }
+}
+
+/// An error, by its kind.
+#[tactic(auto, unfolding(crate::specs::Lines::error_of))]
+pub fn error_of(rest: &[u8]) -> Result<Entry, Cause>
+    ensures { result ≡ error_of (words_behind rest.now) }
+{
+    let (kind, rest) = next_word(rest).ok_or(Cause::BadLine)?;
+    match kind {
+        b"request" => {
+            let frame = one_frame(rest)?;
+            Ok(Entry::ErrorRequest { frame })
+        }
+        b"result" => {
+            let frame = one_frame(rest)?;
+            Ok(Entry::ErrorResult { frame })
+        }
+        b"buffer" => error_buffer(rest),
+        b"device" => error_device(rest),
+        _ => Err(Cause::BadLine),
+    }
+}
+
+/// `bB fK` of a release.
+pub fn release_of(rest: &[u8]) -> Result<Entry, Cause>
+    ensures { result ≡ release_of (words_behind rest.now) }
+{
+    let (name, fence) = two_words(rest).ok_or(Cause::BadLine)?;
+    let (buffer, fence) = both(buffer(name), fence_number(fence))?;
+    Ok(Entry::Release {
+        buffer: BufferId(buffer),
+        fence: FenceNo(fence),
+    })
+}
+
+/// `fK` of a signal.
+pub fn signal_of(rest: &[u8]) -> Result<Entry, Cause>
+    ensures { result ≡ signal_of (words_behind rest.now) }
+{
+    let word = one_word(rest).ok_or(Cause::BadLine)?;
+    let fence = FenceNo(fence_number(word)?);
+    Ok(Entry::Signal { fence })
+}

@@ -1,0 +1,108 @@
+//! What a line means.
+
+ghost use Rattle.std.specs.Prelude.{◌≡◌, ◌==◌, ◌&&◌, not, length, nat_lt};
+ghost use Rattle.std.specs.List.{list_all};
+ghost use Rattle.trace_reader.specs.Words.{words_of, words_behind};
+ghost use Rattle.trace_reader.specs.Lines.{is_plain, kind_of, entry_in, entry_of};
+ghost use Rattle.trace_reader.specs.Reader.{Gives};
+
+use crate::call::{begin_of, call_of};
+use crate::cause::{Cause, LineRefused};
+use crate::frame::{buffer_of, drop_of, error_of, release_of, send_of, shutter_of, signal_of};
+use crate::partial::partial_of;
+use crate::text::{first_word, next_word};
+use std::alloc::Global;
+use trace_model::Entry;
+
+/// Whether a line is ASCII.
+fn is_ascii(line: &[u8]) -> bool
+    ensures { result ≡ list_all (λ b. nat_lt b 128) line.now }
+{
+    line.iter().all(|byte| *byte < 128)
+}
+
+/// Whether no word of a line is empty: a single space stands between each two, and none at its ends.
+fn has_single_spaces(line: &[u8]) -> bool
+    ensures { result ≡ list_all (λ word. not (length word == 0)) (words_of line.now) }
+{
+    let (word, mut rest) = first_word(line);
+    if word.is_empty() {
+        return false;
+    }
+    while let Some((word, after)) = next_word(rest) {
+        if word.is_empty() {
+            return false;
+        }
+        rest = after;
+    }
+    true
+}
+
+/// The kinds of lines, each with its own first word.
+#[derive(Clone, Copy)]
+pub enum Kind {
+    Begin,
+    Call,
+    Send,
+    Drop,
+    Shutter,
+    Partial,
+    Buffer,
+    Error,
+    Release,
+    Signal,
+}
+
+/// The kind of a line, by its first word.
+#[tactic(auto, unfolding(crate::specs::Lines::kind_of))]
+fn kind_of(word: &[u8]) -> Option<Kind>
+    ensures { result ≡ kind_of word.now }
+{
+    match word {
+        b"begin" => Some(Kind::Begin),
+        b"call" => Some(Kind::Call),
+        b"send" => Some(Kind::Send),
+        b"drop" => Some(Kind::Drop),
+        b"shutter" => Some(Kind::Shutter),
+        b"partial" => Some(Kind::Partial),
+        b"buffer" => Some(Kind::Buffer),
+        b"error" => Some(Kind::Error),
+        b"release" => Some(Kind::Release),
+        b"signal" => Some(Kind::Signal),
+        _ => None,
+    }
+}
+
+/// An entry, by the kind of its line and the words behind the first.
+#[tactic(auto, unfolding(crate::specs::Lines::entry_in))]
+fn entry_in(alloc: Global, kind: Kind, rest: &[u8]) -> Result<Entry, LineRefused>
+    ensures { Gives result (entry_in kind (words_behind rest.now)) }
+{
+    match kind {
+        Kind::Begin => Ok(begin_of(rest)?),
+        Kind::Call => Ok(call_of(rest)?),
+        Kind::Send => Ok(send_of(rest)?),
+        Kind::Drop => Ok(drop_of(rest)?),
+        Kind::Shutter => Ok(shutter_of(rest)?),
+        Kind::Partial => partial_of(alloc, rest),
+        Kind::Buffer => Ok(buffer_of(rest)?),
+        Kind::Error => Ok(error_of(rest)?),
+        Kind::Release => Ok(release_of(rest)?),
+        Kind::Signal => Ok(signal_of(rest)?),
+    }
+}
+
+/// The entry that a line means.
+#[tactic(auto, unfolding(crate::specs::Lines::entry_of))]
+pub fn entry_of(alloc: Global, line: &[u8]) -> Result<Entry, LineRefused>
+    ensures { Gives result (entry_of line.now) }
+{
+    if !is_ascii(line) || !has_single_spaces(line) {
+        return Err(LineRefused::Bad(Cause::BadLine));
+    }
+    let (word, rest) = first_word(line);
+    match kind_of(word) {
+        Some(kind) => entry_in(alloc, kind, rest),
+        None => Err(LineRefused::Bad(Cause::BadLine)),
+    }
+}

@@ -1,0 +1,45 @@
+//! The lines of metadata results.
+
+ghost use Rattle.std.specs.Prelude.{◌≡◌};
+ghost use Rattle.trace_reader.specs.Words.{words_behind};
+ghost use Rattle.trace_reader.specs.Lines.{metadata, partial_of};
+ghost use Rattle.trace_reader.specs.Reader.{Gives};
+
+use crate::cause::{Cause, LineRefused};
+use crate::digest::hex_bytes;
+use crate::number::small;
+use crate::text::three_words;
+use crate::word::part_number;
+use cam_types::{FrameNo, Part};
+use meta_rules::part_of;
+use metadata::{Packed, PackedRefused};
+use std::alloc::Global;
+use trace_model::Entry;
+
+/// The part with the number that bytes are the packed form of.
+fn metadata(alloc: Global, number: u8, bytes: &[u8]) -> Result<Part, LineRefused>
+    ensures { Gives result (metadata number bytes.now) }
+{
+    match Packed::read(alloc, bytes) {
+        Ok(packed) => part_of(number, &packed).ok_or(LineRefused::Bad(Cause::BadMetadata)),
+        Err(PackedRefused::NoMemory) => Err(LineRefused::NoMemory),
+        Err(_) => Err(LineRefused::Bad(Cause::BadMetadata)),
+    }
+}
+
+/// `N K HEX` of a metadata result.
+#[tactic(auto, unfolding(crate::specs::Lines::partial_of))]
+pub fn partial_of(alloc: Global, rest: &[u8]) -> Result<Entry, LineRefused>
+    ensures { Gives result (partial_of (words_behind rest.now)) }
+{
+    let (frame, number, hex) = three_words(rest).ok_or(Cause::BadLine)?;
+    let frame = FrameNo(small(frame)?);
+    let number = part_number(number)?;
+    let bytes = hex_bytes(alloc, hex)?;
+    let part = metadata(alloc, number, bytes.as_slice())?;
+    Ok(Entry::Partial {
+        frame,
+        number,
+        part,
+    })
+}

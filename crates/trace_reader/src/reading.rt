@@ -1,0 +1,82 @@
+//! A trace read from its text.
+
+ghost use Rattle.std.specs.Prelude.{◌≡◌, ◌<◌, ◌≤◌, ◌+◌, length};
+ghost use Rattle.trace_reader.specs.Words.{parts_at};
+ghost use Rattle.trace_reader.specs.Grammar.{entries_from, trace_of};
+ghost use Rattle.trace_reader.specs.Reader.{Answers, refused};
+
+use crate::cause::{Cause, LineRefused, TraceRefused};
+use crate::line::entry_of;
+use crate::text::split_at_byte;
+use std::alloc::Global;
+use trace_model::TraceList;
+
+/// The most bytes of a text.
+pub const TRACE_BYTES: usize = 134_217_728;
+
+/// The refusal of a line by its number.
+fn refused(line: u32, why: LineRefused) -> TraceRefused
+    ensures { result ≡ refused line why }
+{
+    match why {
+        LineRefused::Bad(cause) => TraceRefused::Bad { line, cause },
+        LineRefused::NoMemory => TraceRefused::NoMemory,
+    }
+}
+
+/// The refusal of a line by its number, for a cause.
+fn bad(line: u32, cause: Cause) -> TraceRefused
+    ensures { result ≡ TraceRefused.Bad line cause }
+{
+    TraceRefused::Bad { line, cause }
+}
+
+/// The entries of the lines from a number on, up to `end`.
+#[tactic(auto, unfolding(crate::specs::Grammar::entries_from))]
+fn entries_from(alloc: Global, first: u32, text: &[u8]) -> Result<TraceList, TraceRefused>
+    requires long { length text.now < TRACE_BYTES }
+    requires numbers { first + length text.now ≤ 268435457 }
+    ensures { Answers result (entries_from first (parts_at 10 text.now)) }
+{
+    let mut entries = TraceList::new(alloc);
+    let mut number = first;
+    let mut rest = text;
+    while let Some((line, behind)) = split_at_byte(rest, b'\n') {
+        if line == b"end".as_slice() {
+            if behind.is_empty() {
+                return Ok(entries);
+            }
+            return Err(bad(number + 1, Cause::BadLine));
+        }
+        match entry_of(alloc, line) {
+            Ok(entry) => entries.push(entry)?,
+            Err(why) => return Err(refused(number, why)),
+        }
+        number += 1;
+        rest = behind;
+    }
+    Err(bad(number, Cause::Truncated))
+}
+
+/// Reads a trace, as `docs/FORMATS.md` has it. Its lines are numbered from `first_line` on.
+///
+/// A refusal names the first line that has a cause, and the first of its causes.
+#[tactic(auto, unfolding(crate::specs::Grammar::trace_of, crate::specs::Grammar::trace_from))]
+pub fn read(alloc: Global, bytes: &[u8], first_line: u32) -> Result<TraceList, TraceRefused>
+    requires long { length bytes.now ≤ TRACE_BYTES }
+    requires some { 1 ≤ first_line }
+    requires numbers { first_line ≤ TRACE_BYTES + 1 }
+    // What the text means, unless memory ran out.
+    ensures { Answers result (trace_of first_line bytes.now) }
+{
+    match split_at_byte(bytes, b'\n') {
+        Some((line, rest)) => {
+            if line == b"trace 1".as_slice() {
+                entries_from(alloc, first_line + 1, rest)
+            } else {
+                Err(bad(first_line, Cause::BadLine))
+            }
+        }
+        None => Err(bad(first_line, Cause::Truncated)),
+    }
+}
