@@ -1,0 +1,8 @@
+//! The digest of a frame's picture on a stream, drawn where nobody keeps the picture.
+#![tactic(auto)]
+
+mod canvas;
+#[cfg(test)]
+mod tests;
+
+pub use canvas::Canvas;
