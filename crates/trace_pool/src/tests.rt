@@ -8,17 +8,21 @@ use std::alloc::Global;
 use std::test::*;
 use trace_model::{Entry, Sent};
 
+/// A stream of whole pictures.
+fn whole(format: Format) -> StreamSpec {
+    StreamSpec {
+        input: false,
+        format,
+        width: 160,
+        height: 120,
+    }
+}
+
 /// A RAW16 stream with five buffers and a YUV stream with six.
 fn two_streams(alloc: Global) -> Result<Script, NoMemory> {
     let mut specs = SpecList::new(alloc);
-    for format in [Format::Raw16, Format::Yuv] {
-        specs.push(StreamSpec {
-            input: false,
-            format,
-            width: 160,
-            height: 120,
-        })?;
-    }
+    specs.push(whole(Format::Raw16))?;
+    specs.push(whole(Format::Yuv))?;
     let mut commands = CommandList::new(alloc);
     commands.push(Command::Configure(specs))?;
     Ok(Script {

@@ -1,0 +1,134 @@
+//! What is sent next: the first of the queue, or where it is empty the repeating list's item in turn.
+ghost use Rattle.std.specs.Prelude.{◌≡◌, Some, reverse, find, option_copied, option_map};
+ghost use Rattle.trace_filters.specs.Queued.{as_waiting};
+ghost use Rattle.trace_model.specs.Queue.{is_clearing, is_repeat_word, next, next_repeating, repeating, repeating_of, request_in};
+ghost use Rattle.trace_sends.specs.Turns.{as_next, repeating_in, sets_repeating};
+
+use cam_types::{Command, Item, Reply, RequestId, Script, Word};
+use trace_filters::call::command_at;
+use trace_filters::entry::is_refusal;
+use trace_filters::number::sent_for;
+use trace_filters::queue::first_queued;
+use trace_model::Entry;
+
+/// An item with the name that its call gave it, and whether it is of a repeating list.
+#[derive(Clone, Copy, Debug, PartialEq, Eq)]
+pub struct NextItem {
+    pub request: RequestId,
+    pub index: usize,
+    pub item: Item,
+    pub repeats: bool,
+}
+
+/// Whether a command with the word sets the repeating list.
+fn is_repeat_word(word: Word) -> bool
+    ensures { result ≡ is_repeat_word word }
+{
+    matches!(word, Word::Repeat)
+}
+
+/// Whether a command with the word clears the repeating list.
+fn is_clearing(word: Word) -> bool
+    ensures { result ≡ is_clearing word }
+{
+    matches!(
+        word,
+        Word::Stop | Word::Flush | Word::Configure | Word::Close | Word::Disconnect
+    )
+}
+
+/// Whether the entry accepts a command that sets or clears the repeating list.
+fn sets_repeating(entry: &Entry) -> bool
+    ensures { result ≡ sets_repeating entry.now }
+{
+    match entry {
+        Entry::Call { word, reply, .. } => {
+            !is_refusal(reply) && (is_repeat_word(*word) || is_clearing(*word))
+        }
+        _ => false,
+    }
+}
+
+fn last_setting(entries: &[Entry]) -> Option<&Entry>
+    ensures { option_copied result ≡ find sets_repeating (reverse entries.now) }
+{
+    entries.iter().rev().find(|entry| sets_repeating(entry))
+}
+
+/// The number of the request that was accepted, 0 where none was.
+fn request_in(reply: &Reply) -> RequestId
+    ensures { result.0 ≡ request_in reply.now }
+{
+    match reply {
+        Reply::Submitted(request) => *request,
+        _ => RequestId(0),
+    }
+}
+
+/// The item of the request's list whose turn it is.
+fn in_turn(entries: &[Entry], request: RequestId, items: &[Item]) -> Option<NextItem>
+    ensures { option_map as_next result ≡ next_repeating (Some (record { request = request.0; items = items.now })) (reverse entries.now) }
+{
+    if items.is_empty() {
+        return None;
+    }
+    let index = sent_for(entries, request) % items.len();
+    match items.get(index) {
+        Some(item) => Some(NextItem {
+            request,
+            index,
+            item: *item,
+            repeats: true,
+        }),
+        None => None,
+    }
+}
+
+/// The item whose turn it is, of the list that the command repeats.
+fn in_turn_of(entries: &[Entry], request: RequestId, command: Option<&Command>) -> Option<NextItem>
+    ensures { option_map as_next result ≡ next_repeating (repeating_of (option_copied command.entry) request.0) (reverse entries.now) }
+{
+    match command {
+        Some(Command::Repeat(items)) => in_turn(entries, request, items.as_slice()),
+        _ => None,
+    }
+}
+
+/// The item whose turn it is, of the list that the call leaves.
+fn in_turn_after(script: &Script, entries: &[Entry], call: Option<&Entry>) -> Option<NextItem>
+    ensures { option_map as_next result ≡ next_repeating (repeating_in script.now (option_copied call.entry)) (reverse entries.now) }
+{
+    match call {
+        Some(Entry::Call { index, word, reply }) => {
+            if is_repeat_word(*word) {
+                in_turn_of(entries, request_in(reply), command_at(script, *index))
+            } else {
+                None
+            }
+        }
+        _ => None,
+    }
+}
+
+/// The repeating list's item in turn.
+#[tactic(auto, using(crate::proofs::PastLemmas::repeating_found))]
+pub fn next_repeating(script: &Script, entries: &[Entry]) -> Option<NextItem>
+    ensures { option_map as_next result ≡ next_repeating (repeating script.now (reverse entries.now)) (reverse entries.now) }
+{
+    in_turn_after(script, entries, last_setting(entries))
+}
+
+/// The next item.
+pub fn next_item(script: &Script, entries: &[Entry]) -> Option<NextItem>
+    ensures { option_map as_next result ≡ next script.now (reverse entries.now) }
+{
+    match first_queued(script, entries) {
+        Some(waiting) => Some(NextItem {
+            request: waiting.request,
+            index: waiting.index,
+            item: waiting.item,
+            repeats: false,
+        }),
+        None => next_repeating(script, entries),
+    }
+}
