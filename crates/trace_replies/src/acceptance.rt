@@ -106,10 +106,10 @@ fn are_made(next: u128, specs: &[StreamSpec], each: &Four<Made>) -> bool
     requires { next < 2 ^ 100 }
     ensures { IsTrue result ↔ (four_of (made_for next specs.now) ≡ each.now) }
 {
-    let second = after(next, specs.get(0));
+    let second = after(next, specs.first());
     let third = after(second, specs.get(1));
     let fourth = after(third, specs.get(2));
-    is_made_at(next, specs.get(0), each.a)
+    is_made_at(next, specs.first(), each.a)
         && (is_made_at(second, specs.get(1), each.b)
             && (is_made_at(third, specs.get(2), each.c)
                 && is_made_at(fourth, specs.get(3), each.d)))

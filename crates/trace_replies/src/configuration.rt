@@ -1,5 +1,5 @@
 //! Refusals of configurations.
-ghost use Rattle.std.specs.Prelude.{◌≡◌, ◌==◌, ◌&&◌, ◌^◌, ◌<◌, ◌≤◌, length, not, count_by, IfSome};
+ghost use Rattle.std.specs.Prelude.{◌≡◌, ◌&&◌, ◌^◌, ◌<◌, length, not, count_by, IfSome};
 ghost use Rattle.std.specs.List.{list_any, position_from};
 ghost use Rattle.cam_types.specs.Picture.{is_size_of};
 ghost use Rattle.trace_model.specs.Reply.{is_raw, is_yuv, specs_refusal};

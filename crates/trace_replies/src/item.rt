@@ -27,9 +27,7 @@ fn written(targets: &Targets) -> &[u8]
 fn find_unknown(streams: usize, targets: &[u8]) -> Option<&u8>
     ensures { option_copied result ≡ find (λ t. not (nat_lt t streams)) targets.now }
 {
-    targets
-        .iter()
-        .find(|target| !((**target as usize) < streams))
+    targets.iter().find(|target| **target as usize >= streams)
 }
 
 /// The number of the first target that isn't one of so many streams.
