@@ -1,0 +1,6 @@
+mod Accepted
+mod Digests
+mod Judged
+mod MissingLemmas
+mod OneVerdict
+mod Prefixes

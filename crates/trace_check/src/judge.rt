@@ -1,0 +1,53 @@
+//! The judge.
+ghost use Rattle.std.specs.Prelude.{◌≡◌, IfOk, reverse};
+ghost use Rattle.trace_check.specs.Verdict.{IsVerdict};
+ghost use Rattle.trace_model.specs.Legal.{IsLegal};
+
+use crate::allowed::is_allowed;
+use crate::missing::first_missing;
+use crate::rule::rule_of;
+use crate::verdict::Verdict;
+use cam_types::{NoMemory, Script};
+use picture_digest::Canvas;
+use std::alloc::Global;
+use trace_model::{Entry, TraceList};
+
+/// Judges a trace: whether it is a complete legal run of the script, else its first entry that isn't allowed, else the
+/// first part that it lacks. The memory that it takes is room for one picture, whatever the length of the trace.
+pub fn check(alloc: Global, script: &Script, trace: &TraceList) -> Result<Verdict, NoMemory>
+    ensures { IfOk result (λ verdict. IsVerdict script.now trace.now verdict) }
+{
+    let canvas = Canvas::new(alloc)?;
+    Ok(judge_each(script, trace, canvas))
+}
+
+/// Judges entry by entry, each over those before it.
+fn judge_each(script: &Script, trace: &TraceList, canvas: Canvas) -> Verdict
+    ensures { IsVerdict script.now trace.now result }
+{
+    let entries = trace.as_slice();
+    let mut canvas = canvas;
+    for position in 0..trace.len() {
+        let place = position as usize;
+        let (allowed, after) = is_allowed(script, &entries[..place], &entries[place], canvas);
+        canvas = after;
+        if !allowed {
+            return Verdict::IllegalAt {
+                position,
+                rule: rule_of(&entries[place]),
+            };
+        }
+    }
+    judge_end(script, entries)
+}
+
+/// Judges entries of which each is allowed: whether they are complete.
+fn judge_end(script: &Script, entries: &[Entry]) -> Verdict
+    requires { IsLegal script.now (reverse entries.now) }
+    ensures { IsVerdict script.now entries.now result }
+{
+    match first_missing(script, entries) {
+        Some(part) => Verdict::Incomplete { part },
+        None => Verdict::Legal,
+    }
+}

@@ -1,0 +1,15 @@
+//! The judge of a trace: whether it is a complete legal run of a script, and if not, where or what it lacks. It looks at
+//! each entry over the entries before it, by the rules of `trace_rules`, `trace_calls` and `trace_sends`.
+#![tactic(auto)]
+
+mod allowed;
+mod filled;
+mod judge;
+mod laws;
+mod missing;
+mod rule;
+mod verdict;
+
+pub use judge::check;
+pub use laws::a_trace_has_one_verdict;
+pub use verdict::{MissingPart, RuleName, Verdict};
