@@ -1,2 +1,1 @@
 pub mod SinceLemmas
-pub mod CallLemmas
