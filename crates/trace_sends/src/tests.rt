@@ -24,16 +24,20 @@ fn item(level: u32, count: u8, first: u8, second: u8) -> Item {
     }
 }
 
+/// A stream of whole pictures.
+fn whole(format: Format) -> StreamSpec {
+    StreamSpec {
+        input: false,
+        format,
+        width: 160,
+        height: 120,
+    }
+}
+
 fn two_streams(alloc: Global) -> Result<SpecList, NoMemory> {
     let mut specs = SpecList::new(alloc);
-    for format in [Format::Raw16, Format::Yuv] {
-        specs.push(StreamSpec {
-            input: false,
-            format,
-            width: 160,
-            height: 120,
-        })?;
-    }
+    specs.push(whole(Format::Raw16))?;
+    specs.push(whole(Format::Yuv))?;
     Ok(specs)
 }
 
