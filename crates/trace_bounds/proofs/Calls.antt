@@ -1,0 +1,35 @@
+-- What a legal past says of its calls: each is the command in turn, with the reply that the past before it gives.
+use Rattle.std.proofs.Common.{◌≡◌, ℕ, Bool, true, false, List, Option, Some, None, refl, if◌then◌else◌}
+use Rattle.cam_types.specs.declared.reply.Reply.{Reply}
+use Rattle.cam_types.specs.declared.script.Command.{Command}
+use Rattle.cam_types.specs.declared.script.Script.{Script}
+use Rattle.cam_types.specs.declared.script.Word.{Word}
+use Rattle.trace_model.specs.declared.entry.Entry.{Entry}
+use Rattle.trace_model.specs.declared.entry.Entry.TheVariants.{Call}
+use Rattle.trace_model.specs.Calls.{next_command, word_of}
+use Rattle.trace_model.specs.Client.{call_due, call_of, may_answer}
+use Rattle.trace_model.specs.Numbers.{call_count}
+use Rattle.trace_model.specs.Reply.{reply}
+
+call_parts : (b : Bool) (i j : ℕ) (w v : Word) (r q : Reply) → (if b then Some (Call j v q) else None) ≡ Some (Call i w r) → (i ≡ j) × (w ≡ v) × (r ≡ q)
+call_parts true i j w v r q h = (cc, cc, cc)
+call_parts false i j w v r q h = absurd (cc)
+
+called : (script : Script) (past : List Entry) (o : Option Command) (i : ℕ) (w : Word) (r : Reply) → call_of script past o ≡ Some (Call i w r) → (c : Command) × (o ≡ Some c) × (i ≡ call_count past) × (w ≡ word_of c) × (r ≡ reply script past c)
+called script past None i w r h = absurd (cc)
+called script past (Some c) i w r h =
+    let parts = call_parts (may_answer script past c) i (call_count past) w (word_of c) r (reply script past c) h in
+    (c, refl, parts.0, parts.1, parts.2)
+
+-- the command that a call answers
+pub call-is : (script : Script) (past : List Entry) (i : ℕ) (w : Word) (r : Reply) → call_due script past ≡ Some (Call i w r) → (c : Command) × (next_command script past ≡ Some c) × (i ≡ call_count past) × (w ≡ word_of c) × (r ≡ reply script past c)
+call-is script past = called script past (next_command script past)
+
+by_parts : (P : Entry → Type 0) (i j : ℕ) (w v : Word) (r q : Reply) → i ≡ j → w ≡ v → r ≡ q → P (Call j v q) → P (Call i w r)
+by_parts P i j w v r q x y z p = rw (x, y, z) p
+
+-- what holds of each call that may be due holds of the one that stands
+pub by-call : (P : Entry → Type 0) (script : Script) (past : List Entry) (i : ℕ) (w : Word) (r : Reply) → call_due script past ≡ Some (Call i w r) → ((c : Command) → next_command script past ≡ Some c → P (Call (call_count past) (word_of c) (reply script past c))) → P (Call i w r)
+by-call P script past i w r h each =
+    let c = call-is script past i w r h in
+    by_parts P i (call_count past) w (word_of c.0) r (reply script past c.0) c.2 c.3 c.4 (each c.0 c.1)

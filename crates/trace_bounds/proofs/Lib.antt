@@ -1,0 +1,5 @@
+pub mod Counts
+pub mod Calls
+pub mod Refusals
+pub mod RepeatLemmas
+pub mod FrameLemmas
