@@ -1,12 +1,16 @@
 -- What a legal past says of its calls: each is the command in turn, with the reply that the past before it gives.
-use Rattle.std.proofs.Common.{◌≡◌, ℕ, Bool, true, false, List, Option, Some, None, refl, if◌then◌else◌}
+use Rattle.std.proofs.Common.{◌≡◌, ℕ, ◌≤◌, Bool, true, false, List, [], ◌∷◌, Option, Some, None, refl, arith, length, if◌then◌else◌}
 use Rattle.cam_types.specs.declared.reply.Reply.{Reply}
+use Rattle.cam_types.specs.declared.reply.Reply.TheVariants.{Submitted}
+use Rattle.trace_model.specs.Entry.{is_call}
+use Rattle.trace_model.specs.Legal.{IsLegal}
+use Rattle.trace_bounds.proofs.Counts.{count-cons, place-within}
 use Rattle.cam_types.specs.declared.script.Command.{Command}
 use Rattle.cam_types.specs.declared.script.Script.{Script}
 use Rattle.cam_types.specs.declared.script.Word.{Word}
 use Rattle.trace_model.specs.declared.entry.Entry.{Entry}
 use Rattle.trace_model.specs.declared.entry.Entry.TheVariants.{Call}
-use Rattle.trace_model.specs.Calls.{next_command, word_of}
+use Rattle.trace_model.specs.Calls.{is_submission, next_command, request_count, word_of}
 use Rattle.trace_model.specs.Client.{call_due, call_of, may_answer}
 use Rattle.trace_model.specs.Numbers.{call_count}
 use Rattle.trace_model.specs.Reply.{reply}
@@ -33,3 +37,31 @@ pub by-call : (P : Entry → Type 0) (script : Script) (past : List Entry) (i : 
 by-call P script past i w r h each =
     let c = call-is script past i w r h in
     by_parts P i (call_count past) w (word_of c.0) r (reply script past c.0) c.2 c.3 c.4 (each c.0 c.1)
+
+-- ---- how many calls there are
+
+pub calls_bounded : (script : Script) (past : List Entry) → IsLegal script past → call_count past ≤ length script.commands
+calls_bounded script [] legal = omega arith
+calls_bounded script (Call i w r ∷ past) legal =
+    let c = call-is script past i w r legal.0 in
+    let within = place-within script.commands (call_count past) c.0 c.1 in
+    let one = count-cons is_call (Call i w r) past in
+    omega (arith, within, one)
+calls_bounded script (e ∷ past) legal = calls_bounded script past legal.1
+
+pub submissions-called : (past : List Entry) → request_count past ≤ call_count past
+submissions-called [] = omega arith
+submissions-called (Call i w (Submitted r) ∷ past) =
+    let ih = submissions-called past in
+    let one = count-cons is_call (Call i w (Submitted r)) past in
+    let two = count-cons is_submission (Call i w (Submitted r)) past in
+    omega (arith, ih, one, two)
+submissions-called (Call i w r ∷ past) =
+    let ih = submissions-called past in
+    let one = count-cons is_call (Call i w r) past in
+    let two = count-cons is_submission (Call i w r) past in
+    omega (arith, ih, one, two)
+submissions-called (e ∷ past) = submissions-called past
+
+pub requests_bounded : (script : Script) (past : List Entry) → IsLegal script past → request_count past ≤ length script.commands
+requests_bounded script past legal = let few = calls_bounded script past legal in let called' = submissions-called past in omega (arith, few, called')

@@ -24,6 +24,7 @@ use Rattle.trace_model.specs.Calls.{begun, command_at, is_repeating, next_comman
 use Rattle.trace_model.specs.Client.{is_empty}
 use Rattle.trace_model.specs.Drop.{drop_due, drop_of}
 use Rattle.trace_model.specs.Entry.{is_call, is_numbering, takes}
+use Rattle.trace_model.specs.Frames.{frames}
 use Rattle.trace_model.specs.Legal.{IsLegal}
 use Rattle.trace_model.specs.Numbers.{call_count, next_number}
 use Rattle.trace_model.specs.Queue.{Next, Repeating, Waiting, first_in, is_taken, named, next_at, next_from, next_repeating, puts, queued, queued_items, repeating, sent_for, submitted}
@@ -242,3 +243,12 @@ frames_bounded script past legal =
     let next = next_costs script (call_count past) (next_command script past) refl in
     let parts = sum-both awaited_by queued_by 64 script.commands in
     omega (arith, sum, few, next, parts)
+
+frames_are_numbered : (past : List Entry) → length (frames past) ≤ next_number past
+frames_are_numbered [] = omega arith
+frames_are_numbered (Send n r i same targets ∷ past) = let ih = frames_are_numbered past in let number = count-cons is_numbering (Send n r i same targets) past in omega (arith, ih, number)
+frames_are_numbered (Dropped n r i ∷ past) = let ih = frames_are_numbered past in let number = count-cons is_numbering (Dropped n r i) past in omega (arith, ih, number)
+frames_are_numbered (e ∷ past) = frames_are_numbered past
+
+pub sends_bounded : (script : Script) (past : List Entry) → IsLegal script past → length (frames past) ≤ frame_bound script
+sends_bounded script past legal = let few = frames_bounded script past legal in let numbered = frames_are_numbered past in omega (arith, few, numbered)

@@ -3,3 +3,4 @@ pub mod Calls
 pub mod Refusals
 pub mod RepeatLemmas
 pub mod FrameLemmas
+pub mod ValidLemmas

@@ -2,10 +2,24 @@
 ghost use Rattle.std.specs.Prelude.{List};
 ghost use Rattle.cam_types.specs.declared.script.Script.{Script as SomeScript};
 ghost use Rattle.trace_model.specs.declared.entry.Entry.{Entry as SomeEntry};
-ghost use Rattle.trace_bounds.specs.Laws.{BoundsFrames};
+ghost use Rattle.trace_bounds.specs.Laws.{BoundsBuffers, BoundsCalls, BoundsFences, BoundsFit, BoundsFrames, BoundsRequests, BoundsSends, BoundsTimes};
 
-/// A legal run gives away no more frame numbers than the bound on frames.
-#[tactic(auto, using(crate::proofs::FrameLemmas::frames_bounded))]
+/// A legal run gives away no more frame numbers than the bound on frames, and so sends no more frames.
+#[tactic(auto, using(crate::proofs::FrameLemmas::frames_bounded, crate::proofs::FrameLemmas::sends_bounded))]
 pub fn frames_are_bounded()
-    ensures { (script : SomeScript) (past : List SomeEntry) → BoundsFrames script past }
+    ensures numbers { (script : SomeScript) (past : List SomeEntry) → BoundsFrames script past }
+    ensures sends { (script : SomeScript) (past : List SomeEntry) → BoundsSends script past }
+{}
+
+/// A legal run calls no command twice.
+#[tactic(auto, using(crate::proofs::Calls::calls_bounded, crate::proofs::Calls::requests_bounded))]
+pub fn calls_are_bounded()
+    ensures calls { (script : SomeScript) (past : List SomeEntry) → BoundsCalls script past }
+    ensures requests { (script : SomeScript) (past : List SomeEntry) → BoundsRequests script past }
+{}
+
+/// The bounds of a valid script fit the fields of the entries: 32 bits for numbers, and 63 for times.
+#[tactic(auto, using(crate::proofs::ValidLemmas::bounds_fit))]
+pub fn bounds_of_a_valid_script_fit()
+    ensures { (script : SomeScript) → BoundsFit script }
 {}

@@ -4,4 +4,4 @@
 
 mod laws;
 
-pub use laws::frames_are_bounded;
+pub use laws::{bounds_of_a_valid_script_fit, calls_are_bounded, frames_are_bounded};
