@@ -58,3 +58,16 @@ sum-both f g k [] = omega arith
 sum-both f g k (x ∷ xs) =
     let ih = sum-both f g k xs in
     rw (sum_by-cons (λ y. k + (f y + g y)) x xs, sum_by-cons f x xs, sum_by-cons g x xs, ih) (grind arith)
+
+-- a test keeps fewer than there are where one doesn't pass
+pub less-without : {X : Type 0} (q t : X → Bool) (xs : List X) → ((x : X) → t x ≡ true → q x ≡ false) → list_any t xs ≡ true → length (filter q xs) + 1 ≤ length xs
+less-without q t [] fails any = absurd (false≢true any)
+less-without q t (x ∷ xs) fails any =
+    elim (cases_Bool (t x)) [
+      | inl here ↦ (let short = filter-short q xs in rw (fails x here) (omega (arith, short)))
+      | inr no' ↦ (
+          let any' = rw no' at any in
+          let ih = less-without q t xs fails any' in
+          elim (cases_Bool (q x)) [ inl kept ↦ rw kept (omega (arith, ih)) | inr other ↦ rw other (omega (arith, ih)) ]
+          )
+    ]

@@ -4,3 +4,8 @@ pub mod Refusals
 pub mod RepeatLemmas
 pub mod FrameLemmas
 pub mod ValidLemmas
+pub mod Shapes
+pub mod FenceLemmas
+pub mod Accepted
+pub mod BufferLemmas
+pub mod TimeLemmas

@@ -18,6 +18,24 @@ pub fn calls_are_bounded()
     ensures requests { (script : SomeScript) (past : List SomeEntry) → BoundsRequests script past }
 {}
 
+/// A legal run releases no more fences than the bound on fences.
+#[tactic(auto, using(crate::proofs::FenceLemmas::fences_bounded))]
+pub fn fences_are_bounded()
+    ensures { (script : SomeScript) (past : List SomeEntry) → BoundsFences script past }
+{}
+
+/// A legal run makes no more buffers than the bound on buffers.
+#[tactic(auto, using(crate::proofs::BufferLemmas::buffers_bounded))]
+pub fn buffers_are_bounded()
+    ensures { (script : SomeScript) (past : List SomeEntry) → BoundsBuffers script past }
+{}
+
+/// No shutter of a legal run is later than the bound on times.
+#[tactic(auto, using(crate::proofs::TimeLemmas::times_bounded))]
+pub fn shutter_times_are_bounded()
+    ensures { (script : SomeScript) (past : List SomeEntry) → BoundsTimes script past }
+{}
+
 /// The bounds of a valid script fit the fields of the entries: 32 bits for numbers, and 63 for times.
 #[tactic(auto, using(crate::proofs::ValidLemmas::bounds_fit))]
 pub fn bounds_of_a_valid_script_fit()
