@@ -9,3 +9,4 @@ pub mod FenceLemmas
 pub mod Accepted
 pub mod BufferLemmas
 pub mod TimeLemmas
+pub mod Printed
