@@ -65,3 +65,18 @@ submissions-called (e ∷ past) = submissions-called past
 
 pub requests_bounded : (script : Script) (past : List Entry) → IsLegal script past → request_count past ≤ length script.commands
 requests_bounded script past legal = let few = calls_bounded script past legal in let called' = submissions-called past in omega (arith, few, called')
+
+answered : (script : Script) (past : List Entry) (o : Option Command) (i : ℕ) (w : Word) (r : Reply) → call_of script past o ≡ Some (Call i w r) → (c : Command) → o ≡ Some c → may_answer script past c ≡ true
+answered script past None i w r h c at = absurd (cc)
+answered script past (Some d) i w r h c at =
+    let same : d ≡ c = cc in
+    rw (← same) (given (may_answer script past d) (Call (call_count past) (word_of d) (reply script past d)) (Call i w r) h)
+  where
+    given : (b : Bool) (x y : Entry) → (if b then Some x else None) ≡ Some y → b ≡ true
+    given true x y h = refl
+    given false x y h = absurd (cc)
+
+-- the same, where the command may be answered
+pub by-answer : (P : Entry → Type 0) (script : Script) (past : List Entry) (i : ℕ) (w : Word) (r : Reply) → call_due script past ≡ Some (Call i w r) → ((c : Command) → next_command script past ≡ Some c → may_answer script past c ≡ true → P (Call (call_count past) (word_of c) (reply script past c))) → P (Call i w r)
+by-answer P script past i w r h each =
+    by-call P script past i w r h (λ c at. each c at (answered script past (next_command script past) i w r h c at))

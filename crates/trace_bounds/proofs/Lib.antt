@@ -10,3 +10,5 @@ pub mod Accepted
 pub mod BufferLemmas
 pub mod TimeLemmas
 pub mod Printed
+pub mod RefusedFits
+pub mod StreamLemmas

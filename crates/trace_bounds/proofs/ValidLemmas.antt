@@ -11,7 +11,7 @@ use Rattle.cam_types.specs.declared.script.Script.{Script}
 use Rattle.trace_model.proofs.Basics.{and_parts}
 use Rattle.trace_bounds.specs.Bounds.{buffer_bound, fence_bound, frame_bound, queued_by, time_bound}
 
-at-most : (n m : ℕ) → nat_le n m ≡ true → n ≤ m
+pub at-most : (n m : ℕ) → nat_le n m ≡ true → n ≤ m
 at-most n m h = grind (arith, nat_tests, h)
 
 -- what a valid script is, part by part
