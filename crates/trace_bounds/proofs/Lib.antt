@@ -12,3 +12,5 @@ pub mod TimeLemmas
 pub mod Printed
 pub mod RefusedFits
 pub mod StreamLemmas
+pub mod NextFits
+pub mod Printing

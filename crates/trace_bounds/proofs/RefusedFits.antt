@@ -1,8 +1,8 @@
 -- The refusals of a valid script's commands have numbers that fit.
-use Rattle.std.proofs.Common.{◌≡◌, ℕ, zero, suc, ◌==◌, ◌+◌, ◌<◌, ◌≤◌, ◌^◌, Bool, true, false, ◌&&◌, ◌||◌, not, List, [], ◌∷◌, Option, Some, None, refl, sym, ap, ◌∙◌, arith, inl, inr, find, length, take, count_by, slice_get, nat_le, nat_lt, if◌then◌else◌}
+use Rattle.std.proofs.Common.{◌≡◌, ℕ, zero, suc, ◌==◌, ◌+◌, ◌≤◌, Bool, true, false, ◌&&◌, ◌||◌, not, List, [], ◌∷◌, Option, Some, None, refl, arith, inl, inr, find, length, take, count_by, nat_le, nat_lt, if◌then◌else◌}
 use Rattle.std.specs.Prelude.{is_some}
 use Rattle.std.specs.List.{list_all, list_any}
-use Rattle.std.proofs.lemmas.Bool.{cases_Bool, false≢true}
+use Rattle.std.proofs.lemmas.Bool.{cases_Bool}
 use Rattle.std.proofs.lemmas.Bool.Decides.{nat_tests}
 use Rattle.cam_types.specs.Metadata.{exposure_tag, is_exposure, is_level, is_pattern, is_sensitivity, level_tag, pattern_tag, range_fault, sensitivity_tag}
 use Rattle.cam_types.specs.Picture.{is_size_of}
@@ -10,9 +10,9 @@ use Rattle.cam_types.specs.Script.{command_fits, item_fits, spec_fits}
 use Rattle.cam_types.specs.declared.item.Item.{Item}
 use Rattle.cam_types.specs.declared.item.Settings.{Settings}
 use Rattle.cam_types.specs.declared.reply.Reply.{Reply}
-use Rattle.cam_types.specs.declared.reply.Reply.TheVariants.{Ok, Submitted, Configured, Refused}
+use Rattle.cam_types.specs.declared.reply.Reply.TheVariants.{Refused}
 use Rattle.cam_types.specs.declared.script.Command.{Command}
-use Rattle.cam_types.specs.declared.script.Command.TheVariants.{Configure, Once, Burst, Repeat, Stop, Wait, Await, Flush, Close, Disconnect}
+use Rattle.cam_types.specs.declared.script.Command.TheVariants.{Configure, Once, Burst, Repeat, Stop, Wait, Await}
 use Rattle.cam_types.specs.declared.script.Script.{Script}
 use Rattle.cam_types.specs.declared.stream.StreamSpec.{StreamSpec}
 use Rattle.trace_model.specs.declared.entry.Entry.{Entry}
@@ -20,7 +20,7 @@ use Rattle.trace_model.specs.Calls.{is_closed, is_closing, word_of}
 use Rattle.trace_model.specs.Configuration.{is_configured, streams}
 use Rattle.trace_model.specs.Printable.{is_byte, is_small, number_fits}
 use Rattle.trace_model.specs.Queue.{queued, repeating}
-use Rattle.trace_model.specs.Reply.{at_place, first_repeated, is_configure, is_raw, is_yuv, item_refusal, items_refusal, list_refusal, or_else, own_refusal, place_of, queue_refusal, refusal, refused, refused_at, refused_for, specs_refusal, state_refusal, targets_refusal, where_true, with_value}
+use Rattle.trace_model.specs.Reply.{at_place, first_repeated, is_configure, is_raw, is_yuv, items_refusal, list_refusal, or_else, own_refusal, place_of, queue_refusal, refusal, refused, specs_refusal, state_refusal, targets_refusal, where_true, with_value}
 use Rattle.trace_model.specs.Stopping.{has_failed}
 use Rattle.trace_model.proofs.Basics.{and_parts}
 use Rattle.trace_bounds.specs.Typed.{are_bytes, command_typed, item_typed}
@@ -79,8 +79,8 @@ targets-fit n i (t ∷ targets) few all =
     let unknown = find (λ s. not (nat_lt s n)) (t ∷ targets) in
     let repeated = first_repeated [] (t ∷ targets) in
     or-fits (with_value 6 i unknown) (with_value 7 i repeated)
-        (value-fits 6 i unknown refl few (bytes-small unknown (t ∷ targets) (λ u h. found-all is_byte (λ s. not (nat_lt s n)) (t ∷ targets) u all h)))
-        (value-fits 7 i repeated refl few (bytes-small repeated (t ∷ targets) (λ u h. first-byte [] (t ∷ targets) u all h)))
+    (value-fits 6 i unknown refl few (bytes-small unknown (t ∷ targets) (λ u h. found-all is_byte (λ s. not (nat_lt s n)) (t ∷ targets) u all h)))
+    (value-fits 7 i repeated refl few (bytes-small repeated (t ∷ targets) (λ u h. first-byte [] (t ∷ targets) u all h)))
 
 by_tags : (a b c d : Bool) → number_fits (if not a then Some pattern_tag else (if not b then Some level_tag else (if not c then Some exposure_tag else (if not d then Some sensitivity_tag else None)))) ≡ true
 by_tags true true true true = refl
@@ -106,8 +106,8 @@ items-fit n i (item ∷ items) few all =
     let targets = targets_refusal n i (take item.targets.count item.targets.list) in
     let setting = with_value 8 i (range_fault item.settings) in
     or-fits (or_else targets setting) (items_refusal n (i + 1) items)
-        (or-fits targets setting (targets-fit n i (take item.targets.count item.targets.list) place (bytes-taken item.targets.count item.targets.list bytes)) (value-fits 8 i (range_fault item.settings) refl place (tag-fits item.settings)))
-        (items-fit n (i + 1) items (omega (arith, few)) parts.1)
+    (or-fits targets setting (targets-fit n i (take item.targets.count item.targets.list) place (bytes-taken item.targets.count item.targets.list bytes)) (value-fits 8 i (range_fault item.settings) refl place (tag-fits item.settings)))
+    (items-fit n (i + 1) items (omega (arith, few)) parts.1)
 
 list-fits : (n : ℕ) (items : List Item) → length items ≤ 32 → list_all item_typed items ≡ true → fits_if_any (list_refusal n items) ≡ true
 list-fits n [] few all = refl
@@ -136,9 +136,9 @@ by_specs false false false false g None None h k = where-fits g 27 refl
 specs-fit : (specs : List StreamSpec) → length specs ≤ 16 → fits_if_any (specs_refusal specs) ≡ true
 specs-fit specs few =
     by_specs (not (list_any (λ s. not s.input) specs)) (nat_lt 4 (length specs)) (list_any (λ s. s.input) specs)
-        (nat_lt 1 (count_by (λ s. is_raw s.format) specs)) (nat_lt 3 (count_by (λ s. is_yuv s.format) specs))
-        (place_of (λ s. not (is_raw s.format) && not (is_yuv s.format)) 0 specs) (place_of (λ s. not (is_size_of s.format s.width s.height)) 0 specs)
-        (place-small (λ (s : StreamSpec). not (is_raw s.format) && not (is_yuv s.format)) 0 specs (omega (arith, few))) (place-small (λ (s : StreamSpec). not (is_size_of s.format s.width s.height)) 0 specs (omega (arith, few)))
+    (nat_lt 1 (count_by (λ s. is_raw s.format) specs)) (nat_lt 3 (count_by (λ s. is_yuv s.format) specs))
+    (place_of (λ s. not (is_raw s.format) && not (is_yuv s.format)) 0 specs) (place_of (λ s. not (is_size_of s.format s.width s.height)) 0 specs)
+    (place-small (λ (s : StreamSpec). not (is_raw s.format) && not (is_yuv s.format)) 0 specs (omega (arith, few))) (place-small (λ (s : StreamSpec). not (is_size_of s.format s.width s.height)) 0 specs (omega (arith, few)))
 
 -- ---- all refusals
 
@@ -149,10 +149,10 @@ own-fits : (script : Script) (past : List Entry) (c : Command) → command_fits 
 own-fits script past (Configure specs) fits typed = specs-fit specs (at-most (length specs) 16 (and_parts (nat_le (length specs) 16) (list_all spec_fits specs) fits).0)
 own-fits script past (Once item) fits typed =
     or-fits (items_refusal (length (streams script past)) 0 (item ∷ [])) (queue_refusal script past (item ∷ []))
-        (items-fit (length (streams script past)) 0 (item ∷ []) (omega arith) (rw typed refl)) (queue-fits script past (item ∷ []))
+    (items-fit (length (streams script past)) 0 (item ∷ []) (omega arith) (rw typed refl)) (queue-fits script past (item ∷ []))
 own-fits script past (Burst items) fits typed =
     or-fits (list_refusal (length (streams script past)) items) (queue_refusal script past items)
-        (list-fits (length (streams script past)) items (at-most (length items) 32 (and_parts (nat_le (length items) 32) (list_all item_fits items) fits).0) typed) (queue-fits script past items)
+    (list-fits (length (streams script past)) items (at-most (length items) 32 (and_parts (nat_le (length items) 32) (list_all item_fits items) fits).0) typed) (queue-fits script past items)
 own-fits script past (Repeat items) fits typed =
     let few = at-most (length items) 8 (and_parts (nat_le (length items) 8) (list_all item_fits items) fits).0 in
     list-fits (length (streams script past)) items (omega (arith, few)) typed
@@ -170,5 +170,5 @@ by_state false false false missing = where-fits missing 1 refl
 pub refusal-fits : (script : Script) (past : List Entry) (c : Command) → command_fits c ≡ true → command_typed c ≡ true → fits_if_any (refusal script past c) ≡ true
 refusal-fits script past c fits typed =
     or-fits (state_refusal past c) (own_refusal script past c)
-        (by_state (is_closed past) (is_closing (word_of c)) (has_failed past) (not (is_configure c) && not (is_configured past)))
-        (own-fits script past c fits typed)
+    (by_state (is_closed past) (is_closing (word_of c)) (has_failed past) (not (is_configure c) && not (is_configured past)))
+    (own-fits script past c fits typed)

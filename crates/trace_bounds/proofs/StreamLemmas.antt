@@ -1,16 +1,15 @@
 -- The buffers of a configuration, and that a buffer at the device is one of its stream's.
-use Rattle.std.proofs.Common.{◌≡◌, ℕ, zero, suc, ◌==◌, ◌+◌, ◌*◌, ◌<◌, ◌≤◌, Bool, true, false, ◌&&◌, ◌||◌, not, List, [], ◌∷◌, Option, Some, None, refl, sym, ap, ◌∙◌, arith, inl, inr, length, slice_get, nat_le, nat_lt}
+use Rattle.std.proofs.Common.{◌≡◌, ℕ, zero, suc, ◌==◌, ◌+◌, ◌<◌, ◌≤◌, Bool, true, false, ◌&&◌, ◌||◌, not, List, [], ◌∷◌, Option, Some, None, refl, arith, inl, inr, length, slice_get, nat_le}
 use Rattle.std.specs.Prelude.{is_some}
 use Rattle.std.specs.List.{list_all, list_any, range_with_len}
 use Rattle.std.proofs.lemmas.Bool.{cases_Bool, false≢true}
 use Rattle.std.proofs.lemmas.Bool.Decides.{nat_tests}
 use Rattle.cam_types.specs.Four.{four_list}
-use Rattle.cam_types.specs.declared.four.Four.{Four}
 use Rattle.cam_types.specs.declared.reply.Made.{Made}
 use Rattle.cam_types.specs.declared.reply.Reply.{Reply}
 use Rattle.cam_types.specs.declared.reply.Reply.TheVariants.{Ok, Submitted, Configured, Refused}
 use Rattle.cam_types.specs.declared.script.Command.{Command}
-use Rattle.cam_types.specs.declared.script.Command.TheVariants.{Configure, Once, Burst, Repeat, Stop, Wait, Await, Flush, Close, Disconnect}
+use Rattle.cam_types.specs.declared.script.Command.TheVariants.{Configure}
 use Rattle.cam_types.specs.declared.script.Script.{Script}
 use Rattle.cam_types.specs.declared.stream.StreamSpec.{StreamSpec}
 use Rattle.trace_model.specs.declared.entry.Entry.{Entry}
@@ -46,7 +45,7 @@ is_low m = nat_le (m.first.0 + m.count) 20000
 le-true : (n m : ℕ) → n ≤ m → nat_le n m ≡ true
 le-true n m l = grind (arith, nat_tests)
 
-made-low : (m : ℕ) (specs : List StreamSpec) → m ≤ 12288 → list_all is_low (four_list (four_of (made_for m specs))) ≡ true
+pub made-low : (m : ℕ) (specs : List StreamSpec) → m ≤ 12288 → list_all is_low (four_list (four_of (made_for m specs))) ≡ true
 made-low m [] l = refl
 made-low m (a ∷ []) l =
     let fa = few-at-device a.format in
@@ -87,7 +86,7 @@ made-all-low script [] v legal = refl
 made-all-low script (Call i w r ∷ past) v legal =
     let ih = made-all-low script past v legal.1 in
     by-call (λ e. list_all is_low (made (e ∷ past)) ≡ true) script past i w r legal.0
-        (λ c at. call_low past (call_count past) c (refusal script past c) (refusal-refuses script past c) (few-made script past v legal.1) ih)
+    (λ c at. call_low past (call_count past) c (refusal script past c) (refusal-refuses script past c) (few-made script past v legal.1) ih)
 made-all-low script (e ∷ past) v legal = made-all-low script past v legal.1
 
 pub low-fits : (ms : List Made) → list_all is_low ms ≡ true → list_all made_fits ms ≡ true
@@ -183,7 +182,7 @@ at-device-own script [] n s b legal h = absurd (false≢true h)
 at-device-own script (Call i w r ∷ past) n s b legal h =
     let ih = at-device-own script past n s b legal.1 h in
     by-answer (λ e. IsOwn (e ∷ past) s b) script past i w r legal.0
-        (λ c at may. call_own script past (call_count past) c (refusal script past c) n s b (refusal-refuses script past c) (λ accepted specs is. waits-for-pool script past specs (rw is at may) (rw is at accepted)) h ih)
+    (λ c at may. call_own script past (call_count past) c (refusal script past c) n s b (refusal-refuses script past c) (λ accepted specs is. waits-for-pool script past specs (rw is at may) (rw is at accepted)) h ih)
 at-device-own script (Send m r i same targets ∷ past) n s b legal h =
     elim (cases_Bool (names b (Send m r i same targets))) [
       | inl named ↦ (
@@ -236,7 +235,7 @@ made-for-streams script [] legal = omega arith
 made-for-streams script (Call i w r ∷ past) legal =
     let ih = made-for-streams script past legal.1 in
     by-call (λ e. IsMadeFor script (e ∷ past)) script past i w r legal.0
-        (λ c at. call_made script past (call_count past) c (refusal script past c) (refusal-refuses script past c) at ih)
+    (λ c at. call_made script past (call_count past) c (refusal script past c) (refusal-refuses script past c) at ih)
 made-for-streams script (e ∷ past) legal = made-for-streams script past legal.1
 
 some-within : {X : Type 0} (xs : List X) (i : ℕ) → i < length xs → is_some (slice_get xs i) ≡ true

@@ -33,7 +33,7 @@ valid s h =
     let e = and_parts (nat_le (sum_by awaited_by s.commands) awaited_limit) (list_any is_ending s.commands) d.1 in
     record { commands = at-most (length s.commands) command_limit c.0; fit = d.0; awaited = at-most (sum_by awaited_by s.commands) awaited_limit e.0 }
 
-queues_few : (c : Command) → command_fits c ≡ true → queued_by c ≤ 32
+pub queues_few : (c : Command) → command_fits c ≡ true → queued_by c ≤ 32
 queues_few (Once item) h = omega arith
 queues_few (Burst items) h = at-most (length items) 32 (and_parts (nat_le (length items) 32) (list_all item_fits items) h).0
 queues_few c h = omega arith
