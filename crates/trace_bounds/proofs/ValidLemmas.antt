@@ -50,6 +50,12 @@ queue_few (c ∷ cs) h =
 pub few-frames : (s : Script) → Valid s → frame_bound s ≤ 65664
 few-frames s v = let few = queue_few s.commands v.fit in omega (arith, few, v.commands, v.awaited)
 
+pub bounds_most : (s : Script) → is_valid s ≡ true → (frame_bound s ≤ 65664) × (fence_bound s ≤ 262656) × (buffer_bound s ≤ 12288) × (time_bound s ≤ 6567400000000)
+bounds_most s h =
+    let v = valid s h in
+    let few = few-frames s v in
+    (few, omega (arith, few), omega (arith, v.commands), omega (arith, few))
+
 pub bounds_fit : (s : Script) → is_valid s ≡ true → (frame_bound s < 2 ^ 32) × (fence_bound s < 2 ^ 32) × (buffer_bound s < 2 ^ 32) × (time_bound s < 2 ^ 63)
 bounds_fit s h =
     let v = valid s h in

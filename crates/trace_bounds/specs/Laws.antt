@@ -48,7 +48,12 @@ is_until time _ = true
 abbrev pub BoundsTimes : Script → List Entry → Type 0
 BoundsTimes script past = IsLegal script past → IsTrue (list_all (is_until (time_bound script)) past)
 
--- the bounds of a valid script fit the fields of the entries
+-- the bounds of a valid script are at most these
+abbrev pub BoundsMost : Script → Type 0
+BoundsMost script =
+    IsTrue (is_valid script) → (frame_bound script ≤ 65664) × (fence_bound script ≤ 262656) × (buffer_bound script ≤ 12288) × (time_bound script ≤ 6567400000000)
+
+-- so they fit the fields of the entries
 abbrev pub BoundsFit : Script → Type 0
 BoundsFit script =
     IsTrue (is_valid script) → (frame_bound script < 2 ^ 32) × (fence_bound script < 2 ^ 32) × (buffer_bound script < 2 ^ 32) × (time_bound script < 2 ^ 63)

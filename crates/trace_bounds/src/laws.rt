@@ -2,7 +2,7 @@
 ghost use Rattle.std.specs.Prelude.{List};
 ghost use Rattle.cam_types.specs.declared.script.Script.{Script as SomeScript};
 ghost use Rattle.trace_model.specs.declared.entry.Entry.{Entry as SomeEntry};
-ghost use Rattle.trace_bounds.specs.Laws.{BoundsBuffers, BoundsCalls, BoundsFences, BoundsFit, BoundsFrames, BoundsRequests, BoundsSends, BoundsTimes, PrintsTyped};
+ghost use Rattle.trace_bounds.specs.Laws.{BoundsBuffers, BoundsCalls, BoundsFences, BoundsFit, BoundsFrames, BoundsMost, BoundsRequests, BoundsSends, BoundsTimes, PrintsTyped};
 
 /// A legal run gives away no more frame numbers than the bound on frames, and so sends no more frames.
 #[tactic(auto, using(crate::proofs::FrameLemmas::frames_bounded, crate::proofs::FrameLemmas::sends_bounded))]
@@ -37,9 +37,10 @@ pub fn shutter_times_are_bounded()
 {}
 
 /// The bounds of a valid script fit the fields of the entries: 32 bits for numbers, and 63 for times.
-#[tactic(auto, using(crate::proofs::ValidLemmas::bounds_fit))]
+#[tactic(auto, using(crate::proofs::ValidLemmas::bounds_most, crate::proofs::ValidLemmas::bounds_fit))]
 pub fn bounds_of_a_valid_script_fit()
-    ensures { (script : SomeScript) → BoundsFit script }
+    ensures most { (script : SomeScript) → BoundsMost script }
+    ensures fit { (script : SomeScript) → BoundsFit script }
 {}
 
 /// Every entry of a legal run of a valid script has a line in the trace's text.
