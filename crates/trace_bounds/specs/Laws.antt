@@ -13,8 +13,8 @@ use Rattle.trace_model.specs.Printable.{is_printable}
 use Rattle.trace_bounds.specs.Typed.{is_typed}
 use Rattle.trace_bounds.specs.Bounds.{buffer_bound, fence_bound, frame_bound, time_bound}
 
--- What a legal run of a script holds at most. The bounds hold of every script, valid or not; those of a
--- valid one fit the fields of the entries.
+-- What a legal run of a script holds at most. The bounds hold of every script, valid or not; those of a valid one fit the
+-- fields of the entries.
 
 -- sends and drops together give away no more numbers than the bound on frames
 abbrev pub BoundsFrames : Script → List Entry → Type 0
@@ -24,7 +24,7 @@ BoundsFrames script past = IsLegal script past → next_number past ≤ frame_bo
 abbrev pub BoundsSends : Script → List Entry → Type 0
 BoundsSends script past = IsLegal script past → length (frames past) ≤ frame_bound script
 
--- each command is called once at most, and accepted once at most
+-- no more calls are answered than there are commands, and no more requests are accepted
 abbrev pub BoundsCalls : Script → List Entry → Type 0
 BoundsCalls script past = IsLegal script past → call_count past ≤ length script.commands
 

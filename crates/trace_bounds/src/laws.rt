@@ -11,7 +11,7 @@ pub fn frames_are_bounded()
     ensures sends { (script : SomeScript) (past : List SomeEntry) → BoundsSends script past }
 {}
 
-/// A legal run calls no command twice.
+/// A legal run answers no more calls than the script has commands, and accepts no more requests.
 #[tactic(auto, using(crate::proofs::Calls::calls_bounded, crate::proofs::Calls::requests_bounded))]
 pub fn calls_are_bounded()
     ensures calls { (script : SomeScript) (past : List SomeEntry) → BoundsCalls script past }
