@@ -1,0 +1,16 @@
+pub mod Counts
+pub mod Calls
+pub mod Refusals
+pub mod RepeatLemmas
+pub mod FrameLemmas
+pub mod ValidLemmas
+pub mod Shapes
+pub mod FenceLemmas
+pub mod Accepted
+pub mod BufferLemmas
+pub mod TimeLemmas
+pub mod Printed
+pub mod RefusedFits
+pub mod StreamLemmas
+pub mod NextFits
+pub mod Printing

@@ -1,0 +1,4 @@
+pub mod Bounds
+pub mod Typed
+pub mod Laws
+pub mod Worked
