@@ -1,5 +1,5 @@
 //! What is to be captured next: the queue, and the repeating list.
-ghost use Rattle.std.specs.Prelude.{◌≡◌, not, reverse, filter, option_copied, option_map};
+ghost use Rattle.std.specs.Prelude.{◌≡◌, ◌<◌, ◌^◌, not, reverse, filter, length, option_copied, option_map};
 ghost use Rattle.std.specs.List.{list_any};
 ghost use Rattle.trace_filters.specs.Queued.{as_waiting, or_first};
 ghost use Rattle.trace_model.specs.Entry.{takes};
@@ -30,12 +30,16 @@ pub fn is_taken(entries: &[Entry], request: RequestId, place: usize) -> bool
 }
 
 /// What an accepted command puts into the queue.
-fn queued_items(command: Option<&Command>) -> &[Item]
-    ensures { result.now ≡ queued_items (option_copied command.entry) }
+pub fn queued_items(command: Option<&Command>) -> &[Item]
+    ensures items { result.now ≡ queued_items (option_copied command.entry) }
+    ensures few { length result.now < 2 ^ 32 }
 {
     match command {
         Some(Command::Once(item)) => slice::from_ref(item),
-        Some(Command::Burst(items)) => items.as_slice(),
+        Some(Command::Burst(items)) => {
+            let _count = items.len();
+            items.as_slice()
+        }
         _ => &[],
     }
 }

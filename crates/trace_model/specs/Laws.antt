@@ -2,7 +2,6 @@ use Rattle.std.specs.Prelude.{◌≡◌, ℕ, ◌==◌, ◌+◌, Bool, true, fal
 use Rattle.std.specs.List.{list_any, list_all}
 use Rattle.cam_types.specs.Four.{four_list}
 use Rattle.cam_types.specs.declared.reply.Reply.TheVariants.{Configured}
-use Rattle.cam_types.specs.Script.{is_valid}
 use Rattle.cam_types.specs.declared.script.Script.{Script}
 use Rattle.trace_model.specs.declared.entry.Entry.{Entry}
 use Rattle.trace_model.specs.declared.entry.Entry.TheVariants.{Call, Send, Shutter, Partial, Filled, Failed, ErrorResult, Signal}
@@ -10,8 +9,6 @@ use Rattle.trace_model.specs.Complete.{released}
 use Rattle.trace_model.specs.Configuration.{is_buffer}
 use Rattle.trace_model.specs.Entry.{takes, is_part, is_error_request, is_error_result, returns, signals, releases_fence}
 use Rattle.trace_model.specs.Frames.{frames, targets_of, has_error_request}
-use Rattle.trace_model.specs.Legal.{IsLegal}
-use Rattle.trace_model.specs.Printable.{is_printable}
 use Rattle.trace_model.specs.Open.{has_part, has_error_result}
 use Rattle.trace_model.specs.Place.{Device, place, is_at}
 use Rattle.trace_model.specs.Queue.{submitted}
@@ -115,10 +112,3 @@ pub record FencesOnce (past : List Entry) : Type 0 where
   pub released_once : IsTrue (list_all (λ f. count_by (releases_fence f) past == 1) (released past))
   pub signalled_once : IsTrue (list_all (λ f. count_by (signals f) past == 1) (released past))
   pub later : IsTrue (signals_after_release past)
-
--- ---- every entry has a line
-
--- in a legal run of a valid script each entry has a line in the trace's text: all its numbers fit their fields, since the
--- frames of such a run are bounded
-abbrev pub PrintsAll : Script → List Entry → Type 0
-PrintsAll script past = IsTrue (is_valid script) → IsLegal script past → IsTrue (list_all is_printable past)

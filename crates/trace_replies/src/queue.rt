@@ -1,29 +1,13 @@
 //! How many items wait.
-ghost use Rattle.std.specs.Prelude.{◌≡◌, ◌≤◌, ◌<◌, ◌^◌, not, reverse, filter, length, option_copied};
-ghost use Rattle.trace_model.specs.Queue.{queued_items, named, puts, queued, is_taken};
+ghost use Rattle.std.specs.Prelude.{◌≡◌, ◌≤◌, ◌<◌, ◌^◌, not, reverse, filter, length};
+ghost use Rattle.trace_model.specs.Queue.{named, puts, queued, is_taken};
 ghost use Rattle.trace_model.specs.Reply.{queue_refusal};
 
 use crate::refused::{QUEUE_FULL, where_true};
-use cam_types::{Command, Item, QUEUE_LIMIT, Reply, RequestId, Script};
-use std::slice;
+use cam_types::{Item, QUEUE_LIMIT, Reply, RequestId, Script};
 use trace_filters::call::command_at;
-use trace_filters::queue::is_taken;
+use trace_filters::queue::{is_taken, queued_items};
 use trace_model::Entry;
-
-/// What an accepted command puts into the queue.
-fn queued_items(command: Option<&Command>) -> &[Item]
-    ensures items { result.now ≡ queued_items (option_copied command.entry) }
-    ensures few { length result.now < 2 ^ 32 }
-{
-    match command {
-        Some(Command::Once(item)) => slice::from_ref(item),
-        Some(Command::Burst(items)) => {
-            let _count = items.len();
-            items.as_slice()
-        }
-        _ => &[],
-    }
-}
 
 /// How many of the request's items aren't taken.
 fn count_left(entries: &[Entry], request: RequestId, items: &[Item]) -> usize
