@@ -15,6 +15,7 @@ mod text;
 pub use cause::{Cause, ScriptRefused};
 pub use reading::read;
 pub use spelling::print;
+pub use text::{split_at_byte, split_word, without_return};
 
 #[cfg(test)]
 mod tests;

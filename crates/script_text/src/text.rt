@@ -55,7 +55,7 @@ pub fn split_in_four(text: &[u8], byte: u8) -> Option<(&[u8], &[u8], &[u8], &[u8
 }
 
 /// A line without the CR at its end, if it has one.
-fn without_return(line: &[u8]) -> &[u8]
+pub fn without_return(line: &[u8]) -> &[u8]
     ensures { result.now ≡ strip_carriage_return line.now }
 {
     match line {

@@ -1,0 +1,46 @@
+use Rattle.std.specs.Prelude.{◌≡◌, ℕ, List, Result, Ok, Err, length, nat_lt, true, false, ◌⊎◌}
+use Rattle.cam_types.specs.declared.script.Script.{Script}
+use Rattle.script_text.specs.Causes.{number_of}
+use Rattle.script_text.specs.Grammar.{script_of}
+use Rattle.script_text.specs.declared.cause.ScriptRefused.{ScriptRefused}
+use Rattle.script_text.specs.declared.cause.ScriptRefused.TheVariants.{Bad, NoMemory}
+use Rattle.trace_check.specs.Verdict.{IsVerdict}
+use Rattle.trace_check.specs.declared.verdict.Verdict.{Verdict}
+use Rattle.trace_model.specs.declared.entry.Entry.{Entry}
+use Rattle.trace_reader.specs.Causes.{number_of as trace_number_of}
+use Rattle.trace_reader.specs.Grammar.{trace_of}
+use Rattle.trace_reader.specs.declared.cause.TraceRefused.{TraceRefused}
+use Rattle.trace_reader.specs.declared.cause.TraceRefused.TheVariants.{Bad as BadTrace, NoMemory as NoTraceMemory}
+use Rattle.judge_text.specs.Lines.{refused_script_text, refused_trace_text, verdict_status, verdict_text}
+use Rattle.judge_text.specs.Parts.{first_line, script_part, trace_part}
+
+-- The status and the whole text that the judge's input has. (docs/FORMATS.md)
+
+-- the most bytes of an input
+abbrev pub input_limit : ℕ
+input_limit = 134217728
+
+-- the trace has this verdict
+pub record HasVerdict (script : Script) (trace : List Entry) (status : ℕ) (text : List ℕ) : Type 0 where
+  pub verdict : Verdict
+  pub judged : IsVerdict script trace verdict
+  pub number : status ≡ verdict_status verdict
+  pub shown : text ≡ verdict_text verdict
+
+-- of a script and what a text means as a trace
+abbrev pub JudgesTrace : Script → Result (List Entry) TraceRefused → ℕ → List ℕ → Type 0
+JudgesTrace script (Ok trace) status text = HasVerdict script trace status text
+JudgesTrace script (Err (BadTrace line cause)) status text = (status ≡ 1) × (text ≡ refused_trace_text line (trace_number_of cause))
+JudgesTrace script (Err NoTraceMemory) status text = ⊥
+
+-- the script is judged before the trace
+abbrev pub JudgesParts : Result Script ScriptRefused → Result (List Entry) TraceRefused → ℕ → List ℕ → Type 0
+JudgesParts (Ok script) trace status text = JudgesTrace script trace status text
+JudgesParts (Err (Bad line cause)) trace status text = (status ≡ 1) × (text ≡ refused_script_text line (number_of cause))
+JudgesParts (Err NoMemory) trace status text = ⊥
+
+-- of an input: it is too long, or has two parts
+abbrev pub Judges : List ℕ → ℕ → List ℕ → Type 0
+Judges input status text =
+    ((nat_lt input_limit (length input) ≡ true) × (status ≡ 1) × (text ≡ refused_trace_text 0 45))
+    ⊎ ((nat_lt input_limit (length input) ≡ false) × JudgesParts (script_of (script_part input)) (trace_of (first_line input) (trace_part input)) status text)

@@ -1,0 +1,87 @@
+//! The judge's lines.
+ghost use Rattle.std.specs.Prelude.{◌≡◌, IfOk};
+ghost use Rattle.judge_text.specs.Lines.{part_text, refused_trace_text, rule_text, verdict_text};
+
+use cam_types::NoMemory;
+use std::alloc::Global;
+use trace_check::{MissingPart, RuleName, Verdict};
+
+fn rule_text(rule: RuleName) -> &'static str
+    ensures { result.now ≡ rule_text rule }
+{
+    match rule {
+        RuleName::D9 => "D9",
+        RuleName::D10 => "D10",
+        RuleName::D11 => "D11",
+        RuleName::D12 => "D12",
+        RuleName::D13 => "D13",
+        RuleName::D14 => "D14",
+        RuleName::D15 => "D15",
+    }
+}
+
+fn part_text(part: MissingPart) -> &'static str
+    ensures { result.now ≡ part_text part }
+{
+    match part {
+        MissingPart::Calls => "calls",
+        MissingPart::Open => "open",
+        MissingPart::Queued => "queued",
+        MissingPart::Pool => "pool",
+        MissingPart::Signal => "signal",
+    }
+}
+
+/// The line of a verdict: `legal`, `illegal POSITION RULE` or `incomplete PART`.
+pub fn verdict_text(alloc: Global, verdict: Verdict) -> Result<Vec<u8>, NoMemory>
+    ensures { IfOk result (λ text. text.items ≡ verdict_text verdict) }
+{
+    match verdict {
+        Verdict::Legal => legal_text(alloc),
+        Verdict::IllegalAt { position, rule } => illegal_text(alloc, position, rule),
+        Verdict::Incomplete { part } => incomplete_text(alloc, part),
+    }
+}
+
+fn legal_text(alloc: Global) -> Result<Vec<u8>, NoMemory>
+    ensures { IfOk result (λ text. text.items ≡ verdict_text Verdict.Legal) }
+{
+    let mut text = Vec::new(alloc);
+    text.extend_from_slice(b"legal\n")?;
+    Ok(text)
+}
+
+fn illegal_text(alloc: Global, position: u32, rule: RuleName) -> Result<Vec<u8>, NoMemory>
+    ensures { IfOk result (λ text. text.items ≡ verdict_text (Verdict.IllegalAt position rule)) }
+{
+    let mut text = Vec::new(alloc);
+    text.extend_from_slice(b"illegal ")?;
+    text.extend_from_slice(position.to_string(alloc)?.as_bytes())?;
+    text.extend_from_slice(b" ")?;
+    text.extend_from_slice(rule_text(rule).as_bytes())?;
+    text.extend_from_slice(b"\n")?;
+    Ok(text)
+}
+
+fn incomplete_text(alloc: Global, part: MissingPart) -> Result<Vec<u8>, NoMemory>
+    ensures { IfOk result (λ text. text.items ≡ verdict_text (Verdict.Incomplete part)) }
+{
+    let mut text = Vec::new(alloc);
+    text.extend_from_slice(b"incomplete ")?;
+    text.extend_from_slice(part_text(part).as_bytes())?;
+    text.extend_from_slice(b"\n")?;
+    Ok(text)
+}
+
+/// The line that refuses a trace: `refused trace LINE CAUSE`.
+pub fn refused_trace_text(alloc: Global, line: u32, cause: u8) -> Result<Vec<u8>, NoMemory>
+    ensures { IfOk result (λ text. text.items ≡ refused_trace_text line cause) }
+{
+    let mut text = Vec::new(alloc);
+    text.extend_from_slice(b"refused trace ")?;
+    text.extend_from_slice(line.to_string(alloc)?.as_bytes())?;
+    text.extend_from_slice(b" ")?;
+    text.extend_from_slice(cause.to_string(alloc)?.as_bytes())?;
+    text.extend_from_slice(b"\n")?;
+    Ok(text)
+}
