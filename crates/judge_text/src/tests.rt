@@ -1,6 +1,7 @@
 //! Where the trace begins.
-use super::parts_of;
+use super::{parts_of, refused_trace_text, verdict_text};
 use std::test::Fail;
+use trace_check::{MissingPart, RuleName, Verdict};
 
 /// The input, the length of its script part, and the number of the trace's first line.
 const CASES: &[(&[u8], usize, usize)] = &[
@@ -24,5 +25,34 @@ fn the_trace_begins_at_its_word(rt: HostRuntime) -> Result<(), Fail> {
         assert!(rt; parts.trace.len() == input.len() - *script);
         assert!(rt; parts.first_line == *first_line);
     }
+    Ok(())
+}
+
+/// Verdicts and their lines.
+const LINES: &[(Verdict, &[u8])] = &[
+    (Verdict::Legal, b"legal\n"),
+    (
+        Verdict::IllegalAt {
+            position: 7,
+            rule: RuleName::D12,
+        },
+        b"illegal 7 D12\n",
+    ),
+    (
+        Verdict::Incomplete {
+            part: MissingPart::Signal,
+        },
+        b"incomplete signal\n",
+    ),
+];
+
+#[test]
+fn verdicts_have_their_lines(rt: HostRuntime) -> Result<(), Fail> {
+    for (verdict, line) in LINES {
+        assert!(rt; verdict_text(rt.alloc(), *verdict)?.as_slice() == *line);
+    }
+    assert!(rt;
+        refused_trace_text(rt.alloc(), 5, 41)?.as_slice() == b"refused trace 5 41\n".as_slice()
+    );
     Ok(())
 }
