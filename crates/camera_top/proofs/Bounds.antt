@@ -1,13 +1,13 @@
 -- The bound on the moves of a raw script.
-use Rattle.std.proofs.Common.{◌≡◌, ℕ, zero, suc, ◌==◌, ◌+◌, ◌-◌, ◌*◌, ◌<◌, ◌≤◌, Bool, true, false, ◌&&◌, List, [], ◌∷◌, refl, sym, ap, ◌∙◌, arith, length, sum_by, nat_le}
-use Rattle.std.proofs.lemmas.Bool.{cases_Bool, false≢true}
+use Rattle.std.proofs.Common.{◌≡◌, ◌==◌, ◌+◌, ◌-◌, ◌<◌, ◌≤◌, Bool, true, false, ◌&&◌, List, [], ◌∷◌, refl, arith, length, sum_by, nat_le}
+use Rattle.std.proofs.lemmas.Bool.{false≢true}
 use Rattle.std.proofs.lemmas.Bool.Decides.{nat_tests}
 use Rattle.std.proofs.lemmas.Grind.{common_steps}
 use Rattle.cam_types.specs.Script.{awaited_by}
 use Rattle.cam_types.specs.declared.script.Command.{Command}
-use Rattle.cam_types.specs.declared.script.Command.TheVariants.{Configure, Once, Burst, Repeat, Stop, Wait, Await, Flush, Close, Disconnect}
+use Rattle.cam_types.specs.declared.script.Command.TheVariants.{Configure, Once, Close}
 use Rattle.cam_types.specs.declared.script.Script.{Script}
-use Rattle.service_core.specs.First.{frame_bound, move_bound, queued_by}
+use Rattle.service_core.specs.First.{queued_by}
 use Rattle.service_core.specs.RawScripts.{is_raw_alone, is_raw_item, is_raw_script, are_raw_commands, are_requests}
 
 pub and_parts : (a b : Bool) → (a && b) ≡ true → (a ≡ true) × (b ≡ true)

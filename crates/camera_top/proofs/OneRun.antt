@@ -1,5 +1,5 @@
 -- The picks make one run.
-use Rattle.std.proofs.Common.{◌≡◌, ℕ, zero, suc, ◌<◌, ◌≤◌, ◌⊎◌, List, [], ◌∷◌, Option, Some, None, refl, sym, ap, ◌∙◌, arith, inl, inr, length, slice_get}
+use Rattle.std.proofs.Common.{◌≡◌, ℕ, ◌<◌, ◌≤◌, List, [], ◌∷◌, Some, None, refl, sym, ap, ◌∙◌, arith, inl, inr, length, slice_get}
 use Rattle.std.proofs.lemmas.Bool.{cases_lt, cases_eq}
 use Rattle.cam_types.specs.declared.script.Script.{Script}
 use Rattle.trace_model.specs.Complete.{IsComplete}
@@ -7,7 +7,6 @@ use Rattle.service_core.specs.declared.step.Move.{Move}
 use Rattle.service_core.specs.declared.step.StepName.{StepName}
 use Rattle.service_core.specs.First.{IsFirstPlayed, IsFirstPlayedRun, IsFirstStuck, first_candidates, first_chosen, first_move_at, move_bound}
 use Rattle.service_core.specs.History.{trace_of}
-use Rattle.service_core.specs.Played.{pick_at}
 
 one-move : (script : Script) (h k : List Move) (m n : Move) → h ≡ k → first_move_at script h (first_chosen script h) ≡ Some m → first_move_at script k (first_chosen script k) ≡ Some n → m ≡ n
 one-move script h k m n same a b =

@@ -1,4 +1,4 @@
-use Rattle.std.specs.Prelude.{◌≡◌, ℕ, ◌<◌, ◌⊎◌, List, Option, length, take, codes}
+use Rattle.std.specs.Prelude.{◌≡◌, ℕ, ◌<◌, ◌⊎◌, List, ◌++◌, Option, length, take, codes}
 use Rattle.std.specs.Io.KnownBytes.{Appends}
 use Rattle.io_edge.specs.Faults.{Rose}
 
@@ -6,6 +6,10 @@ use Rattle.io_edge.specs.Faults.{Rose}
 
 abbrev pub usage_line : List ℕ
 usage_line = codes "usage: camera play | run --workers N | check | gen SEED COUNT | help\n"
+
+-- what `help` writes
+abbrev pub help_text : List ℕ
+help_text = codes "camera: plays, runs and judges HAL3 camera scripts\n" ++ usage_line
 
 -- the whole text was written and no fault was counted
 abbrev pub Written : List ℕ → Option (List ℕ) → Option (List ℕ) → ℕ → ℕ → Type 0

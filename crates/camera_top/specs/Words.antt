@@ -1,12 +1,9 @@
-use Rattle.std.specs.Prelude.{ℕ, Bool, true, false, List, [], ◌∷◌, codes, nat_eq}
-use Rattle.std.specs.Borrow.{Bor}
-use Rattle.std.specs.Cmp.Lexicographic.{pointwise}
+use Rattle.std.specs.Prelude.{Bool, true, false, Option, Some}
+use Rattle.camera_words.specs.declared.form.Form.{Form}
+use Rattle.camera_words.specs.declared.form.Form.TheVariants.{Play, Help}
 
--- the texts are the same
-abbrev pub is_text : List ℕ → List ℕ → Bool
-is_text text other = pointwise nat_eq text other
-
--- The words of the command line: today there is one form, the word `play` alone. (docs/FORMATS.md)
-abbrev pub is_play : List (Bor (List ℕ)) → Bool
-is_play (word ∷ []) = is_text word.now (codes "play")
-is_play _ = false
+-- The words have a form whose command is built: today `play` and `help`. (docs/FORMATS.md)
+abbrev pub is_built : Option Form → Bool
+is_built (Some Play) = true
+is_built (Some Help) = true
+is_built _ = false

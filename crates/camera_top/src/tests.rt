@@ -23,6 +23,9 @@ const TOO_LONG: &[u8] = b"refused script 0 37\n";
 
 const USAGE: &[u8] = b"usage: camera play | run --workers N | check | gen SEED COUNT | help\n";
 
+const HELP: &[u8] =
+    b"camera: plays, runs and judges HAL3 camera scripts\nusage: camera play | run --workers N | check | gen SEED COUNT | help\n";
+
 /// What row one_frame writes, in parts: up to the metadata, the metadata and the picture's digest, the rest.
 const OPENING: &[u8] =
     b"trace 1\nbegin configure\ncall 0 configure = ok 0:b0+5\ncall 1 once = ok r0\nsend 0 r0.0 new 0:b0:-\nbegin close\nshutter 0 1000000000\n";
@@ -296,6 +299,66 @@ const CASES: &[Case] = &[
         input: SCRIPT,
         source_piece: 7,
         source_failing: &[1],
+        room: 9000,
+        sink_piece: 64,
+        sink_failing: &[],
+        status: 2,
+        text: Text::Line(USAGE),
+        written: 69,
+    },
+    Case {
+        words: &["help"],
+        input: SCRIPT,
+        source_piece: 7,
+        source_failing: &[1],
+        room: 9000,
+        sink_piece: 64,
+        sink_failing: &[],
+        status: 0,
+        text: Text::Line(HELP),
+        written: 120,
+    },
+    Case {
+        words: &["help"],
+        input: SCRIPT,
+        source_piece: 7,
+        source_failing: &[],
+        room: 9000,
+        sink_piece: 50,
+        sink_failing: &[2],
+        status: 4,
+        text: Text::Line(HELP),
+        written: 50,
+    },
+    Case {
+        words: &["help", "me"],
+        input: SCRIPT,
+        source_piece: 7,
+        source_failing: &[],
+        room: 9000,
+        sink_piece: 64,
+        sink_failing: &[],
+        status: 2,
+        text: Text::Line(USAGE),
+        written: 69,
+    },
+    Case {
+        words: &["run", "--workers", "2"],
+        input: SCRIPT,
+        source_piece: 7,
+        source_failing: &[],
+        room: 9000,
+        sink_piece: 64,
+        sink_failing: &[],
+        status: 2,
+        text: Text::Line(USAGE),
+        written: 69,
+    },
+    Case {
+        words: &["gen", "1", "2"],
+        input: SCRIPT,
+        source_piece: 7,
+        source_failing: &[],
         room: 9000,
         sink_piece: 64,
         sink_failing: &[],

@@ -1,5 +1,3 @@
-use Rattle.std.proofs.Common.{◌≡◌, arith}
-use Rattle.camera_top.specs.Says.{refused_text}
 use Rattle.camera_top.proofs.Telling.{long-tells}
 use Rattle.camera_top.proofs.commands.play_call.Goals as goal
 

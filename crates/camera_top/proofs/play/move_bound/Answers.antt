@@ -1,6 +1,4 @@
-use Rattle.std.proofs.Common.{◌≡◌, ℕ, ◌+◌, ◌-◌, sum_by, arith}
-use Rattle.cam_types.specs.Script.{awaited_by}
-use Rattle.service_core.specs.First.{queued_by}
+use Rattle.std.proofs.Common.{arith}
 use Rattle.camera_top.proofs.Bounds.{bounded}
 use Rattle.camera_top.proofs.play.move_bound.Goals as goal
 

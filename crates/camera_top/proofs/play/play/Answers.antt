@@ -1,7 +1,6 @@
-use Rattle.std.proofs.Common.{◌≡◌, ◌∙◌, None, inl, inr, sym, arith}
+use Rattle.std.proofs.Common.{◌∙◌, inl, sym}
 use Rattle.std.proofs.lemmas.Bool.{false≢true}
-use Rattle.service_core.specs.Answers.{State}
-use Rattle.service_core.specs.First.{first_chosen, first_move_of}
+use Rattle.service_core.specs.First.{first_move_of}
 use Rattle.camera_top.proofs.Playing.{chosen-ready, none-ready, not-ready}
 use Rattle.camera_top.proofs.play.play.Goals as goal
 

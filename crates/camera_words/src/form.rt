@@ -1,0 +1,78 @@
+//! The forms of the command line.
+
+ghost use Rattle.std.specs.Prelude.{◌≡◌};
+ghost use Rattle.camera_words.specs.Forms.{alone, form_of, gen_of, of_three, run_of};
+
+use crate::number::number_within;
+
+/// The most workers of a run.
+const WORKER_LIMIT: u64 = 8;
+
+/// The most commands of a script that is made.
+const COUNT_LIMIT: u64 = 200;
+
+/// What the words ask for: `play`, `run --workers N`, `check`, `gen SEED COUNT` or `help`.
+#[derive(Clone, Copy, Debug, PartialEq, Eq)]
+pub enum Form {
+    Play,
+    Run { workers: u32 },
+    Check,
+    Gen { seed: u64, count: u32 },
+    Help,
+}
+
+/// A form of one word.
+fn alone(word: &str) -> Option<Form>
+    ensures { result ≡ alone word.now }
+{
+    match word {
+        "play" => Some(Form::Play),
+        "check" => Some(Form::Check),
+        "help" => Some(Form::Help),
+        _ => None,
+    }
+}
+
+/// A run with so many workers, 1 to 8.
+fn run_of(workers: &str) -> Option<Form>
+    ensures { result ≡ run_of workers.now }
+{
+    let workers = number_within(workers, 1, WORKER_LIMIT)?;
+    Some(Form::Run {
+        workers: workers as u32,
+    })
+}
+
+/// A script made from a seed, with at most 200 commands.
+fn gen_of(seed: &str, count: &str) -> Option<Form>
+    ensures { result ≡ gen_of seed.now count.now }
+{
+    let seed = number_within(seed, 0, u64::MAX)?;
+    let count = number_within(count, 0, COUNT_LIMIT)?;
+    Some(Form::Gen {
+        seed,
+        count: count as u32,
+    })
+}
+
+/// A form of three words.
+fn of_three(first: &str, second: &str, third: &str) -> Option<Form>
+    ensures { result ≡ of_three first.now second.now third.now }
+{
+    match (first, second) {
+        ("run", "--workers") => run_of(third),
+        ("gen", _) => gen_of(second, third),
+        _ => None,
+    }
+}
+
+/// The form that the words have. There are no other spellings of a form, and no abbreviations.
+pub fn form_of(words: &[&str]) -> Option<Form>
+    ensures { result ≡ form_of words.now }
+{
+    match words {
+        [word] => alone(word),
+        [first, second, third] => of_three(first, second, third),
+        _ => None,
+    }
+}

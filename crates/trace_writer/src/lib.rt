@@ -1,0 +1,11 @@
+//! A whole trace written to a sink, in pieces whose room was taken before.
+#![tactic(auto)]
+
+mod pieces;
+mod writer;
+
+pub use pieces::PIECE;
+pub use writer::TraceWriter;
+
+#[cfg(test)]
+mod tests;
