@@ -1,5 +1,5 @@
 use Rattle.std.specs.Prelude.{◌≡◌, ℕ, ◌<◌, ◌⊎◌, List, ◌++◌, Option, length, take, codes}
-use Rattle.std.specs.Io.KnownBytes.{Appends}
+use Rattle.std.specs.Io.KnownBytes.{Appends, Keeps}
 use Rattle.io_edge.specs.Faults.{Rose}
 
 -- What the program answers, and what it writes then. (docs/FORMATS.md)
@@ -24,3 +24,9 @@ Broken text before after faults faults_after =
 abbrev pub Answers : ℕ → List ℕ → ℕ → Option (List ℕ) → Option (List ℕ) → ℕ → ℕ → Type 0
 Answers wanted text status before after faults faults_after =
     ((status ≡ wanted) × Written text before after faults faults_after) ⊎ ((status ≡ 4) × Broken text before after faults faults_after)
+
+-- What a call answers and writes: a status and a text that belong to its input; 4 and a front of that text where the sink
+-- failed; 5 where memory ran out, and nothing is written.
+abbrev pub TellsBy : (ℕ → List ℕ → Type 0) → ℕ → Option (List ℕ) → Option (List ℕ) → ℕ → ℕ → Type 0
+TellsBy Belongs status before after faults faults_after =
+    ((status ≡ 5) × Keeps before after) ⊎ ((wanted : ℕ) × (text : List ℕ) × Belongs wanted text × Answers wanted text status before after faults faults_after)

@@ -1,4 +1,5 @@
 pub mod Words
 pub mod Answers
 pub mod Says
+pub mod Judging
 pub mod Ends

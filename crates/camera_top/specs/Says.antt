@@ -1,5 +1,5 @@
-use Rattle.std.specs.Prelude.{◌≡◌, ◌≤◌, ℕ, false, length, List, [], ◌∷◌, ◌++◌, Option, Result, Ok, Err, ◌⊎◌, codes, decimal, reverse}
-use Rattle.std.specs.Io.KnownBytes.{Appends, Keeps}
+use Rattle.std.specs.Prelude.{◌≡◌, ◌≤◌, ℕ, false, length, List, Option, Result, Ok, Err, ◌⊎◌, codes, reverse}
+use Rattle.std.specs.Io.KnownBytes.{Appends}
 use Rattle.cam_types.specs.declared.script.Script.{Script}
 use Rattle.script_text.specs.Causes.{number_of}
 use Rattle.script_text.specs.Grammar.{script_of}
@@ -10,13 +10,10 @@ use Rattle.service_core.specs.History.{trace_of}
 use Rattle.service_core.specs.RawScripts.{is_raw_script}
 use Rattle.service_core.specs.declared.step.Move.{Move}
 use Rattle.trace_text.specs.Spelling.{spelling}
-use Rattle.camera_top.specs.Answers.{Answers}
+use Rattle.judge_text.specs.Lines.{refused_script_text}
+use Rattle.camera_top.specs.Answers.{Answers, TellsBy}
 
 -- The status and the whole text that belong to an input: what `play` writes. (docs/FORMATS.md)
-
--- `refused script LINE CAUSE`
-abbrev pub refused_text : ℕ → ℕ → List ℕ
-refused_text line cause = codes "refused script " ++ (decimal line ++ 32 ∷ (decimal cause ++ 10 ∷ []))
 
 -- the text is the trace of the played run of the script, which is complete within the bound on moves
 pub record IsPlayedText (script : Script) (text : List ℕ) : Type 0 where
@@ -35,23 +32,21 @@ pub record IsUnfinishedText (script : Script) (text : List ℕ) : Type 0 where
 abbrev pub SaysOfScript : Script → ℕ → List ℕ → Type 0
 SaysOfScript script status text =
     ((status ≡ 0) × IsPlayedText script text)
-    ⊎ (((status ≡ 1) × (is_raw_script script ≡ false) × (text ≡ refused_text 0 39))
+    ⊎ (((status ≡ 1) × (is_raw_script script ≡ false) × (text ≡ refused_script_text 0 39))
     ⊎ ((status ≡ 6) × IsUnfinishedText script text))
 
 abbrev pub SaysOf : Result Script ScriptRefused → ℕ → List ℕ → Type 0
 SaysOf (Ok script) status text = SaysOfScript script status text
-SaysOf (Err (Bad line cause)) status text = (status ≡ 1) × (text ≡ refused_text line (number_of cause))
+SaysOf (Err (Bad line cause)) status text = (status ≡ 1) × (text ≡ refused_script_text line (number_of cause))
 SaysOf (Err NoMemory) status text = ⊥
 
 -- of an input: what its meaning as a script says
 abbrev pub Says : List ℕ → ℕ → List ℕ → Type 0
 Says input status text = SaysOf (script_of input) status text
 
--- What the call answers and writes: the status and the text that belong to the meaning; 4 and a front of that text where
--- the sink failed; 5 where memory ran out, and nothing is written.
+-- what `play` answers and writes
 abbrev pub Tells : Result Script ScriptRefused → ℕ → Option (List ℕ) → Option (List ℕ) → ℕ → ℕ → Type 0
-Tells meaning status before after faults faults_after =
-    ((status ≡ 5) × Keeps before after) ⊎ ((wanted : ℕ) × (text : List ℕ) × SaysOf meaning wanted text × Answers wanted text status before after faults faults_after)
+Tells meaning status before after faults faults_after = TellsBy (SaysOf meaning) status before after faults faults_after
 
 -- the headline: the source's bytes spell a script, and what was written is the spelling of the trace of its played run, which is
 -- complete

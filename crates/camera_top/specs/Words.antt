@@ -1,9 +1,16 @@
 use Rattle.std.specs.Prelude.{Bool, true, false, Option, Some}
 use Rattle.camera_words.specs.declared.form.Form.{Form}
-use Rattle.camera_words.specs.declared.form.Form.TheVariants.{Play, Help}
+use Rattle.camera_words.specs.declared.form.Form.TheVariants.{Play, Check, Help}
 
--- The words have a form whose command is built: today `play` and `help`. (docs/FORMATS.md)
+-- The words have a form whose command is built: today `play`, `check` and `help`. (docs/FORMATS.md)
 abbrev pub is_built : Option Form → Bool
 is_built (Some Play) = true
+is_built (Some Check) = true
 is_built (Some Help) = true
 is_built _ = false
+
+-- the form's command reads the source
+abbrev pub reads : Option Form → Bool
+reads (Some Play) = true
+reads (Some Check) = true
+reads _ = false

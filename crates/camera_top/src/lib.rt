@@ -2,13 +2,17 @@
 #![tactic(auto)]
 
 mod commands;
+mod judge;
 mod laws;
 mod play;
-mod print;
+mod player;
+mod refusal;
 mod status;
 #[cfg(test)]
 mod tests;
 
-pub use commands::{camera_main, help_call, play_call};
+pub use commands::{camera_main, help_call};
+pub use judge::check_call;
 pub use laws::complete_runs_are_not_stuck;
+pub use player::play_call;
 pub use status::Status;

@@ -35,10 +35,14 @@ abbrev pub verdict_status : Verdict → ℕ
 verdict_status Legal = 0
 verdict_status _ = 1
 
+-- `LINE CAUSE` and the line's end
+abbrev pub line_and_cause : ℕ → ℕ → List ℕ
+line_and_cause line cause = decimal line ++ 32 ∷ (decimal cause ++ 10 ∷ [])
+
 -- `refused script LINE CAUSE`
 abbrev pub refused_script_text : ℕ → ℕ → List ℕ
-refused_script_text line cause = codes "refused script " ++ (decimal line ++ 32 ∷ (decimal cause ++ 10 ∷ []))
+refused_script_text line cause = codes "refused script " ++ line_and_cause line cause
 
 -- `refused trace LINE CAUSE`
 abbrev pub refused_trace_text : ℕ → ℕ → List ℕ
-refused_trace_text line cause = codes "refused trace " ++ (decimal line ++ 32 ∷ (decimal cause ++ 10 ∷ []))
+refused_trace_text line cause = codes "refused trace " ++ line_and_cause line cause

@@ -1,6 +1,6 @@
 //! The judge's lines.
-ghost use Rattle.std.specs.Prelude.{◌≡◌, IfOk};
-ghost use Rattle.judge_text.specs.Lines.{part_text, refused_trace_text, rule_text, verdict_text};
+ghost use Rattle.std.specs.Prelude.{◌≡◌, ◌++◌, IfOk, OnOk};
+ghost use Rattle.judge_text.specs.Lines.{line_and_cause, part_text, refused_script_text, refused_trace_text, rule_text, verdict_text};
 
 use cam_types::NoMemory;
 use std::alloc::Global;
@@ -73,15 +73,38 @@ fn incomplete_text(alloc: Global, part: MissingPart) -> Result<Vec<u8>, NoMemory
     Ok(text)
 }
 
+/// Appends `LINE CAUSE` and the line's end.
+fn put_line_and_cause(
+    text: &mut Vec<u8>,
+    alloc: Global,
+    line: u32,
+    cause: u8,
+) -> Result<(), NoMemory>
+    ensures { OnOk result (text.new.items ≡ text.old.items ++ line_and_cause line cause) }
+{
+    text.extend_from_slice(line.to_string(alloc)?.as_bytes())?;
+    text.extend_from_slice(b" ")?;
+    text.extend_from_slice(cause.to_string(alloc)?.as_bytes())?;
+    text.extend_from_slice(b"\n")?;
+    Ok(())
+}
+
+/// The line that refuses a script: `refused script LINE CAUSE`.
+pub fn refused_script_text(alloc: Global, line: u32, cause: u8) -> Result<Vec<u8>, NoMemory>
+    ensures { IfOk result (λ text. text.items ≡ refused_script_text line cause) }
+{
+    let mut text = Vec::new(alloc);
+    text.extend_from_slice(b"refused script ")?;
+    put_line_and_cause(&mut text, alloc, line, cause)?;
+    Ok(text)
+}
+
 /// The line that refuses a trace: `refused trace LINE CAUSE`.
 pub fn refused_trace_text(alloc: Global, line: u32, cause: u8) -> Result<Vec<u8>, NoMemory>
     ensures { IfOk result (λ text. text.items ≡ refused_trace_text line cause) }
 {
     let mut text = Vec::new(alloc);
     text.extend_from_slice(b"refused trace ")?;
-    text.extend_from_slice(line.to_string(alloc)?.as_bytes())?;
-    text.extend_from_slice(b" ")?;
-    text.extend_from_slice(cause.to_string(alloc)?.as_bytes())?;
-    text.extend_from_slice(b"\n")?;
+    put_line_and_cause(&mut text, alloc, line, cause)?;
     Ok(text)
 }

@@ -1,0 +1,110 @@
+//! `check`: a script and a trace are read, and the trace is judged.
+ghost use Rattle.std.specs.Prelude.{◌≡◌, ◌≢◌, ◌≤◌, ◌⊎◌, IfSome, Result, length};
+ghost use Rattle.std.specs.Io.KnownBytes.{IsAtEnd, Keeps};
+ghost use Rattle.io_edge.specs.Faults.{Rose};
+ghost use Rattle.script_text.specs.Grammar.{script_of};
+ghost use Rattle.trace_reader.specs.Grammar.{trace_of};
+ghost use Rattle.judge_text.specs.Lines.{verdict_status, verdict_text};
+ghost use Rattle.judge_text.specs.Parts.{first_line, script_part, trace_part};
+ghost use Rattle.camera_top.specs.Answers.{Answers};
+ghost use Rattle.camera_top.specs.Judging.{IsJudgedLegal, TellsParts, TellsVerdict};
+
+use crate::refusal::{refuse_script, refuse_trace};
+use crate::status::{Status, answer};
+use cam_types::Script;
+use io_edge::{ReadBytes, ReadFault, Sink, Source, read_all};
+use judge_text::{parts_of, verdict_text};
+use script_text::ScriptRefused;
+use std::alloc::Global;
+use trace_check::{Verdict, check};
+use trace_model::TraceList;
+use trace_reader::{TRACE_BYTES, TraceRefused};
+
+/// The cause of an input that is too long.
+const TOO_LONG: u8 = 45;
+
+/// Reads a script followed by a trace, judges the trace and writes the verdict.
+pub fn check_call<S: Source, K: Sink>(alloc: Global, source: &mut S, sink: &mut K) -> Status
+    // At status 0 the source was read to its end, its bytes are a script and a trace, and the trace is a complete legal run
+    // of the script.
+    ensures legal { result.number ≡ 0 → IsAtEnd (S.left source.new) × IfSome (S.left source.old) (λ input. IsJudgedLegal input (K.written sink.old) (K.written sink.new)) }
+    // Each status and each text has its cause in the input's meaning: where no end failed and memory was there, the status
+    // and the text are those that belong to it. At status 4 a front of that text is written.
+    ensures tells { IfSome (S.left source.old) (λ input. (result.number ≡ 3) ⊎ TellsVerdict input result.number (K.written sink.old) (K.written sink.new) (K.faults sink.old) (K.faults sink.new)) }
+    ensures source_failed { result.number ≡ 3 → Rose (S.faults source.old) (S.faults source.new) × Keeps (K.written sink.old) (K.written sink.new) }
+    ensures sink_failed { result.number ≡ 4 → Rose (K.faults sink.old) (K.faults sink.new) }
+    ensures no_memory { result.number ≡ 5 → Keeps (K.written sink.old) (K.written sink.new) }
+    ensures known { result.number ≤ 5 }
+    ensures no_usage { result.number ≢ 2 }
+{
+    match read_all(alloc, source, TRACE_BYTES) {
+        Err(ReadFault::Failed) => Status::SOURCE_FAILED,
+        Err(ReadFault::NoMemory) => Status::NO_MEMORY,
+        Ok(ReadBytes::TooLong) => refuse_trace(alloc, 0, TOO_LONG, sink),
+        Ok(ReadBytes::Whole(bytes)) => judge_input(alloc, bytes.as_slice(), sink),
+    }
+}
+
+/// Reads the script of an input, and judges its trace.
+fn judge_input<K: Sink>(alloc: Global, input: &[u8], sink: &mut K) -> Status
+    requires { length input.now ≤ 134217728 }
+    ensures { TellsParts (script_of (script_part input.now)) (trace_of (first_line input.now) (trace_part input.now)) result.number (K.written sink.old) (K.written sink.new) (K.faults sink.old) (K.faults sink.new) }
+{
+    let parts = parts_of(input);
+    match script_text::read(alloc, parts.script) {
+        Err(ScriptRefused::NoMemory) => Status::NO_MEMORY,
+        Err(ScriptRefused::Bad { line, cause }) => refuse_script(alloc, line, cause.number(), sink),
+        Ok(script) => judge_text_of(alloc, &script, parts.trace, parts.first_line as u32, sink),
+    }
+}
+
+/// Reads a trace, whose first line has the number, and judges it.
+fn judge_text_of<K: Sink>(
+    alloc: Global,
+    script: &Script,
+    text: &[u8],
+    first_line: u32,
+    sink: &mut K,
+) -> Status
+    requires long { length text.now ≤ 134217728 }
+    requires some { 1 ≤ first_line }
+    requires numbers { first_line ≤ 134217729 }
+    ensures { TellsParts (Result.Ok script.now) (trace_of first_line text.now) result.number (K.written sink.old) (K.written sink.new) (K.faults sink.old) (K.faults sink.new) }
+{
+    match trace_reader::read(alloc, text, first_line) {
+        Err(TraceRefused::NoMemory) => Status::NO_MEMORY,
+        Err(TraceRefused::Bad { line, cause }) => refuse_trace(alloc, line, cause.number(), sink),
+        Ok(trace) => judge_trace(alloc, script, &trace, sink),
+    }
+}
+
+/// Judges a trace, and writes its verdict.
+fn judge_trace<K: Sink>(alloc: Global, script: &Script, trace: &TraceList, sink: &mut K) -> Status
+    ensures { TellsParts (Result.Ok script.now) (Result.Ok trace.now) result.number (K.written sink.old) (K.written sink.new) (K.faults sink.old) (K.faults sink.new) }
+{
+    match check(alloc, script, trace) {
+        Ok(verdict) => write_verdict(alloc, verdict, sink),
+        Err(_) => Status::NO_MEMORY,
+    }
+}
+
+/// The status of a verdict.
+fn status_of(verdict: Verdict) -> Status
+    ensures { result.number ≡ verdict_status verdict }
+{
+    match verdict {
+        Verdict::Legal => Status::DONE,
+        Verdict::IllegalAt { .. } => Status::REFUSED,
+        Verdict::Incomplete { .. } => Status::REFUSED,
+    }
+}
+
+/// Writes a verdict.
+fn write_verdict<K: Sink>(alloc: Global, verdict: Verdict, sink: &mut K) -> Status
+    ensures { ((result.number ≡ 5) × Keeps (K.written sink.old) (K.written sink.new)) ⊎ Answers (verdict_status verdict) (verdict_text verdict) result.number (K.written sink.old) (K.written sink.new) (K.faults sink.old) (K.faults sink.new) }
+{
+    match verdict_text(alloc, verdict) {
+        Ok(text) => answer(sink, text.as_slice(), status_of(verdict)),
+        Err(_) => Status::NO_MEMORY,
+    }
+}
