@@ -1,0 +1,4 @@
+pub mod Lists
+pub mod Sends
+pub mod Shutters
+pub mod Parts
