@@ -4,4 +4,6 @@
 
 mod laws;
 
-pub use laws::shutters_rise;
+pub use laws::{
+    metadata_ends_in_order, metadata_ends_once, partials_count_up, shutters_rise,
+};
