@@ -5,3 +5,5 @@ pub mod Parts
 pub mod Metadata
 pub mod MetadataOrder
 pub mod MetadataOnce
+pub mod Submitted
+pub mod Items

@@ -1,5 +1,5 @@
 -- Lemmas on tests, lists and counts that know nothing of cameras.
-use Rattle.std.proofs.Common.{◌≡◌, ℕ, ◌+◌, Bool, true, false, ◌&&◌, ◌||◌, not, List, [], ◌∷◌, Option, Some, None, refl, ◌∙◌, arith, inl, inr, count_by, if◌then◌else◌}
+use Rattle.std.proofs.Common.{◌≡◌, ℕ, ◌+◌, Bool, true, false, ◌&&◌, ◌||◌, not, List, [], ◌∷◌, ◌++◌, Option, Some, None, refl, ◌∙◌, arith, inl, inr, count_by, if◌then◌else◌}
 use Rattle.std.specs.List.{list_any, list_all}
 use Rattle.std.proofs.lemmas.Bool.{and_from, and_parts, both_ways, cases_Bool, false≢true, true≢false}
 use Rattle.trace_bounds.proofs.Counts.{count-cons}
@@ -63,6 +63,12 @@ all-weaker p t xs h a = all-of-both p p t xs (λ x k _. h x k) a a
 pub all-always : {X : Type 0} (p : X → Bool) (xs : List X) → ((x : X) → p x ≡ true) → list_all p xs ≡ true
 all-always p [] h = refl
 all-always p (x ∷ xs) h = and_from (p x) (list_all p xs) (h x) (all-always p xs h)
+
+pub all-append : {X : Type 0} (p : X → Bool) (xs ys : List X) → list_all p xs ≡ true → list_all p ys ≡ true → list_all p (xs ++ ys) ≡ true
+all-append p [] ys a b = b
+all-append p (x ∷ xs) ys a b =
+    let parts = and_parts (p x) (list_all p xs) a in
+    and_from (p x) (list_all p (xs ++ ys)) parts.0 (all-append p xs ys parts.1 b)
 
 -- ---- counts
 

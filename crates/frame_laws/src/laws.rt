@@ -2,7 +2,7 @@
 ghost use Rattle.std.specs.Prelude.{List};
 ghost use Rattle.cam_types.specs.declared.script.Script.{Script as SomeScript};
 ghost use Rattle.trace_model.specs.declared.entry.Entry.{Entry as SomeEntry};
-ghost use Rattle.frame_laws.specs.Laws.{MetadataEndsInOrder, MetadataEndsOnce, PartialsCountUp, PartsComeInOrder, ShuttersRise};
+ghost use Rattle.frame_laws.specs.Laws.{ItemsEndOnce, MetadataEndsInOrder, MetadataEndsOnce, PartialsCountUp, PartsComeInOrder, ShuttersRise};
 
 /// Each shutter of a legal run has a greater frame and a later time than all before it.
 #[tactic(auto, using(crate::proofs::Shutters::shutters_rise))]
@@ -29,4 +29,10 @@ pub fn partials_count_up()
 #[tactic(auto, using(crate::proofs::MetadataOnce::metadata_once))]
 pub fn metadata_ends_once()
     ensures { (script : SomeScript) (past : List SomeEntry) → MetadataEndsOnce script past }
+{}
+
+/// Each item of an accepted once or burst of a complete run is sent or dropped once.
+#[tactic(auto, using(crate::proofs::Items::items_once))]
+pub fn items_end_once()
+    ensures { (script : SomeScript) (past : List SomeEntry) → ItemsEndOnce script past }
 {}

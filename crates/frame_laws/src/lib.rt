@@ -5,5 +5,5 @@
 mod laws;
 
 pub use laws::{
-    metadata_ends_in_order, metadata_ends_once, partials_count_up, shutters_rise,
+    items_end_once, metadata_ends_in_order, metadata_ends_once, partials_count_up, shutters_rise,
 };
