@@ -1,8 +1,8 @@
 -- Each item of an accepted once or burst is sent or dropped once: what is taken of the queue wasn't taken before, and in a
 -- complete run nothing is left in the queue.
-use Rattle.std.proofs.Common.{◌≡◌, ℕ, ◌==◌, Bool, true, false, ◌&&◌, not, List, [], ◌∷◌, refl, sym, ◌∙◌, arith, inl, inr, filter, nat_lt, count_by, if◌then◌else◌}
+use Rattle.std.proofs.Common.{◌≡◌, ℕ, ◌==◌, true, false, ◌&&◌, not, List, [], ◌∷◌, refl, sym, ◌∙◌, inl, inr, filter, nat_lt, count_by, if◌then◌else◌}
 use Rattle.std.specs.List.{list_any, list_all}
-use Rattle.std.proofs.lemmas.Bool.{and_from, and_parts, both_ways, cases_Bool, eq-eqb, eqb-true, false≢true, not-true}
+use Rattle.std.proofs.lemmas.Bool.{and_parts, both_ways, cases_Bool, eq-eqb, eqb-true, false≢true, not-true}
 use Rattle.cam_types.specs.declared.reply.Reply.TheVariants.{Submitted}
 use Rattle.cam_types.specs.declared.script.Script.{Script}
 use Rattle.trace_model.specs.declared.entry.Entry.{Entry}
@@ -12,7 +12,7 @@ use Rattle.trace_model.specs.Client.{is_empty}
 use Rattle.trace_model.specs.Complete.{IsComplete}
 use Rattle.trace_model.specs.Entry.{takes}
 use Rattle.trace_model.specs.Legal.{IsLegal}
-use Rattle.trace_model.specs.Queue.{Waiting, is_taken, queued, submitted}
+use Rattle.trace_model.specs.Queue.{Waiting, is_taken, submitted}
 use Rattle.trace_bounds.proofs.FrameLemmas.{drop-of, send-of, takes_it}
 use Rattle.frame_laws.proofs.Lists.{all-of-both, counts-once}
 use Rattle.frame_laws.proofs.Submitted.{is_settled, not-repeating-before, settled}

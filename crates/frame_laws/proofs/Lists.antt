@@ -1,7 +1,7 @@
 -- Lemmas on tests, lists and counts that know nothing of cameras.
-use Rattle.std.proofs.Common.{◌≡◌, ℕ, ◌+◌, Bool, true, false, ◌&&◌, ◌||◌, not, List, [], ◌∷◌, ◌++◌, Option, Some, None, refl, ◌∙◌, arith, inl, inr, count_by, if◌then◌else◌}
+use Rattle.std.proofs.Common.{◌≡◌, ℕ, Bool, true, false, ◌||◌, List, [], ◌∷◌, ◌++◌, Some, None, refl, ◌∙◌, arith, inl, inr, count_by, if◌then◌else◌}
 use Rattle.std.specs.List.{list_any, list_all}
-use Rattle.std.proofs.lemmas.Bool.{and_from, and_parts, both_ways, cases_Bool, false≢true, true≢false}
+use Rattle.std.proofs.lemmas.Bool.{and_from, and_parts, both_ways, cases_Bool, true≢false}
 use Rattle.trace_bounds.proofs.Counts.{count-cons}
 
 -- ---- tests

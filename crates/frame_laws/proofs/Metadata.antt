@@ -1,27 +1,27 @@
 -- The metadata of a frame ends once, and in the order of frames: what ends it asks that it hasn't ended, and the last part or
 -- a result error asks that the metadata of each earlier frame has.
-use Rattle.std.proofs.Common.{◌≡◌, ℕ, ◌==◌, ◌+◌, ◌<◌, Bool, true, false, ◌&&◌, ◌||◌, not, List, [], ◌∷◌, Some, refl, sym, ◌∙◌, arith, inl, inr, nat_lt, count_by, if◌then◌else◌}
+use Rattle.std.proofs.Common.{◌≡◌, ℕ, ◌==◌, Bool, true, false, ◌&&◌, ◌||◌, not, List, [], ◌∷◌, Some, refl, sym, ◌∙◌, count_by, if◌then◌else◌}
 use Rattle.std.specs.List.{list_any, list_all}
-use Rattle.std.proofs.lemmas.Bool.{and_from, and_parts, both_ways, cases_Bool, cases_order, eq-eqb, eqb-true, false≢true, lt-ltb, not-true}
+use Rattle.std.proofs.lemmas.Bool.{and_parts, eqb-true, false≢true, not-true}
 use Rattle.cam_types.specs.declared.number.FrameNo.{FrameNo}
 use Rattle.cam_types.specs.declared.part.Part.{Part}
 use Rattle.cam_types.specs.declared.script.Script.{Script}
 use Rattle.trace_model.specs.declared.entry.Entry.{Entry}
-use Rattle.trace_model.specs.declared.entry.Entry.TheVariants.{Send, Partial, ErrorRequest, ErrorResult}
+use Rattle.trace_model.specs.declared.entry.Entry.TheVariants.{Partial, ErrorRequest, ErrorResult}
 use Rattle.trace_model.specs.Allowed.{IsAllowed}
 use Rattle.trace_model.specs.Complete.{IsComplete}
-use Rattle.trace_model.specs.Entry.{is_error_of, is_error_request, is_error_result, is_part, is_partial, returns_any, sends}
+use Rattle.trace_model.specs.Entry.{is_error_of, is_error_request, is_error_result, is_part, is_partial, returns_any}
 use Rattle.trace_model.specs.Errors.{error_request_due, error_result_due, is_cut_short, may_fail_in_part, may_fail_request, may_fail_result}
 use Rattle.trace_model.specs.Faults.{request_fault, result_fault}
 use Rattle.trace_model.specs.Frames.{each_earlier, frames, has_error, has_error_request, has_shutter, is_sent}
-use Rattle.trace_model.specs.Laws.{ends_below, ends_in_order, ends_metadata, ends_result_of, is_whole_or_failed}
+use Rattle.trace_model.specs.Laws.{ends_metadata}
 use Rattle.trace_model.specs.Legal.{IsLegal}
-use Rattle.trace_model.specs.Open.{all_returned, has_error_result, has_part, has_something, is_metadata_ended, is_open, is_quiet}
+use Rattle.trace_model.specs.Open.{all_returned, has_error_result, has_part, has_something, is_metadata_ended, is_open}
 use Rattle.trace_model.specs.Stopping.{is_stopped}
-use Rattle.frame_laws.proofs.Lists.{all-of-both, any-less, any-more, any-weaker, counts-once, neither, or-alone, or-left, or-right, where-given}
+use Rattle.frame_laws.proofs.Lists.{all-of-both, any-less, counts-once, neither, or-alone, where-given}
 use Rattle.frame_laws.proofs.Parts.{HaveEnded, part-first, part-is}
-use Rattle.frame_laws.proofs.Sends.{all-sent, each-at, sent-before}
-use Rattle.frame_laws.proofs.Shutters.{shutter-sent}
+use Rattle.frame_laws.proofs.Sends.{all-sent}
+use Rattle.frame_laws.proofs.Shutters.{no-request}
 
 -- ---- the metadata ended where some entry ends it
 
@@ -68,10 +68,6 @@ result_is_error : (n : ℕ) (e : Entry) → is_error_result n e ≡ true → is_
 result_is_error n (ErrorResult m) h = h
 result_is_error n _ h = absurd (false≢true h)
 
-request_is_error : (n : ℕ) (e : Entry) → is_error_request n e ≡ true → is_error_of n e ≡ true
-request_is_error n (ErrorRequest m) h = h
-request_is_error n _ h = absurd (false≢true h)
-
 -- nothing of it came, so its metadata hasn't ended
 not_ended : (n : ℕ) (past : List Entry) → has_something n past ≡ false → is_metadata_ended n past ≡ false
 not_ended n past h =
@@ -79,7 +75,7 @@ not_ended n past h =
     let second = neither (list_any (returns_any n) past) (has_error n past) first.1 in
     let part = any-less (is_partial n) (is_part n 3) past (part_is_partial n) first.0 in
     let result = any-less (is_error_of n) (is_error_result n) past (result_is_error n) second.1 in
-    let request = any-less (is_error_of n) (is_error_request n) past (request_is_error n) second.1 in
+    let request = no-request n past second.1 in
     rw (part, result, request) refl
 
 pub request-fails : (script : Script) (past : List Entry) (n : FrameNo) → error_request_due script past n.0 ≡ Some (ErrorRequest n) → is_metadata_ended n.0 past ≡ false
@@ -131,4 +127,3 @@ quiet_ended n past sent quiet =
 pub all-ended : (script : Script) (past : List Entry) → IsComplete script past → list_all (λ n. list_any (ends_metadata n) past) (frames past) ≡ true
 all-ended script past complete =
     all-of-both (λ n. is_sent n past) (λ n. not (is_open n past)) (λ n. list_any (ends_metadata n) past) (frames past) (λ n sent quiet. quiet_ended n past sent quiet) (all-sent past) complete.open_frames
-

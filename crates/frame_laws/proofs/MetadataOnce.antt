@@ -1,6 +1,6 @@
 -- In a complete run the metadata of each frame ends once, and a frame has all its parts or an error that says that some are
 -- missing.
-use Rattle.std.proofs.Common.{◌≡◌, ℕ, ◌==◌, Bool, true, false, ◌||◌, not, List, [], ◌∷◌, refl, ◌∙◌, arith, inl, inr, count_by, if◌then◌else◌}
+use Rattle.std.proofs.Common.{◌≡◌, ℕ, ◌==◌, Bool, true, false, ◌||◌, List, [], ◌∷◌, refl, ◌∙◌, inl, inr, count_by}
 use Rattle.std.specs.List.{list_any, list_all}
 use Rattle.std.proofs.lemmas.Bool.{cases_Bool, eq-eqb, false≢true}
 use Rattle.cam_types.specs.declared.script.Script.{Script}

@@ -1,8 +1,8 @@
 -- The metadata of frames ends in order: below a frame that has its last part or a result error, each sent frame has ended its
 -- metadata.
-use Rattle.std.proofs.Common.{◌≡◌, ℕ, ◌==◌, ◌<◌, Bool, true, false, ◌&&◌, ◌||◌, not, List, [], ◌∷◌, Some, refl, ◌∙◌, arith, inl, inr, nat_lt}
+use Rattle.std.proofs.Common.{◌≡◌, ℕ, ◌==◌, ◌<◌, Bool, true, false, ◌&&◌, ◌||◌, List, [], ◌∷◌, refl, ◌∙◌, arith, inl, inr}
 use Rattle.std.specs.List.{list_any, list_all}
-use Rattle.std.proofs.lemmas.Bool.{and_from, and_parts, both_ways, cases_Bool, cases_order, eq-eqb, eqb-true, false≢true, lt-ltb}
+use Rattle.std.proofs.lemmas.Bool.{and_parts, both_ways, cases_Bool, cases_order, eq-eqb, eqb-true, false≢true, lt-ltb}
 use Rattle.cam_types.specs.declared.number.FrameNo.{FrameNo}
 use Rattle.cam_types.specs.declared.part.Part.{Part}
 use Rattle.cam_types.specs.declared.script.Script.{Script}
@@ -10,11 +10,11 @@ use Rattle.trace_model.specs.declared.entry.Entry.{Entry}
 use Rattle.trace_model.specs.declared.entry.Entry.TheVariants.{Send, Partial, ErrorResult}
 use Rattle.trace_model.specs.Allowed.{IsAllowed}
 use Rattle.trace_model.specs.Entry.{is_error_request, is_error_result, is_part, sends}
-use Rattle.trace_model.specs.Frames.{each_earlier, is_sent}
+use Rattle.trace_model.specs.Frames.{is_sent}
 use Rattle.trace_model.specs.Laws.{ends_below, ends_in_order, ends_metadata, ends_result_of}
 use Rattle.trace_model.specs.Legal.{IsLegal}
 use Rattle.trace_model.specs.Open.{is_metadata_ended}
-use Rattle.frame_laws.proofs.Lists.{any-more, any-weaker, or-alone, or-left, or-right}
+use Rattle.frame_laws.proofs.Lists.{any-more, any-weaker, or-alone}
 use Rattle.frame_laws.proofs.Metadata.{ended-by, ends-open, result-fails}
 use Rattle.frame_laws.proofs.Parts.{HaveEnded, part-is}
 use Rattle.frame_laws.proofs.Sends.{each-at, sent-before}
@@ -61,20 +61,20 @@ result-below script (Send j r i same targets ∷ past) n m legal h less sent =
     result-below script past n m legal.1 h less sent'
 result-below script (Partial j k part ∷ past) n m legal h less sent =
     any-more (ends_metadata n) (Partial j k part) past (
-      elim (cases_Bool (ends_result_of m (Partial j k part))) [
-        | inl here ↦ (
-            let last = last_part j.0 k m here in
-            ended_at j.0 n m past ((part-is script past j k part legal.0).earlier last.1) last.0 less sent
-            )
-        | inr other ↦ (let h' = rw other at h in result-below script past n m legal.1 h' less sent)
-      ]
+    elim (cases_Bool (ends_result_of m (Partial j k part))) [
+      | inl here ↦ (
+          let last = last_part j.0 k m here in
+          ended_at j.0 n m past ((part-is script past j k part legal.0).earlier last.1) last.0 less sent
+          )
+      | inr other ↦ (let h' = rw other at h in result-below script past n m legal.1 h' less sent)
+    ]
     )
 result-below script (ErrorResult j ∷ past) n m legal h less sent =
     any-more (ends_metadata n) (ErrorResult j) past (
-      elim (cases_Bool (j.0 == m)) [
-        | inl here ↦ ended_at j.0 n m past (result-fails script past j legal.0).earlier (eqb-true j.0 m here) less sent
-        | inr other ↦ (let h' = rw other at h in result-below script past n m legal.1 h' less sent)
-      ]
+    elim (cases_Bool (j.0 == m)) [
+      | inl here ↦ ended_at j.0 n m past (result-fails script past j legal.0).earlier (eqb-true j.0 m here) less sent
+      | inr other ↦ (let h' = rw other at h in result-below script past n m legal.1 h' less sent)
+    ]
     )
 result-below script (e ∷ past) n m legal h less sent = any-more (ends_metadata n) e past (result-below script past n m legal.1 h less sent)
 

@@ -1,6 +1,6 @@
 -- Lemmas on the frames that were sent.
-use Rattle.std.proofs.Common.{◌≡◌, ℕ, ◌==◌, ◌+◌, ◌<◌, Bool, true, false, ◌&&◌, ◌||◌, not, List, [], ◌∷◌, Option, Some, None, refl, arith, inl, inr, nat_lt}
-use Rattle.std.specs.List.{list_any, list_all}
+use Rattle.std.proofs.Common.{◌≡◌, ℕ, ◌==◌, ◌<◌, Bool, true, false, ◌||◌, not, List, [], ◌∷◌, Option, Some, None, refl, arith, inl, inr, nat_lt}
+use Rattle.std.specs.List.{list_all}
 use Rattle.std.proofs.lemmas.Bool.{and_parts, cases_Bool, eq-eqb, eqb-true, false≢true, lt-ltb, ne_eqb}
 use Rattle.cam_types.specs.declared.four.Four.{Four}
 use Rattle.cam_types.specs.declared.script.Script.{Script}
@@ -15,7 +15,7 @@ use Rattle.trace_model.specs.Queue.{Next, next}
 use Rattle.trace_model.specs.Send.{fits_next, may_send}
 use Rattle.trace_model.proofs.LawLemmas.{goes}
 use Rattle.trace_bounds.proofs.Counts.{count-cons}
-use Rattle.frame_laws.proofs.Lists.{all-weaker, any-more, or-left, or-right}
+use Rattle.frame_laws.proofs.Lists.{all-weaker, any-more}
 
 number_of_next : (script : Script) (past : List Entry) (o : Option Next) (n r i : ℕ) (same : Bool) (targets : Four Sent) → fits_next script past o n r i same targets ≡ true → n ≡ next_number past
 number_of_next script past None n r i same targets h = absurd (false≢true h)

@@ -1,5 +1,5 @@
 -- The items of accepted onces and bursts: their requests have numbers of their own and don't repeat.
-use Rattle.std.proofs.Common.{◌≡◌, ℕ, ◌==◌, ◌+◌, ◌<◌, ◌≤◌, Bool, true, false, ◌&&◌, not, List, [], ◌∷◌, ◌++◌, Option, Some, None, refl, sym, ap, ◌∙◌, arith, inl, inr, nat_lt, append-nil, if◌then◌else◌}
+use Rattle.std.proofs.Common.{◌≡◌, ℕ, ◌==◌, ◌+◌, ◌≤◌, Bool, true, false, ◌&&◌, not, List, [], ◌∷◌, Option, Some, None, refl, sym, arith, inl, inr, nat_lt, append-nil}
 use Rattle.std.specs.List.{list_all}
 use Rattle.std.proofs.lemmas.Bool.{and_from, and_parts, cases_Bool, eq-eqb, eqb-true, false≢true, lt-ltb, ltb-true, ne_eqb}
 use Rattle.cam_types.specs.declared.item.Item.{Item}
@@ -16,7 +16,7 @@ use Rattle.trace_model.specs.Calls.{command_at, command_of, is_repeat, is_repeat
 use Rattle.trace_model.specs.Client.{call_due}
 use Rattle.trace_model.specs.Legal.{IsLegal}
 use Rattle.trace_model.specs.Queue.{Waiting, named, puts, queued_items, submitted}
-use Rattle.trace_model.specs.Reply.{acceptance, refusal, reply, reply_with}
+use Rattle.trace_model.specs.Reply.{acceptance, refusal, reply_with}
 use Rattle.trace_bounds.proofs.Calls.{call-is}
 use Rattle.trace_bounds.proofs.Counts.{count-cons}
 use Rattle.trace_bounds.proofs.Refusals.{refuses, refusal-refuses}

@@ -1,4 +1,4 @@
-use Rattle.std.specs.Prelude.{ℕ, ◌==◌, List, count_by, IsTrue}
+use Rattle.std.specs.Prelude.{◌==◌, List, count_by, IsTrue}
 use Rattle.std.specs.List.{list_all}
 use Rattle.cam_types.specs.declared.script.Script.{Script}
 use Rattle.trace_model.specs.declared.entry.Entry.{Entry}
