@@ -8,6 +8,8 @@ mod judge;
 mod laws;
 mod missing;
 mod rule;
+#[cfg(test)]
+mod tests;
 mod verdict;
 
 pub use judge::check;
