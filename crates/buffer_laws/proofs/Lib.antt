@@ -1,0 +1,4 @@
+pub mod Lists
+pub mod Returns
+pub mod Own
+pub mod Conserved

@@ -1,0 +1,66 @@
+-- Lemmas on lists and counts that know nothing of cameras.
+use Rattle.std.proofs.Common.{◌≡◌, ◌+◌, ◌≤◌, Bool, true, false, List, [], ◌∷◌, refl, sym, arith, inl, inr, count_by, if◌then◌else◌}
+use Rattle.std.specs.List.{list_all, list_any}
+use Rattle.std.proofs.lemmas.Bool.{cases_Bool, false≢true}
+use Rattle.trace_model.proofs.Basics.{and_parts}
+use Rattle.trace_bounds.proofs.Counts.{count-cons}
+
+-- one of the rest that passes is one of all
+pub any-behind : {X : Type 0} (p : X → Bool) (x : X) (xs : List X) → list_any p xs ≡ true → list_any p (x ∷ xs) ≡ true
+any-behind p x xs any = elim (cases_Bool (p x)) [ inl here ↦ rw here refl | inr no' ↦ rw no' any ]
+
+-- one more of a count where it passes, and none where it doesn't
+pub count-one : {X : Type 0} (p : X → Bool) (x : X) (xs : List X) → p x ≡ true → count_by p (x ∷ xs) ≡ 1 + count_by p xs
+count-one p x xs here =
+    let one = count-cons p x xs in
+    let by : (if p x then 1 else 0) + count_by p xs ≡ 1 + count_by p xs = rw here refl in
+    omega (arith, one, by)
+
+pub count-over : {X : Type 0} (p : X → Bool) (x : X) (xs : List X) → p x ≡ false → count_by p (x ∷ xs) ≡ count_by p xs
+count-over p x xs over =
+    let one = count-cons p x xs in
+    let by : (if p x then 1 else 0) + count_by p xs ≡ 0 + count_by p xs = rw over refl in
+    omega (arith, one, by)
+
+-- none is counted where none passes
+pub none-counted : {X : Type 0} (p : X → Bool) (xs : List X) → list_any p xs ≡ false → count_by p xs ≡ 0
+none-counted p [] none' = refl
+none-counted p (x ∷ xs) none' =
+    elim (cases_Bool (p x)) [
+      | inl here ↦ (let wrong = rw here at none' in absurd (false≢true (sym wrong)))
+      | inr no' ↦ (
+          let rest = rw no' at none' in
+          let ih = none-counted p xs rest in
+          let over = count-over p x xs no' in
+          omega (arith, ih, over)
+          )
+    ]
+
+-- one at least is counted where one passes
+pub some-counted : {X : Type 0} (p : X → Bool) (xs : List X) → list_any p xs ≡ true → 1 ≤ count_by p xs
+some-counted p [] any = absurd (false≢true any)
+some-counted p (x ∷ xs) any =
+    elim (cases_Bool (p x)) [
+      | inl here ↦ (let one = count-one p x xs here in omega (arith, one))
+      | inr no' ↦ (
+          let any' = rw no' at any in
+          let ih = some-counted p xs any' in
+          let over = count-over p x xs no' in
+          omega (arith, ih, over)
+          )
+    ]
+
+-- what holds where one passes and all pass another test
+pub all-where : {X : Type 0} (p q : X → Bool) (xs : List X) → ((x : X) → p x ≡ true → q x ≡ true) → list_all p xs ≡ true → list_all q xs ≡ true
+all-where p q [] more all = refl
+all-where p q (x ∷ xs) more all =
+    let parts = and_parts (p x) (list_all p xs) all in
+    rw (more x parts.0, all-where p q xs more parts.1) refl
+
+-- the same, of two tests that all pass
+pub all-where-both : {X : Type 0} (p q t : X → Bool) (xs : List X) → ((x : X) → p x ≡ true → q x ≡ true → t x ≡ true) → list_all p xs ≡ true → list_all q xs ≡ true → list_all t xs ≡ true
+all-where-both p q t [] more all all' = refl
+all-where-both p q t (x ∷ xs) more all all' =
+    let parts = and_parts (p x) (list_all p xs) all in
+    let parts' = and_parts (q x) (list_all q xs) all' in
+    rw (more x parts.0 parts'.0, all-where-both p q t xs more parts.1 parts'.1) refl

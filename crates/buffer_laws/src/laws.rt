@@ -1,0 +1,12 @@
+//! Laws of runs: functions that do nothing, and whose contracts hold of every script and every past.
+ghost use Rattle.std.specs.Prelude.{List};
+ghost use Rattle.cam_types.specs.declared.script.Script.{Script as SomeScript};
+ghost use Rattle.trace_model.specs.declared.entry.Entry.{Entry as SomeEntry};
+ghost use Rattle.buffer_laws.specs.Laws.{KeepsBuffers};
+
+/// In a legal run every buffer is sent as often as it is returned, and once more while it is at the device: then it is one of
+/// the configuration's.
+#[tactic(auto, using(crate::proofs::Conserved::buffers_conserved))]
+pub fn buffers_are_conserved()
+    ensures { (script : SomeScript) (past : List SomeEntry) → KeepsBuffers script past }
+{}

@@ -1,0 +1,7 @@
+//! Laws of legal and of complete runs on buffers and fences: none is lost, each comes back once, and in order. See
+//! `specs/`.
+#![tactic(auto)]
+
+mod laws;
+
+pub use laws::buffers_are_conserved;
