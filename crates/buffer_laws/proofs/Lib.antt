@@ -2,3 +2,4 @@ pub mod Lists
 pub mod Returns
 pub mod Own
 pub mod Conserved
+pub mod Fences

@@ -50,6 +50,14 @@ some-counted p (x ∷ xs) any =
           )
     ]
 
+-- and one passes where one at least is counted
+pub some-where-counted : {X : Type 0} (p : X → Bool) (xs : List X) → 1 ≤ count_by p xs → list_any p xs ≡ true
+some-where-counted p xs some =
+    elim (cases_Bool (list_any p xs)) [
+      | inl any ↦ any
+      | inr none' ↦ (let none'' = none-counted p xs none' in absurd (omega (arith, some, none'')))
+    ]
+
 -- what holds where one passes and all pass another test
 pub all-where : {X : Type 0} (p q : X → Bool) (xs : List X) → ((x : X) → p x ≡ true → q x ≡ true) → list_all p xs ≡ true → list_all q xs ≡ true
 all-where p q [] more all = refl

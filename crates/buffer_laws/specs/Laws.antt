@@ -1,7 +1,10 @@
-use Rattle.std.specs.Prelude.{List}
+use Rattle.std.specs.Prelude.{◌==◌, List, count_by, IsTrue}
+use Rattle.std.specs.List.{list_all}
 use Rattle.cam_types.specs.declared.script.Script.{Script}
 use Rattle.trace_model.specs.declared.entry.Entry.{Entry}
-use Rattle.trace_model.specs.Laws.{ConservesBuffers}
+use Rattle.trace_model.specs.Complete.{IsComplete, released}
+use Rattle.trace_model.specs.Entry.{releases_fence}
+use Rattle.trace_model.specs.Laws.{ConservesBuffers, FencesOnce, signals_after_release}
 use Rattle.trace_model.specs.Legal.{IsLegal}
 
 -- What is said of buffers and fences. The laws themselves stand in trace_model, beside the definitions.
@@ -9,3 +12,14 @@ use Rattle.trace_model.specs.Legal.{IsLegal}
 -- in a legal run no buffer is lost, and none is sent twice
 abbrev pub KeepsBuffers : Script → List Entry → Type 0
 KeepsBuffers script past = IsLegal script past → ConservesBuffers past
+
+-- in a legal run each fence is released once, and no fence is signalled before its release
+abbrev pub ReleasesOnce : Script → List Entry → Type 0
+ReleasesOnce script past = IsLegal script past → IsTrue (list_all (λ f. count_by (releases_fence f) past == 1) (released past))
+
+abbrev pub SignalsLater : Script → List Entry → Type 0
+SignalsLater script past = IsLegal script past → IsTrue (signals_after_release past)
+
+-- in a complete one each is signalled once, too
+abbrev pub SignalsOnce : Script → List Entry → Type 0
+SignalsOnce script past = IsComplete script past → FencesOnce past

@@ -2,11 +2,19 @@
 ghost use Rattle.std.specs.Prelude.{List};
 ghost use Rattle.cam_types.specs.declared.script.Script.{Script as SomeScript};
 ghost use Rattle.trace_model.specs.declared.entry.Entry.{Entry as SomeEntry};
-ghost use Rattle.buffer_laws.specs.Laws.{KeepsBuffers};
+ghost use Rattle.buffer_laws.specs.Laws.{KeepsBuffers, ReleasesOnce, SignalsLater, SignalsOnce};
 
 /// In a legal run every buffer is sent as often as it is returned, and once more while it is at the device: then it is one of
 /// the configuration's.
 #[tactic(auto, using(crate::proofs::Conserved::buffers_conserved))]
 pub fn buffers_are_conserved()
     ensures { (script : SomeScript) (past : List SomeEntry) → KeepsBuffers script past }
+{}
+
+/// In a legal run each fence is released once, and signalled only after that; in a complete one each is signalled once.
+#[tactic(auto, using(crate::proofs::Fences::fences_released_once, crate::proofs::Fences::fences_signalled_later, crate::proofs::Fences::fences_once))]
+pub fn fences_are_released_and_signalled_once()
+    ensures released { (script : SomeScript) (past : List SomeEntry) → ReleasesOnce script past }
+    ensures later { (script : SomeScript) (past : List SomeEntry) → SignalsLater script past }
+    ensures signalled { (script : SomeScript) (past : List SomeEntry) → SignalsOnce script past }
 {}

@@ -4,4 +4,4 @@
 
 mod laws;
 
-pub use laws::buffers_are_conserved;
+pub use laws::{buffers_are_conserved, fences_are_released_and_signalled_once};
