@@ -3,3 +3,5 @@ pub mod Returns
 pub mod Own
 pub mod Conserved
 pub mod Fences
+pub mod Sends
+pub mod Once

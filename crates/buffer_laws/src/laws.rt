@@ -2,7 +2,7 @@
 ghost use Rattle.std.specs.Prelude.{List};
 ghost use Rattle.cam_types.specs.declared.script.Script.{Script as SomeScript};
 ghost use Rattle.trace_model.specs.declared.entry.Entry.{Entry as SomeEntry};
-ghost use Rattle.buffer_laws.specs.Laws.{KeepsBuffers, ReleasesOnce, SignalsLater, SignalsOnce};
+ghost use Rattle.buffer_laws.specs.Laws.{KeepsBuffers, ReleasesOnce, ReturnsAtMostOnce, ReturnsOnce, SignalsLater, SignalsOnce};
 
 /// In a legal run every buffer is sent as often as it is returned, and once more while it is at the device: then it is one of
 /// the configuration's.
@@ -17,4 +17,11 @@ pub fn fences_are_released_and_signalled_once()
     ensures released { (script : SomeScript) (past : List SomeEntry) → ReleasesOnce script past }
     ensures later { (script : SomeScript) (past : List SomeEntry) → SignalsLater script past }
     ensures signalled { (script : SomeScript) (past : List SomeEntry) → SignalsOnce script past }
+{}
+
+/// In a legal run no buffer of a frame comes back twice; in a complete one each comes back once, filled or failed.
+#[tactic(auto, using(crate::proofs::Once::buffers_ended_once))]
+pub fn buffers_end_once()
+    ensures at_most { (script : SomeScript) (past : List SomeEntry) → ReturnsAtMostOnce script past }
+    ensures once { (script : SomeScript) (past : List SomeEntry) → ReturnsOnce script past }
 {}

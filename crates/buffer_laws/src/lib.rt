@@ -4,4 +4,4 @@
 
 mod laws;
 
-pub use laws::{buffers_are_conserved, fences_are_released_and_signalled_once};
+pub use laws::{buffers_are_conserved, buffers_end_once, fences_are_released_and_signalled_once};
