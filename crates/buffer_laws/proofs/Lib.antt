@@ -5,3 +5,4 @@ pub mod Conserved
 pub mod Fences
 pub mod Sends
 pub mod Once
+pub mod Order

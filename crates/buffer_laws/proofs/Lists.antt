@@ -1,5 +1,5 @@
 -- Lemmas on lists and counts that know nothing of cameras.
-use Rattle.std.proofs.Common.{◌≡◌, ◌+◌, ◌≤◌, Bool, true, false, List, [], ◌∷◌, refl, sym, arith, inl, inr, count_by, if◌then◌else◌}
+use Rattle.std.proofs.Common.{◌≡◌, ◌+◌, ◌≤◌, Bool, true, false, List, [], ◌∷◌, refl, sym, arith, inl, inr, find, Some, count_by, if◌then◌else◌}
 use Rattle.std.specs.List.{list_all, list_any}
 use Rattle.std.proofs.lemmas.Bool.{cases_Bool, false≢true}
 use Rattle.trace_model.proofs.Basics.{and_parts}
@@ -72,3 +72,21 @@ all-where-both p q t (x ∷ xs) more all all' =
     let parts = and_parts (p x) (list_all p xs) all in
     let parts' = and_parts (q x) (list_all q xs) all' in
     rw (more x parts.0 parts'.0, all-where-both p q t xs more parts.1 parts'.1) refl
+
+-- one passes a test where one passes another that says more
+pub any-where : {X : Type 0} (p q : X → Bool) (xs : List X) → ((x : X) → p x ≡ true → q x ≡ true) → list_any p xs ≡ true → list_any q xs ≡ true
+any-where p q [] more any = absurd (false≢true any)
+any-where p q (x ∷ xs) more any =
+    elim (cases_Bool (p x)) [
+      | inl here ↦ rw (more x here) refl
+      | inr no' ↦ (let any' = rw no' at any in any-behind q x xs (any-where p q xs more any'))
+    ]
+
+-- what is found passes
+pub found-any : {X : Type 0} (p : X → Bool) (xs : List X) (x : X) → find p xs ≡ Some x → list_any p xs ≡ true
+found-any p [] x h = absurd (cc)
+found-any p (y ∷ xs) x h =
+    elim (cases_Bool (p y)) [
+      | inl here ↦ rw here refl
+      | inr no' ↦ (let h' = rw no' at h in any-behind p y xs (found-any p xs x h'))
+    ]

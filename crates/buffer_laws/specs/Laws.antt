@@ -5,7 +5,7 @@ use Rattle.trace_model.specs.declared.entry.Entry.{Entry}
 use Rattle.trace_model.specs.Complete.{IsComplete, released}
 use Rattle.trace_model.specs.Entry.{releases_fence, returns}
 use Rattle.trace_model.specs.Frames.{frames, targets_of}
-use Rattle.trace_model.specs.Laws.{ConservesBuffers, FencesOnce, signals_after_release}
+use Rattle.trace_model.specs.Laws.{ConservesBuffers, FencesOnce, delivers_in_order, signals_after_release}
 use Rattle.trace_model.specs.Legal.{IsLegal}
 
 -- What is said of buffers and fences. The laws themselves stand in trace_model, beside the definitions.
@@ -32,3 +32,7 @@ ReturnsAtMostOnce script past = IsLegal script past → (n s : ℕ) → count_by
 abbrev pub ReturnsOnce : Script → List Entry → Type 0
 ReturnsOnce script past =
     IsComplete script past → IsTrue (list_all (λ n. list_all (λ t. count_by (returns n t.stream.0) past == 1) (targets_of n past)) (frames past))
+
+-- in a legal run the filled buffers of each stream come in the order of frames
+abbrev pub DeliversInOrder : Script → List Entry → Type 0
+DeliversInOrder script past = IsLegal script past → IsTrue (delivers_in_order past)

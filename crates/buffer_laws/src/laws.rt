@@ -2,7 +2,7 @@
 ghost use Rattle.std.specs.Prelude.{List};
 ghost use Rattle.cam_types.specs.declared.script.Script.{Script as SomeScript};
 ghost use Rattle.trace_model.specs.declared.entry.Entry.{Entry as SomeEntry};
-ghost use Rattle.buffer_laws.specs.Laws.{KeepsBuffers, ReleasesOnce, ReturnsAtMostOnce, ReturnsOnce, SignalsLater, SignalsOnce};
+ghost use Rattle.buffer_laws.specs.Laws.{DeliversInOrder, KeepsBuffers, ReleasesOnce, ReturnsAtMostOnce, ReturnsOnce, SignalsLater, SignalsOnce};
 
 /// In a legal run every buffer is sent as often as it is returned, and once more while it is at the device: then it is one of
 /// the configuration's.
@@ -24,4 +24,10 @@ pub fn fences_are_released_and_signalled_once()
 pub fn buffers_end_once()
     ensures at_most { (script : SomeScript) (past : List SomeEntry) → ReturnsAtMostOnce script past }
     ensures once { (script : SomeScript) (past : List SomeEntry) → ReturnsOnce script past }
+{}
+
+/// In a legal run the filled buffers of each stream come in the order of frames.
+#[tactic(auto, using(crate::proofs::Order::delivered_in_order))]
+pub fn deliveries_are_in_order()
+    ensures { (script : SomeScript) (past : List SomeEntry) → DeliversInOrder script past }
 {}

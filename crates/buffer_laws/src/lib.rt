@@ -4,4 +4,7 @@
 
 mod laws;
 
-pub use laws::{buffers_are_conserved, buffers_end_once, fences_are_released_and_signalled_once};
+pub use laws::{
+    buffers_are_conserved, buffers_end_once, deliveries_are_in_order,
+    fences_are_released_and_signalled_once,
+};
