@@ -1,5 +1,5 @@
 -- What it says of a frame that it was sent: its number, its streams, and the buffers of it that are still at the device.
-use Rattle.std.proofs.Common.{◌≡◌, ℕ, ◌==◌, ◌+◌, Bool, true, false, ◌&&◌, not, List, [], ◌∷◌, Option, Some, None, refl, arith, inl, inr, nat_lt, filter, find, take}
+use Rattle.std.proofs.Common.{◌≡◌, ℕ, ◌==◌, ◌+◌, Bool, true, false, ◌&&◌, not, List, [], ◌∷◌, Option, Some, None, refl, sym, arith, inl, inr, nat_lt, filter, find, take}
 use Rattle.std.specs.List.{list_all, list_any}
 use Rattle.std.proofs.lemmas.Bool.{cases_Bool, false≢true}
 use Rattle.std.proofs.lemmas.Bool.Decides.{nat_tests}
@@ -73,30 +73,30 @@ abbrev pub is_distinct : List ℕ → Bool
 is_distinct [] = true
 is_distinct (s ∷ streams) = not (list_any (λ u. u == s) streams) && is_distinct streams
 
-distinct_four : (p : ℕ → Bool) → is_distinct (filter p (0 ∷ (1 ∷ (2 ∷ (3 ∷ []))))) ≡ true
-distinct_four p =
-    elim (cases_Bool (p 0)) [
-      | inl a ↦ elim (cases_Bool (p 1)) [
-        | inl b ↦ elim (cases_Bool (p 2)) [
-          | inl c ↦ elim (cases_Bool (p 3)) [ inl d ↦ rw (a, b, c, d) refl | inr d ↦ rw (a, b, c, d) refl ]
-          | inr c ↦ elim (cases_Bool (p 3)) [ inl d ↦ rw (a, b, c, d) refl | inr d ↦ rw (a, b, c, d) refl ]
-        ]
-        | inr b ↦ elim (cases_Bool (p 2)) [
-          | inl c ↦ elim (cases_Bool (p 3)) [ inl d ↦ rw (a, b, c, d) refl | inr d ↦ rw (a, b, c, d) refl ]
-          | inr c ↦ elim (cases_Bool (p 3)) [ inl d ↦ rw (a, b, c, d) refl | inr d ↦ rw (a, b, c, d) refl ]
-        ]
-      ]
-      | inr a ↦ elim (cases_Bool (p 1)) [
-        | inl b ↦ elim (cases_Bool (p 2)) [
-          | inl c ↦ elim (cases_Bool (p 3)) [ inl d ↦ rw (a, b, c, d) refl | inr d ↦ rw (a, b, c, d) refl ]
-          | inr c ↦ elim (cases_Bool (p 3)) [ inl d ↦ rw (a, b, c, d) refl | inr d ↦ rw (a, b, c, d) refl ]
-        ]
-        | inr b ↦ elim (cases_Bool (p 2)) [
-          | inl c ↦ elim (cases_Bool (p 3)) [ inl d ↦ rw (a, b, c, d) refl | inr d ↦ rw (a, b, c, d) refl ]
-          | inr c ↦ elim (cases_Bool (p 3)) [ inl d ↦ rw (a, b, c, d) refl | inr d ↦ rw (a, b, c, d) refl ]
-        ]
-      ]
+none_kept : (p q : ℕ → Bool) (xs : List ℕ) → list_any q xs ≡ false → list_any q (filter p xs) ≡ false
+none_kept p q [] none' = refl
+none_kept p q (x ∷ xs) none' =
+    elim (cases_Bool (q x)) [
+      | inl here ↦ (let wrong = rw here at none' in absurd (false≢true (sym wrong)))
+      | inr over ↦ (
+          let rest = rw over at none' in
+          let ih = none_kept p q xs rest in
+          elim (cases_Bool (p x)) [ inl kept ↦ rw (kept, over) ih | inr no' ↦ rw no' ih ]
+          )
     ]
+
+not_false : (b : Bool) → not b ≡ true → b ≡ false
+not_false true h = absurd (false≢true h)
+not_false false h = refl
+
+-- what is kept of distinct streams is distinct
+distinct_kept : (p : ℕ → Bool) (xs : List ℕ) → is_distinct xs ≡ true → is_distinct (filter p xs) ≡ true
+distinct_kept p [] h = refl
+distinct_kept p (x ∷ xs) h =
+    let parts = and_parts (not (list_any (λ u. u == x) xs)) (is_distinct xs) h in
+    let ih = distinct_kept p xs parts.1 in
+    let once = none_kept p (λ u. u == x) xs (not_false (list_any (λ u. u == x) xs) parts.0) in
+    elim (cases_Bool (p x)) [ inl kept ↦ rw (kept, once, ih) refl | inr no' ↦ rw no' ih ]
 
 -- the target is for the stream, and with the buffer
 abbrev pub is_with : ℕ → ℕ → Sent → Bool
@@ -145,7 +145,7 @@ one_for_stream s b (t ∷ targets) (u ∷ streams) are distinct any =
 by_item : (script : Script) (past : List Entry) (o : Option Next) (n r i : ℕ) (same : Bool) (targets : Four Sent) (s b : ℕ) → fits_next script past o n r i same targets ≡ true → list_any (is_with s b) (four_list targets) ≡ true → holds b (find (λ t. t.stream.0 == s) (four_list targets)) ≡ true
 by_item script past None n r i same targets s b h any = absurd (false≢true h)
 by_item script past (Some w) n r i same targets s b h any =
-    one_for_stream s b (four_list targets) (targets_in_order w.item) (goes script past w n r i same targets h).streams (distinct_four (λ u. list_any (λ t. t == u) (take w.item.targets.count w.item.targets.list))) any
+    one_for_stream s b (four_list targets) (targets_in_order w.item) (goes script past w n r i same targets h).streams (distinct_kept (λ u. list_any (λ t. t == u) (take w.item.targets.count w.item.targets.list)) (0 ∷ (1 ∷ (2 ∷ (3 ∷ [])))) refl) any
 
 -- a send has one buffer for a stream
 pub send-target : (script : Script) (past : List Entry) (n r i : ℕ) (same : Bool) (targets : Four Sent) (s b : ℕ) → may_send script past n r i same targets ≡ true → list_any (is_with s b) (four_list targets) ≡ true → holds b (find (λ t. t.stream.0 == s) (four_list targets)) ≡ true

@@ -3,8 +3,13 @@
 #![tactic(auto)]
 
 mod laws;
+mod worked;
 
 pub use laws::{
     buffers_are_conserved, buffers_end_once, deliveries_are_in_order,
     fences_are_released_and_signalled_once,
 };
+pub use worked::breaches_are_seen;
+
+#[cfg(test)]
+mod tests;
