@@ -1,5 +1,5 @@
 -- Fences are released once, under numbers that rise by one, and signalled once, later.
-use Rattle.std.proofs.Common.{◌≡◌, ℕ, ◌==◌, ◌+◌, ◌<◌, ◌≤◌, Bool, true, false, ◌&&◌, not, List, [], ◌∷◌, Some, None, refl, arith, inl, inr, count_by, nat_lt, if◌then◌else◌}
+use Rattle.std.proofs.Common.{◌≡◌, ℕ, ◌==◌, ◌+◌, ◌<◌, ◌≤◌, Bool, true, false, ◌&&◌, not, List, [], ◌∷◌, Some, refl, arith, inl, inr, count_by, nat_lt, if◌then◌else◌}
 use Rattle.std.specs.List.{list_all}
 use Rattle.std.proofs.lemmas.Bool.{cases_Bool, false≢true}
 use Rattle.std.proofs.lemmas.Bool.Decides.{nat_tests}
@@ -16,7 +16,7 @@ use Rattle.trace_model.specs.Numbers.{next_fence}
 use Rattle.trace_model.specs.Release.{signal_due}
 use Rattle.trace_model.proofs.Basics.{and_parts}
 use Rattle.trace_bounds.proofs.Shapes.{release-is, signal-is}
-use Rattle.buffer_laws.proofs.Lists.{all-where, count-one, count-over, none-counted, some-counted, some-where-counted}
+use Rattle.buffer_laws.proofs.Lists.{all-where, count-one, count-over, none-counted, some-counted, some-where-counted, one-of, where-given}
 
 -- ---- releases
 
@@ -89,14 +89,10 @@ fences_released_once script past legal =
 
 -- ---- signals
 
-where_given : {X : Type 0} (b : Bool) (x y : X) → (if b then Some x else None) ≡ Some y → b ≡ true
-where_given true x y h = refl
-where_given false x y h = absurd (cc)
-
 not_yet : (past : List Entry) (f : FenceNo) → signal_due past f.0 ≡ Some (Signal f) → is_signalled f.0 past ≡ false
 not_yet past f h =
-    let given = where_given (nat_lt f.0 (next_fence past) && not (is_signalled f.0 past)) (Signal (record { 0 = f.0 })) (Signal f) h in
-    is_false (is_signalled f.0 past) (and_parts (nat_lt f.0 (next_fence past)) (not (is_signalled f.0 past)) given).1
+    let given = where-given (nat_lt f.0 (next_fence past) && not (is_signalled f.0 past)) (Signal (record { 0 = f.0 })) (Signal f) h in
+    is_false (is_signalled f.0 past) (and_parts (nat_lt f.0 (next_fence past)) (not (is_signalled f.0 past)) given.0).1
   where
     is_false : (b : Bool) → not b ≡ true → b ≡ false
     is_false true h = absurd (false≢true h)
@@ -121,14 +117,11 @@ signalled-at-most-once script (Signal g ∷ past) f legal =
     ]
 signalled-at-most-once script (e ∷ past) f legal = signalled-at-most-once script past f legal.1
 
-one_of : (k : ℕ) → 1 ≤ k → k ≤ 1 → (k == 1) ≡ true
-one_of k low high = grind (arith, nat_tests, low, high)
-
 -- where each released fence was signalled, it was signalled once
 pub signalled-once : (script : Script) (past : List Entry) → IsLegal script past → list_all (λ f. is_signalled f past) (released past) ≡ true → list_all (λ f. count_by (signals f) past == 1) (released past) ≡ true
 signalled-once script past legal all =
     all-where (λ f. is_signalled f past) (λ f. count_by (signals f) past == 1) (released past)
-    (λ f yes'. one_of (count_by (signals f) past) (some-counted (signals f) past yes') (signalled-at-most-once script past f legal)) all
+    (λ f yes'. one-of (count_by (signals f) past) (some-counted (signals f) past yes') (signalled-at-most-once script past f legal)) all
 
 -- a signal follows the release of its fence
 pub fences_signalled_later : (script : Script) (past : List Entry) → IsLegal script past → signals_after_release past ≡ true

@@ -1,7 +1,8 @@
 -- Lemmas on lists and counts that know nothing of cameras.
-use Rattle.std.proofs.Common.{◌≡◌, ◌+◌, ◌≤◌, Bool, true, false, List, [], ◌∷◌, refl, sym, arith, inl, inr, find, Some, count_by, if◌then◌else◌}
+use Rattle.std.proofs.Common.{◌≡◌, ℕ, ◌==◌, ◌+◌, ◌≤◌, Bool, true, false, List, [], ◌∷◌, Some, None, refl, sym, arith, inl, inr, find, count_by, if◌then◌else◌}
 use Rattle.std.specs.List.{list_all, list_any}
 use Rattle.std.proofs.lemmas.Bool.{cases_Bool, false≢true}
+use Rattle.std.proofs.lemmas.Bool.Decides.{nat_tests}
 use Rattle.trace_model.proofs.Basics.{and_parts}
 use Rattle.trace_bounds.proofs.Counts.{count-cons}
 
@@ -58,14 +59,14 @@ some-where-counted p xs some =
       | inr none' ↦ (let none'' = none-counted p xs none' in absurd (omega (arith, some, none'')))
     ]
 
--- what holds where one passes and all pass another test
+-- where all pass a test, all pass one that says less
 pub all-where : {X : Type 0} (p q : X → Bool) (xs : List X) → ((x : X) → p x ≡ true → q x ≡ true) → list_all p xs ≡ true → list_all q xs ≡ true
 all-where p q [] more all = refl
 all-where p q (x ∷ xs) more all =
     let parts = and_parts (p x) (list_all p xs) all in
     rw (more x parts.0, all-where p q xs more parts.1) refl
 
--- the same, of two tests that all pass
+-- the same, of one that two tests together imply
 pub all-where-both : {X : Type 0} (p q t : X → Bool) (xs : List X) → ((x : X) → p x ≡ true → q x ≡ true → t x ≡ true) → list_all p xs ≡ true → list_all q xs ≡ true → list_all t xs ≡ true
 all-where-both p q t [] more all all' = refl
 all-where-both p q t (x ∷ xs) more all all' =
@@ -90,3 +91,12 @@ found-any p (y ∷ xs) x h =
       | inl here ↦ rw here refl
       | inr no' ↦ (let h' = rw no' at h in any-behind p y xs (found-any p xs x h'))
     ]
+
+-- what is given where a test passes
+pub where-given : {X : Type 0} (b : Bool) (x y : X) → (if b then Some x else None) ≡ Some y → (b ≡ true) × (x ≡ y)
+where-given true x y h = (refl, cc)
+where-given false x y h = absurd (cc)
+
+-- a number from one to one
+pub one-of : (k : ℕ) → 1 ≤ k → k ≤ 1 → (k == 1) ≡ true
+one-of k low high = grind (arith, nat_tests, low, high)

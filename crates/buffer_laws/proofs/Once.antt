@@ -15,7 +15,7 @@ use Rattle.trace_model.specs.Legal.{IsLegal}
 use Rattle.trace_model.specs.Open.{all_returned, is_metadata_ended, is_open, is_returned}
 use Rattle.trace_model.specs.Place.{is_at_device_by}
 use Rattle.trace_model.proofs.Basics.{and_parts}
-use Rattle.buffer_laws.proofs.Lists.{all-where, all-where-both, any-behind, count-one, count-over, none-counted, some-counted}
+use Rattle.buffer_laws.proofs.Lists.{all-where, all-where-both, any-behind, count-one, count-over, none-counted, one-of, some-counted}
 use Rattle.buffer_laws.proofs.Returns.{ComesBack, filled-back, failed-back}
 use Rattle.buffer_laws.proofs.Sends.{frames-sent, holds, is_with, not-the-next, out-before, out-sent, out-target, send-number}
 
@@ -142,9 +142,6 @@ when_closed true true false h k = absurd (false≢true k)
 when_closed true false back h k = absurd (false≢true k)
 when_closed false ended back h k = absurd (false≢true h)
 
-one_of : (k : ℕ) → 1 ≤ k → k ≤ 1 → (k == 1) ≡ true
-one_of k low high = grind (arith, nat_tests, low, high)
-
 -- each buffer of the frame came back once
 abbrev pub is_returned_once : List Entry → ℕ → Bool
 is_returned_once past n = list_all (λ t. count_by (returns n t.stream.0) past == 1) (targets_of n past)
@@ -153,7 +150,7 @@ frame_returned : (script : Script) (past : List Entry) (n : ℕ) → IsLegal scr
 frame_returned script past n legal sent closed =
     let all : all_returned n past ≡ true = when_closed (is_sent n past) (is_metadata_ended n past) (all_returned n past) sent closed in
     all-where {X = Sent} (λ t. is_returned n t.stream.0 past) (λ t. count_by (returns n t.stream.0) past == 1) (targets_of n past)
-    (λ t back. one_of (count_by (returns n t.stream.0) past) (some-counted (returns n t.stream.0) past back) (returned-at-most-once script past n t.stream.0 legal)) all
+    (λ t back. one-of (count_by (returns n t.stream.0) past) (some-counted (returns n t.stream.0) past back) (returned-at-most-once script past n t.stream.0 legal)) all
 
 pub buffers_ended_once : (script : Script) (past : List Entry) → IsComplete script past → list_all (is_returned_once past) (frames past) ≡ true
 buffers_ended_once script past complete =

@@ -40,9 +40,6 @@ filled_returned m s past h = any-where (fills m s) (returns m s) past (fills_and
 
 -- ---- what lets pass does so for good
 
-any_more : (p : Entry → Bool) (e : Entry) (past : List Entry) → list_any p past ≡ true → list_any p (e ∷ past) ≡ true
-any_more p e past h = any-behind p e past h
-
 passes_more : (t r b q r' b' q' : Bool) → (r ≡ true → r' ≡ true) → (b ≡ true → b' ≡ true) → (q ≡ true → q' ≡ true) → (not t || (r || (b || q))) ≡ true → (not t || (r' || (b' || q'))) ≡ true
 passes_more false r b q r' b' q' one two three h = refl
 passes_more true true b q r' b' q' one two three h = rw (one refl) refl
@@ -56,7 +53,7 @@ passes_more true false false false r' b' q' one two three h = absurd (false≢tr
 keeps_passing : (e : Entry) (past : List Entry) (s n : ℕ) → has_target n s (e ∷ past) ≡ has_target n s past → lets_pass past s n ≡ true → lets_pass (e ∷ past) s n ≡ true
 keeps_passing e past s n same h =
     rw same (passes_more (has_target n s past) (is_returned n s past) (has_error_buffer n s past) (has_error_request n past) (is_returned n s (e ∷ past)) (has_error_buffer n s (e ∷ past)) (has_error_request n (e ∷ past))
-    (any_more (returns n s) e past) (any_more (is_error_buffer n s) e past) (any_more (is_error_request n) e past) h)
+    (any-behind (returns n s) e past) (any-behind (is_error_buffer n s) e past) (any-behind (is_error_request n) e past) h)
 
 -- what holds of each earlier frame holds of one that was sent
 earlier_one : (k n : ℕ) (p : ℕ → Bool) (past : List Entry) → each_earlier k p past ≡ true → is_sent n past ≡ true → nat_lt n k ≡ true → p n ≡ true

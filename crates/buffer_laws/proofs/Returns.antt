@@ -1,5 +1,5 @@
 -- What it says of the past that a buffer comes back, filled or failed: it was at the device by its frame's send.
-use Rattle.std.proofs.Common.{◌≡◌, ℕ, Bool, true, false, ◌&&◌, ◌||◌, List, Option, Some, None, refl, if◌then◌else◌}
+use Rattle.std.proofs.Common.{◌≡◌, ℕ, true, ◌&&◌, ◌||◌, List, Option, Some, None, refl}
 use Rattle.cam_types.specs.declared.number.BufferId.{BufferId}
 use Rattle.cam_types.specs.declared.number.FenceNo.{FenceNo}
 use Rattle.cam_types.specs.declared.number.FrameNo.{FrameNo}
@@ -16,6 +16,7 @@ use Rattle.trace_model.specs.Open.{has_error_buffer}
 use Rattle.trace_model.specs.Place.{is_at_device_by}
 use Rattle.trace_model.proofs.Basics.{and_parts}
 use Rattle.trace_bounds.proofs.Shapes.{filled-is}
+use Rattle.buffer_laws.proofs.Lists.{where-given}
 
 -- a buffer that comes back: the one that the frame was sent with for the stream, and still at the device by that send
 pub record ComesBack (past : List Entry) (n s b : ℕ) : Type 0 where
@@ -55,15 +56,11 @@ filled-well script past n s b f d h =
     let order = and_parts (is_passed t.fence past) (each_earlier n.0 (lets_pass past s.0) past) parts.1 in
     record { sound = sound.1; earlier = order.1 }
 
-where_given : {X : Type 0} (b : Bool) (x y : X) → (if b then Some x else None) ≡ Some y → (b ≡ true) × (x ≡ y)
-where_given true x y h = (refl, cc)
-where_given false x y h = absurd (cc)
-
 failed_back : (past : List Entry) (m u : ℕ) (o : Option Sent) (n : FrameNo) (s : StreamIx) (b : BufferId) (f : Option FenceNo) → target_of m u past ≡ o → failed_of past m u o ≡ Some (Failed n s b f) → ComesBack past m u b.0
 failed_back past m u None n s b f at h = absurd (cc)
 failed_back past m u (Some t) n s b f at h =
     let error = has_error_request m past || has_error_buffer m u past in
-    let given = where_given (is_at_device_by m u t.buffer.0 past && error) (Failed (record { 0 = m }) (record { 0 = u }) t.buffer (fence_left t.fence past)) (Failed n s b f) h in
+    let given = where-given (is_at_device_by m u t.buffer.0 past && error) (Failed (record { 0 = m }) (record { 0 = u }) t.buffer (fence_left t.fence past)) (Failed n s b f) h in
     let out = and_parts (is_at_device_by m u t.buffer.0 past) error given.0 in
     let same = failed_buffer (record { 0 = m }) n (record { 0 = u }) s t.buffer b (fence_left t.fence past) f given.1 in
     back_with past m u b.0 t at (rw same refl) out.0
