@@ -1,0 +1,33 @@
+use Rattle.std.specs.Prelude.{ℕ, List, [], ◌∷◌, None}
+use Rattle.trace_model.specs.declared.entry.Entry.{Entry}
+use Rattle.trace_model.specs.declared.entry.Entry.TheVariants.{Filled, Release, Signal}
+
+-- Pasts that no legal run has, the newest entry first: each breaks one law.
+
+abbrev pub filled : ℕ → ℕ → ℕ → Entry
+filled n s b = Filled (record { 0 = n }) (record { 0 = s }) (record { 0 = b }) None []
+
+abbrev pub release : ℕ → ℕ → Entry
+release b f = Release (record { 0 = b }) (record { 0 = f })
+
+abbrev pub signal : ℕ → Entry
+signal f = Signal (record { 0 = f })
+
+-- frame 1 came before frame 0 for one stream, and for two
+abbrev pub swapped : List Entry
+swapped = filled 0 0 4 ∷ (filled 1 0 5 ∷ [])
+
+abbrev pub of_two_streams : List Entry
+of_two_streams = filled 0 0 4 ∷ (filled 1 1 9 ∷ [])
+
+-- a buffer of frame 0 came back twice
+abbrev pub returned_twice : List Entry
+returned_twice = filled 0 0 4 ∷ (filled 0 0 5 ∷ [])
+
+-- fence 0 was released with two buffers
+abbrev pub released_twice : List Entry
+released_twice = release 5 0 ∷ (release 4 0 ∷ [])
+
+-- fence 0 was signalled before its release
+abbrev pub signalled_early : List Entry
+signalled_early = release 4 0 ∷ (signal 0 ∷ [])
