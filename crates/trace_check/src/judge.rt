@@ -1,5 +1,6 @@
 //! The judge.
 ghost use Rattle.std.specs.Prelude.{◌≡◌, IfOk, reverse};
+ghost use Rattle.run_laws.specs.Lawful.{KeepsLaws};
 ghost use Rattle.trace_check.specs.Verdict.{IsVerdict};
 ghost use Rattle.trace_model.specs.Legal.{IsLegal};
 
@@ -9,14 +10,18 @@ use crate::rule::rule_of;
 use crate::verdict::Verdict;
 use cam_types::{NoMemory, Script};
 use picture_digest::Canvas;
+use run_laws::a_complete_run_keeps_the_laws;
 use std::alloc::Global;
 use trace_model::{Entry, TraceList};
 
 /// Judges a trace: whether it is a complete legal run of the script, else its first entry that isn't allowed, else the
 /// first part that it lacks. The memory that it takes is room for one picture, whatever the length of the trace.
 pub fn check(alloc: Global, script: &Script, trace: &TraceList) -> Result<Verdict, NoMemory>
-    ensures { IfOk result (λ verdict. IsVerdict script.now trace.now verdict) }
+    ensures exact { IfOk result (λ verdict. IsVerdict script.now trace.now verdict) }
+    // A complete legal run keeps the laws.
+    ensures lawful { IfOk result (λ verdict. verdict ≡ Verdict.Legal → KeepsLaws script.now (reverse trace.now)) }
 {
+    a_complete_run_keeps_the_laws();
     let canvas = Canvas::new(alloc)?;
     Ok(judge_each(script, trace, canvas))
 }

@@ -1,0 +1,9 @@
+//! The law is a function that can be called.
+use super::a_complete_run_keeps_the_laws;
+use std::test::Fail;
+
+#[test]
+fn the_law_does_nothing(_rt: HostRuntime) -> Result<(), Fail> {
+    a_complete_run_keeps_the_laws();
+    Ok(())
+}
