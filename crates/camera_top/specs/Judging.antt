@@ -1,6 +1,7 @@
 use Rattle.std.specs.Prelude.{◌≡◌, ℕ, List, Option, Result, Ok, reverse, codes}
 use Rattle.std.specs.Io.KnownBytes.{Appends}
 use Rattle.cam_types.specs.declared.script.Script.{Script}
+use Rattle.run_laws.specs.Lawful.{KeepsLaws}
 use Rattle.script_text.specs.Grammar.{script_of}
 use Rattle.script_text.specs.declared.cause.ScriptRefused.{ScriptRefused}
 use Rattle.trace_model.specs.declared.entry.Entry.{Entry}
@@ -21,11 +22,13 @@ TellsParts script trace status before after faults faults_after = TellsBy (Judge
 abbrev pub TellsVerdict : List ℕ → ℕ → Option (List ℕ) → Option (List ℕ) → ℕ → ℕ → Type 0
 TellsVerdict input status before after faults faults_after = TellsBy (Judges input) status before after faults faults_after
 
--- the input is a script and a trace, the trace is a complete legal run of the script, and `legal` was written
+-- the input is a script and a trace, the trace is a complete legal run of the script, which keeps the laws, and `legal` was
+-- written
 pub record IsJudgedLegal (input : List ℕ) (before after : Option (List ℕ)) : Type 0 where
   pub script : Script
   pub meaning : script_of (script_part input) ≡ Ok script
   pub trace : List Entry
   pub read : trace_of (first_line input) (trace_part input) ≡ Ok trace
   pub complete : IsComplete script (reverse trace)
+  pub lawful : KeepsLaws script (reverse trace)
   pub written : Appends before after (codes "legal\n")

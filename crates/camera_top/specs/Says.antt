@@ -1,6 +1,7 @@
 use Rattle.std.specs.Prelude.{◌≡◌, ◌≤◌, ℕ, false, length, List, Option, Result, Ok, Err, ◌⊎◌, codes, reverse}
 use Rattle.std.specs.Io.KnownBytes.{Appends}
 use Rattle.cam_types.specs.declared.script.Script.{Script}
+use Rattle.run_laws.specs.Lawful.{KeepsLaws}
 use Rattle.script_text.specs.Causes.{number_of}
 use Rattle.script_text.specs.Grammar.{script_of}
 use Rattle.script_text.specs.declared.cause.ScriptRefused.{ScriptRefused}
@@ -49,10 +50,11 @@ abbrev pub Tells : Result Script ScriptRefused → ℕ → Option (List ℕ) →
 Tells meaning status before after faults faults_after = TellsBy (SaysOf meaning) status before after faults faults_after
 
 -- the headline: the source's bytes spell a script, and what was written is the spelling of the trace of its played run, which is
--- complete
+-- complete and keeps the laws
 pub record IsWhole (input : List ℕ) (before after : Option (List ℕ)) : Type 0 where
   pub script : Script
   pub meaning : script_of input ≡ Ok script
   pub history : List Move
   pub run : IsFirstPlayedRun script history
+  pub lawful : KeepsLaws script (trace_of history)
   pub written : Appends before after (spelling (reverse (trace_of history)))

@@ -14,6 +14,7 @@ use crate::status::{Status, answer};
 use cam_types::Script;
 use io_edge::{ReadBytes, ReadFault, Sink, Source, read_all};
 use judge_text::{parts_of, verdict_text};
+use run_laws::a_complete_run_keeps_the_laws;
 use script_text::ScriptRefused;
 use std::alloc::Global;
 use trace_check::{Verdict, check};
@@ -26,7 +27,7 @@ const TOO_LONG: u8 = 45;
 /// Reads a script followed by a trace, judges the trace and writes the verdict.
 pub fn check_call<S: Source, K: Sink>(alloc: Global, source: &mut S, sink: &mut K) -> Status
     // At status 0 the source was read to its end, its bytes are a script and a trace, and the trace is a complete legal run
-    // of the script.
+    // of the script and keeps the laws.
     ensures legal { result.number ≡ 0 → IsAtEnd (S.left source.new) × IfSome (S.left source.old) (λ input. IsJudgedLegal input (K.written sink.old) (K.written sink.new)) }
     // Each status and each text has its cause in the input's meaning: where no end failed and memory was there, the status
     // and the text are those that belong to it. At status 4 a front of that text is written.
@@ -37,6 +38,7 @@ pub fn check_call<S: Source, K: Sink>(alloc: Global, source: &mut S, sink: &mut 
     ensures known { result.number ≤ 5 }
     ensures no_usage { result.number ≢ 2 }
 {
+    a_complete_run_keeps_the_laws();
     match read_all(alloc, source, TRACE_BYTES) {
         Err(ReadFault::Failed) => Status::SOURCE_FAILED,
         Err(ReadFault::NoMemory) => Status::NO_MEMORY,

@@ -13,6 +13,7 @@ use crate::refusal::refuse_script;
 use crate::status::{Status, answer};
 use cam_types::{SCRIPT_BYTES, Script};
 use io_edge::{ReadBytes, ReadFault, Sink, Source, read_all};
+use run_laws::a_complete_run_keeps_the_laws;
 use script_text::{Cause, ScriptRefused};
 use service_core::{Service, is_raw_script};
 use std::alloc::Global;
@@ -27,7 +28,7 @@ const NOT_BUILT: u8 = 39;
 /// Reads a script, plays it and writes its trace.
 pub fn play_call<S: Source, K: Sink>(alloc: Global, source: &mut S, sink: &mut K) -> Status
     // The headline: at status 0 the source was read to its end, its bytes spell a script, and what was written is the whole
-    // trace of the script's played run, which is complete, and nothing else.
+    // trace of the script's played run, which is complete and keeps the laws, and nothing else.
     ensures whole { result.number ≡ 0 → IsAtEnd (S.left source.new) × IfSome (S.left source.old) (λ input. IsWhole input (K.written sink.old) (K.written sink.new)) }
     // Each status and each text has its cause in the input's meaning: where no end failed and memory was there, the status
     // and the text are those that belong to it. At status 4 a front of that text is written.
@@ -38,6 +39,7 @@ pub fn play_call<S: Source, K: Sink>(alloc: Global, source: &mut S, sink: &mut K
     ensures known { result.number ≤ 6 }
     ensures no_usage { result.number ≢ 2 }
 {
+    a_complete_run_keeps_the_laws();
     match read_all(alloc, source, SCRIPT_BYTES) {
         Err(ReadFault::Failed) => Status::SOURCE_FAILED,
         Err(ReadFault::NoMemory) => Status::NO_MEMORY,

@@ -26,6 +26,19 @@ const USAGE: &[u8] = b"usage: camera play | run --workers N | check | gen SEED C
 const HELP: &[u8] =
     b"camera: plays, runs and judges HAL3 camera scripts\nusage: camera play | run --workers N | check | gen SEED COUNT | help\n";
 
+/// A script that closes, and its trace.
+const JUDGED: &[u8] = b"camera 1\nclose\ntrace 1\nbegin close\ncall 0 close = ok\nend\n";
+
+const LEGAL: &[u8] = b"legal\n";
+
+const ILLEGAL: &[u8] = b"illegal 1 D15\n";
+
+const INCOMPLETE: &[u8] = b"incomplete calls\n";
+
+const TRUNCATED: &[u8] = b"refused trace 5 41\n";
+
+const NO_TRACE: &[u8] = b"refused trace 3 41\n";
+
 /// What row one_frame writes, in parts: up to the metadata, the metadata and the picture's digest, the rest.
 const OPENING: &[u8] =
     b"trace 1\nbegin configure\ncall 0 configure = ok 0:b0+5\ncall 1 once = ok r0\nsend 0 r0.0 new 0:b0:-\nbegin close\nshutter 0 1000000000\n";
@@ -66,6 +79,102 @@ enum Text {
 }
 
 const CASES: &[Case] = &[
+    Case {
+        words: &["check"],
+        input: JUDGED,
+        source_piece: 7,
+        source_failing: &[],
+        room: 9000,
+        sink_piece: 64,
+        sink_failing: &[],
+        status: 0,
+        text: Text::Line(LEGAL),
+        written: 6,
+    },
+    Case {
+        words: &["check"],
+        input: b"camera 1\nclose\ntrace 1\nbegin close\ncall 0 close = refused 2\nend\n",
+        source_piece: 4096,
+        source_failing: &[],
+        room: 9000,
+        sink_piece: 4096,
+        sink_failing: &[],
+        status: 1,
+        text: Text::Line(ILLEGAL),
+        written: 14,
+    },
+    Case {
+        words: &["check"],
+        input: b"camera 1\nclose\ntrace 1\nbegin close\nend\n",
+        source_piece: 4096,
+        source_failing: &[],
+        room: 9000,
+        sink_piece: 4096,
+        sink_failing: &[],
+        status: 1,
+        text: Text::Line(INCOMPLETE),
+        written: 17,
+    },
+    Case {
+        words: &["check"],
+        input: b"camera 2\ntrace 1\nend\n",
+        source_piece: 4096,
+        source_failing: &[],
+        room: 9000,
+        sink_piece: 4096,
+        sink_failing: &[],
+        status: 1,
+        text: Text::Line(VERSION),
+        written: 20,
+    },
+    Case {
+        words: &["check"],
+        input: b"camera 1\nclose\ntrace 1\nbegin close\n",
+        source_piece: 4096,
+        source_failing: &[],
+        room: 9000,
+        sink_piece: 4096,
+        sink_failing: &[],
+        status: 1,
+        text: Text::Line(TRUNCATED),
+        written: 19,
+    },
+    Case {
+        words: &["check"],
+        input: b"camera 1\nclose\n",
+        source_piece: 4096,
+        source_failing: &[],
+        room: 9000,
+        sink_piece: 4096,
+        sink_failing: &[],
+        status: 1,
+        text: Text::Line(NO_TRACE),
+        written: 19,
+    },
+    Case {
+        words: &["check"],
+        input: JUDGED,
+        source_piece: 7,
+        source_failing: &[2],
+        room: 9000,
+        sink_piece: 64,
+        sink_failing: &[],
+        status: 3,
+        text: Text::Line(LEGAL),
+        written: 0,
+    },
+    Case {
+        words: &["check"],
+        input: JUDGED,
+        source_piece: 7,
+        source_failing: &[],
+        room: 3,
+        sink_piece: 64,
+        sink_failing: &[],
+        status: 4,
+        text: Text::Line(LEGAL),
+        written: 3,
+    },
     Case {
         words: &["play"],
         input: SCRIPT,
