@@ -404,18 +404,6 @@ const CASES: &[Case] = &[
         written: 69,
     },
     Case {
-        words: &["check"],
-        input: SCRIPT,
-        source_piece: 7,
-        source_failing: &[1],
-        room: 9000,
-        sink_piece: 64,
-        sink_failing: &[],
-        status: 2,
-        text: Text::Line(USAGE),
-        written: 69,
-    },
-    Case {
         words: &["help"],
         input: SCRIPT,
         source_piece: 7,
