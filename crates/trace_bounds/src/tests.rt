@@ -1,4 +1,4 @@
-use super::every_script_is_typed;
+use super::{every_script_is_typed, legal_traces_print};
 use cam_types::{
     Command, CommandList, Format, Item, ItemList, Listing, NoMemory, Script, Settings, SpecList,
     StreamSpec, Targets,
@@ -68,6 +68,7 @@ fn a_script_with_the_greatest_numbers(rt: HostRuntime) -> Result<(), Fail> {
         commands: commands(alloc)?,
     };
     every_script_is_typed(&script);
+    legal_traces_print(&script);
     assert!(rt; script.is_valid());
     Ok(())
 }

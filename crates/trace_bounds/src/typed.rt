@@ -1,10 +1,22 @@
 //! What the types say of every script.
-ghost use Rattle.std.specs.Prelude.{◌≡◌, true};
+ghost use Rattle.std.specs.Prelude.{◌≡◌, true, List, IsTrue};
 ghost use Rattle.std.specs.List.{list_all};
-ghost use Rattle.trace_model.specs.Printable.{is_byte};
+ghost use Rattle.cam_types.specs.Script.{is_valid};
+ghost use Rattle.trace_model.specs.Legal.{IsLegal};
+ghost use Rattle.trace_model.specs.Printable.{is_byte, is_printable};
+ghost use Rattle.trace_model.specs.declared.entry.Entry.{Entry as SomeEntry};
 ghost use Rattle.trace_bounds.specs.Typed.{are_bytes, command_typed, is_typed, item_typed};
 
+use crate::laws::every_entry_prints;
 use cam_types::{Command, Item, Script};
+
+/// Each entry of each legal trace of the script has a line in the trace's text, where the script is valid.
+pub fn legal_traces_print(script: &Script)
+    ensures { (past : List SomeEntry) → IsTrue (is_valid script.now) → IsLegal script.now past → IsTrue (list_all is_printable past) }
+{
+    every_script_is_typed(script);
+    every_entry_prints();
+}
 
 /// Every script that there is has numbers within their types. (It is walked, since a number shows its range where it is
 /// read.)
