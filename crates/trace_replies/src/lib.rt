@@ -9,7 +9,6 @@ pub mod item;
 pub mod queue;
 pub mod refusal;
 pub mod refused;
-pub mod repeating;
 pub mod reply;
 #[cfg(test)]
 mod tests;

@@ -8,7 +8,6 @@ use crate::queue::queue_refusal;
 use crate::refused::{
     CLOSED, DEVICE_FAILED, NOT_CONFIGURED, NOT_REPEATING, REPEATING, refused, where_true,
 };
-use crate::repeating::repeats;
 use cam_types::{Command, Item, ItemList, Reply, Script};
 use std::slice;
 use trace_filters::call::{is_closed, word_of};
@@ -16,6 +15,7 @@ use trace_filters::configuration::{is_configured, streams};
 use trace_filters::entry::is_closing;
 use trace_filters::stopping::has_failed;
 use trace_model::Entry;
+use trace_next::next::repeats;
 
 fn is_configure(command: &Command) -> bool
     ensures { result ≡ is_configure command.now }

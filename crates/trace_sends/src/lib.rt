@@ -4,7 +4,6 @@
 
 pub mod ahead;
 pub mod mark;
-pub mod next;
 pub mod rule;
 pub mod stream;
 pub mod target;

@@ -7,11 +7,10 @@ ghost use Rattle.trace_model.specs.Numbers.{next_number};
 ghost use Rattle.trace_model.specs.Printable.{is_filled};
 ghost use Rattle.trace_model.specs.Send.{are_streams, has_capacity, is_same_bool, mark_of, may_go, takes_from_pool, targets_in_order};
 ghost use Rattle.trace_sends.specs.Asked.{asks, left_from};
-ghost use Rattle.trace_sends.specs.Turns.{as_next};
+ghost use Rattle.trace_next.specs.Turns.{as_next};
 
 use crate::ahead::may_repeat;
 use crate::mark::mark_of;
-use crate::next::{NextItem, next_item};
 use crate::stream::has_room;
 use crate::target::fit_item;
 use cam_types::{FRAME_DEPTH, Four, FrameNo, RequestId, Script, Targets};
@@ -19,6 +18,7 @@ use trace_filters::number::next_number;
 use trace_filters::open::open_count;
 use trace_filters::stopping::is_stopping;
 use trace_model::{Entry, Sent};
+use trace_next::next::{NextItem, next_item};
 
 /// Whether the next item, under the next number, has this frame, request and place.
 fn is_named(

@@ -1,8 +1,9 @@
 //! What is sent next: the first of the queue, or where it is empty the repeating list's item in turn.
-ghost use Rattle.std.specs.Prelude.{◌≡◌, Some, reverse, find, option_copied, option_map};
+ghost use Rattle.std.specs.Prelude.{◌≡◌, Some, is_some, reverse, find, option_copied, option_map};
 ghost use Rattle.trace_filters.specs.Queued.{as_waiting};
 ghost use Rattle.trace_model.specs.Queue.{is_clearing, is_repeat_word, next, next_repeating, repeating, repeating_of, request_in};
-ghost use Rattle.trace_sends.specs.Turns.{as_next, repeating_in, sets_repeating};
+ghost use Rattle.trace_model.specs.Calls.{is_repeat};
+ghost use Rattle.trace_next.specs.Turns.{as_next, repeating_in, sets_repeating};
 
 use cam_types::{Command, Item, Reply, RequestId, Script, Word};
 use trace_filters::call::command_at;
@@ -116,6 +117,32 @@ pub fn next_repeating(script: &Script, entries: &[Entry]) -> Option<NextItem>
     ensures { option_map as_next result ≡ next_repeating (repeating script.now (reverse entries.now)) (reverse entries.now) }
 {
     in_turn_after(script, entries, last_setting(entries))
+}
+
+/// Whether the call leaves a repeating list.
+fn leaves_a_list(script: &Script, call: Option<&Entry>) -> bool
+    ensures { result ≡ is_some (repeating_in script.now (option_copied call.entry)) }
+{
+    match call {
+        Some(Entry::Call { index, word, .. }) => is_repeat_word(*word)
+            && is_repeat(command_at(script, *index)),
+        _ => false,
+    }
+}
+
+/// Whether the command repeats a list.
+fn is_repeat(command: Option<&Command>) -> bool
+    ensures { result ≡ is_repeat (option_copied command.entry) }
+{
+    matches!(command, Some(Command::Repeat(_)))
+}
+
+/// Whether there is a repeating list.
+#[tactic(auto, using(crate::proofs::PastLemmas::repeating_found))]
+pub fn repeats(script: &Script, entries: &[Entry]) -> bool
+    ensures { result ≡ is_some (repeating script.now (reverse entries.now)) }
+{
+    leaves_a_list(script, last_setting(entries))
 }
 
 /// The next item.

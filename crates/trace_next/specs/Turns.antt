@@ -5,7 +5,7 @@ use Rattle.trace_model.specs.declared.entry.Entry.TheVariants.{Call}
 use Rattle.trace_model.specs.Calls.{command_at}
 use Rattle.trace_model.specs.Entry.{is_refusal}
 use Rattle.trace_model.specs.Queue.{Next, Repeating, repeating_of, is_repeat_word, is_clearing, request_in}
-use Rattle.trace_sends.specs.declared.next.NextItem.{NextItem}
+use Rattle.trace_next.specs.declared.next.NextItem.{NextItem}
 
 -- The next item as the code has it, and the entry that says which list repeats. Our own choice.
 
