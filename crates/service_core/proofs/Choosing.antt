@@ -19,16 +19,16 @@ use Rattle.service_core.specs.declared.step.StepName.{StepName}
 use Rattle.service_core.specs.declared.step.StepName.TheVariants.{Send, Release, Signal, Client, Shutter, Partial, Deliver}
 use Rattle.service_core.specs.Due.{client_of, first_of, is_deliverable, or_step, passed, release_step, send_of, shutter_of, signal_step, step_if}
 use Rattle.service_core.specs.First.{entry_of, first_candidates, first_chosen, first_steps, is_first_ready}
-use Rattle.service_core.specs.Fit.{AreCalls, Facts, Fit, below, is_client}
+use Rattle.service_core.specs.Fit.{Facts, Fit, below, is_client}
 use Rattle.service_core.specs.History.{trace_of}
 use Rattle.service_core.specs.Played.{for_frames, for_targets, for_numbers}
-use Rattle.service_core.specs.RawScripts.{requests_in}
 use Rattle.service_core.specs.declared.tables.Place.TheVariants.{Pool}
 use Rattle.service_core.proofs.Due.{release-is, signal-is}
 use Rattle.service_core.proofs.RawLemmas.{IsRaw}
 use Rattle.service_core.proofs.Sending.{find-range}
-use Rattle.service_core.proofs.FitSteps.{few-requests}
-use Rattle.service_core.proofs.Tabled.{client-is, filled-is, partial-is, send-is, shutter-is}
+use Rattle.service_core.proofs.FitSteps.{released-within}
+use Rattle.service_core.proofs.Tabled.{filled-is, partial-is, send-is, shutter-is}
+use Rattle.service_core.proofs.Answering.{client-is}
 
 -- ---- lists
 
@@ -118,30 +118,21 @@ some-if false x = refl
 -- ---- the kinds of steps
 
 module _ (script : Script) (past : List Entry) (t : Facts) (raw : IsRaw script) (fit : Fit script past t) where
-  few-released : t.released ≤ 32
-  few-released = (let a = fit.order.sent in let b = fit.order.shutters in let c = fit.order.returned in let d = fit.order.clients in let e = few-requests script past t fit in let f = raw.few in omega arith)
-
   ready-release : (b : ℕ) → is_first_ready script past (Release (record { 0 = b })) ≡ is_client (slice_index_or t.places b Pool)
   ready-release b = rw (release-is script past t fit (record { 0 = b })) (some-if (is_client (slice_index_or t.places b Pool)) _)
 
   releases : find (is_first_ready script past) (for_numbers (λ b. Release (record { 0 = b })) (made_count past)) ≡ option_map release_step (position is_client t.places)
   releases =
       let at = find-map (is_first_ready script past) release_step (range_with_len 0 (made_count past)) in
-      at ∙ ap (λ (o : Option ℕ). option_map release_step o) (elim (cases_eq t.calls 0) [
-        | inl none ↦ (let count : made_count past ≡ 0 = rw none at fit.made_count in rw count (sym (nobody none)))
-        | inr some ↦ (let test : (t.calls == 0) ≡ false = grind (arith, nat_tests) in let count : made_count past ≡ length t.places = rw (test, ← fit.order.places) at fit.made_count in rw count (find-range is_client (λ b. is_first_ready script past (release_step b)) t.places Pool (λ i l. ready-release i)))
-      ])
+      at ∙ ap (λ (o : Option ℕ). option_map release_step o) (by-configured t.configured refl)
     where
-      none-yet : (k calls requests : ℕ) → AreCalls k calls requests → calls ≡ 0 → requests ≡ 0
-      none-yet k calls requests (inl c) z = c.1
-      none-yet k calls requests (inr c) z = absurd (omega (arith, c.0, z))
-
-      nobody : t.calls ≡ 0 → position is_client t.places ≡ None
-      nobody none =
-          let requests : t.requests ≡ 0 = none-yet (requests_in script) t.calls t.requests fit.are_calls none in
-          let a = fit.order.sent in let b = fit.order.shutters in let c = fit.order.returned in let d = fit.order.clients in
-          let count : count_by is_client t.places ≡ 0 = omega (arith, requests, a, b, c, d) in
-          position_from-zero is_client t.places ∙ no-position is_client t.places 0 count
+      by-configured : (b : Bool) → t.configured ≡ b → find (λ b. is_first_ready script past (release_step b)) (range_with_len 0 (made_count past)) ≡ position is_client t.places
+      by-configured true c =
+          let count : made_count past ≡ length t.places = rw (c, ← fit.order.places) at fit.made_count in
+          rw count (find-range is_client (λ b. is_first_ready script past (release_step b)) t.places Pool (λ i l. ready-release i))
+      by-configured false c =
+          let count : made_count past ≡ 0 = rw c at fit.made_count in
+          rw (count, (fit.bare c).1) refl
 
   ready-signal : (f : ℕ) → f < t.released → is_first_ready script past (Signal (record { 0 = f })) ≡ not (slice_index_or t.signalled f false)
   ready-signal f l =
@@ -151,7 +142,7 @@ module _ (script : Script) (past : List Entry) (t : Facts) (raw : IsRaw script) 
   signals : find (is_first_ready script past) (for_numbers (λ f. Signal (record { 0 = f })) (next_fence past)) ≡ option_map signal_step (position not (take t.released t.signalled))
   signals =
       let at = find-map (is_first_ready script past) signal_step (range_with_len 0 (next_fence past)) in
-      let few = few-released in
+      let few = released-within script past t fit in
       let all = fit.order.signalled in
       let count : length (take t.released t.signalled) ≡ t.released = length-take-le t.released t.signalled (omega (arith, few, all)) in
       let found = find-range not (λ f. is_first_ready script past (signal_step f)) (take t.released t.signalled) false (λ i l. (let l' : i < t.released = rw count at l in rw (index-take t.signalled t.released i false l') (ready-signal i l'))) in

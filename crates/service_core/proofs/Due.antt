@@ -1,6 +1,6 @@
 -- Which entries the tables say are due, kind by kind: what the definitions say.
 use Rattle.std.proofs.Common.{◌≡◌, ℕ, zero, suc, ◌==◌, ◌+◌, ◌<◌, ◌≤◌, ◌⊎◌, Bool, true, false, ◌&&◌, ◌||◌, not, List, [], ◌∷◌, Option, Some, None, refl, sym, ◌∙◌, arith, inl, inr, nat_lt, find, slice_index_or, if◌then◌else◌}
-use Rattle.std.proofs.lemmas.Bool.{cases_lt, cases_eq}
+use Rattle.std.proofs.lemmas.Bool.{cases_Bool, cases_lt, cases_eq}
 use Rattle.std.proofs.lemmas.Bool.Decides.{nat_tests}
 use Rattle.cam_types.specs.Metadata.{part_at}
 use Rattle.cam_types.specs.declared.number.BufferId.{BufferId}
@@ -22,12 +22,11 @@ use Rattle.trace_model.specs.Release.{release_due, signal_due}
 use Rattle.trace_model.specs.Shutter.{shutter_due, may_expose}
 use Rattle.service_core.specs.declared.tables.Place.{Place}
 use Rattle.service_core.specs.declared.tables.Place.TheVariants.{Pool, Device, Client}
-use Rattle.service_core.specs.Fit.{Facts, Fit, as_place, below, is_client, item_for, settings_for, last_target, one_target, raw_made, raw_spec, settings_before, when_called}
-use Rattle.service_core.specs.RawScripts.{requests_in}
+use Rattle.service_core.specs.Fit.{Facts, Fit, as_place, below, is_client, item_for, settings_for, last_target, one_target, raw_made, raw_spec, settings_before}
 use Rattle.service_core.specs.Due.{passed}
 use Rattle.service_core.proofs.FitSteps.{frame-settings}
 use Rattle.service_core.proofs.Frames.{no-request-error, no-result-error, no-buffer-error, no-errors, sent-is, ended-is, earlier}
-use Rattle.service_core.proofs.Lists.{called, none-below}
+use Rattle.service_core.proofs.Lists.{none-below}
 use Rattle.service_core.proofs.Plain.{goes-on}
 use Rattle.service_core.proofs.RawLemmas.{IsRaw}
 
@@ -118,12 +117,12 @@ module _ (script : Script) (past : List Entry) (t : Facts) (raw : IsRaw script) 
   sound : (n s : ℕ) → is_sound script past n s ≡ true
   sound n s = rw (raw.faults, no-request-error script past t fit n, no-buffer-error script past t fit n s) refl
 
-  pub some-called : 0 < t.requests → 0 < t.calls
-  some-called l = called' (requests_in script) t.calls t.requests fit.are_calls l
-    where
-      called' : (k calls requests : ℕ) → Rattle.service_core.specs.Fit.AreCalls k calls requests → 0 < requests → 0 < calls
-      called' k calls requests (inl c) l = absurd (omega (arith, c.1, l))
-      called' k calls requests (inr c) l = omega (arith, c.0)
+  -- where a request was accepted, a configure was
+  pub stands : 0 < t.requests → t.configured ≡ true
+  stands some = elim (cases_Bool t.configured) [
+    | inl y ↦ y
+    | inr n ↦ absurd (let none = (fit.bare n).0 in omega (arith, none, some))
+  ]
 
   pub filled-yes : t.returned < t.shutters → passed t t.fence ≡ true → filled_due script past t.returned 0 ≡ Some (Filled (record { 0 = t.returned }) (record { 0 = 0 }) t.buffer None (digest raw_spec (settings_for t.items t.returned) t.returned))
   filled-yes l pass =
@@ -133,8 +132,8 @@ module _ (script : Script) (past : List Entry) (t : Facts) (raw : IsRaw script) 
       let there : Rattle.trace_model.specs.Place.is_at_device_by t.returned 0 t.buffer.0 past ≡ true = (let d = fit.device t.returned t.buffer.0 in grind (arith, nat_tests)) in
       let exposed : has_shutter t.returned past ≡ true = (let s = fit.shutters t.returned in grind (arith, nat_tests)) in
       let before = earlier script past t fit t.returned (lets_pass past 0) (λ m less _. (let r = fit.returned m in grind (arith, nat_tests))) in
-      let some : 0 < t.calls = some-called (let a = o.sent in omega arith) in
-      rw (fit.last t.returned e, there, exposed, sound t.returned 0, passed-is script past t fit t.fence, pass, before, fit.streams, called t.calls (raw_spec ∷ []) some, frame-settings script past t t.returned fit sent) refl
+      let some : t.configured ≡ true = stands (let a = o.sent in omega arith) in
+      rw (fit.last t.returned e, there, exposed, sound t.returned 0, passed-is script past t fit t.fence, pass, before, fit.streams, some, frame-settings script past t t.returned fit sent) refl
 
   filled-none : (n s : ℕ) (o : Option Sent) → ((x : Sent) → o ≡ Some x → may_deliver script past n s x ≡ false) → Rattle.trace_model.specs.Filled.filled_of script past n s o ≡ None
   filled-none n s None h = refl

@@ -37,32 +37,27 @@ module _ (script : Script) (past : List Entry) (t : Facts) (raw : IsRaw script) 
   called-is : is_all_called script past ≡ (t.calls == length script.commands)
   called-is = rw fit.calls refl
 
-  some : t.calls ≡ length script.commands → 0 < t.calls
-  some e = let s = raw.size in omega (arith, s, e)
-
   pub finished-is : is_finished script t ≡ true → IsLegal script past → IsComplete script past
   finished-is h legal =
       let a = and_parts (t.calls == length script.commands) (is_home t && has_all_signals t) h in
       let b = and_parts (is_home t) (has_all_signals t) a.1 in
       let c = and_parts (is_resting t) (not (nat_lt t.sent t.requests) && list_all is_pool t.places) b.0 in
       let d = and_parts (not (nat_lt t.sent t.requests)) (list_all is_pool t.places) c.1 in
-      let all : t.calls ≡ length script.commands = grind (arith, nat_tests) in
       record {
         legal = legal;
         calls = called-is ∙ a.0;
         open_frames = quiet-is script past t raw fit ∙ c.0;
         queue = queue-is-empty script past t raw fit ∙ d.0;
-        pool = pool-is script past t raw fit (some all) ∙ d.1;
+        pool = pool-is script past t raw fit ∙ d.1;
         signals = signals-are ∙ b.1;
       }
 
   pub complete-is : IsComplete script past → is_finished script t ≡ true
   complete-is c =
       let called' = sym called-is ∙ c.calls in
-      let all : t.calls ≡ length script.commands = grind (arith, nat_tests) in
       let quiet = sym (quiet-is script past t raw fit) ∙ c.open_frames in
       let queue = sym (queue-is-empty script past t raw fit) ∙ c.queue in
-      let pool = sym (pool-is script past t raw fit (some all)) ∙ c.pool in
+      let pool = sym (pool-is script past t raw fit) ∙ c.pool in
       and_from _ _ called' (and_from _ _ (and_from _ _ quiet (and_from _ _ queue pool)) (sym signals-are ∙ c.signals))
 
   -- a test that says just this decides it

@@ -1,5 +1,5 @@
 -- Each entry that is due leaves the tables saying what the definitions say, kind by kind.
-use Rattle.std.proofs.Common.{◌≡◌, ℕ, zero, suc, ◌==◌, ◌+◌, ◌<◌, ◌≤◌, Bool, true, false, List, ◌∷◌, Option, Some, None, refl, sym, ap, ◌∙◌, arith, inl, inr, length, slice_index_or, slice_set, add-one, append-nil}
+use Rattle.std.proofs.Common.{◌≡◌, ℕ, zero, suc, ◌==◌, ◌+◌, ◌<◌, ◌≤◌, Bool, true, false, List, [], ◌∷◌, Option, Some, None, refl, sym, ap, ◌∙◌, arith, inl, inr, length, slice_index_or, slice_set, add-one, append-nil}
 use Rattle.std.proofs.lemmas.Bool.{cases_eq}
 use Rattle.std.proofs.lemmas.Bool.Decides.{nat_tests}
 use Rattle.std.proofs.lemmas.Grind.{common_steps}
@@ -10,7 +10,7 @@ use Rattle.cam_types.specs.declared.part.Part.{Part}
 use Rattle.cam_types.specs.declared.reply.Reply.TheVariants.{Ok, Submitted, Configured, Refused}
 use Rattle.cam_types.specs.Metadata.{range_fault}
 use Rattle.cam_types.specs.declared.item.Item.{Item}
-use Rattle.cam_types.specs.declared.script.Command.TheVariants.{Once}
+use Rattle.cam_types.specs.declared.script.Command.TheVariants.{Configure, Once}
 use Rattle.cam_types.specs.declared.script.Script.{Script}
 use Rattle.cam_types.specs.declared.script.Word.{Word}
 use Rattle.cam_types.specs.declared.script.Word.TheVariants.{Configure as WordConfigure, Once as WordOnce, Close as WordClose}
@@ -19,9 +19,9 @@ use Rattle.trace_model.specs.declared.entry.Entry.TheVariants.{Begin, Call, Send
 use Rattle.trace_model.specs.Calls.{command_at}
 use Rattle.trace_model.specs.Frames.{send_of, settings_of}
 use Rattle.service_core.specs.declared.tables.Place.TheVariants.{Pool, Device, Client}
-use Rattle.service_core.specs.Fit.{Facts, Fit, IsSentAlone, AreCalls, is_client, is_raw_call, item_for, settings_for, no_item, noted, noted_target, one_target, raw_made, requests_to, settings_before}
-use Rattle.service_core.specs.RawScripts.{is_raw_item, requests_in}
-use Rattle.service_core.proofs.Lists.{below-suc, called, count-set, index-set, length-set}
+use Rattle.trace_model.specs.Configuration.{made_count}
+use Rattle.service_core.specs.Fit.{Facts, Fit, IsSentAlone, asked, configures_at, is_client, is_raw_call, item_for, settings_for, no_item, noted, noted_target, one_target, raw_made, raw_spec, requests_to, settings_before}
+use Rattle.service_core.proofs.Lists.{below-suc, count-set, index-replicate, index-set, length-set}
 use Rattle.service_core.proofs.RawLemmas.{IsRaw, short-exposure}
 
 -- ---- the items of the requests
@@ -43,22 +43,18 @@ settings-kept items item n (suc r) long l = ap (λ (x : Item). Some x.settings) 
 -- ---- the client
 
 module _ (script : Script) (past : List Entry) (t : Facts) where
-  pub few-requests : Fit script past t → t.requests ≤ requests_in script
-  few-requests fit = few (requests_in script) t.calls t.requests fit.are_calls
-    where
-      few : (k calls requests : ℕ) → AreCalls k calls requests → requests ≤ k
-      few k calls requests (inl c) = omega (arith, c.1)
-      few k calls requests (inr c) = c.1
-
   pub fit-begin : (word : Word) → is_raw_call word ≡ true → Fit script past t → Fit script (Begin word ∷ past) (noted script (Begin word) t)
   fit-begin word raw fit = record {
+    typed = fit.typed;
+    short = fit.short;
     plain = rw raw fit.plain;
     calls = grind (arith, common_steps, fit.calls);
     begun = refl;
     requests = grind (arith, common_steps, fit.requests);
-    are_calls = fit.are_calls;
+    within = fit.within;
+    few = fit.few;
     commands = fit.commands;
-    raw = fit.raw;
+    alone = fit.alone;
     in_range = fit.in_range;
     unset = fit.unset;
     submitted = rw append-nil fit.submitted;
@@ -67,6 +63,8 @@ module _ (script : Script) (past : List Entry) (t : Facts) where
     made_count = grind (arith, common_steps, fit.made_count);
     configured = fit.configured;
     closed = fit.closed;
+    bare = fit.bare;
+    first = fit.first;
     taken = fit.taken;
     numbers = grind (arith, common_steps, fit.numbers);
     frames = fit.frames;
@@ -108,26 +106,33 @@ module _ (script : Script) (past : List Entry) (t : Facts) where
     };
   }
 
-  pub fit-configure : (i : ℕ) → IsRaw script → i ≡ t.calls → t.calls ≡ 0 → Fit script past t → Fit script (Call i WordConfigure (Configured (record { a = Some raw_made; b = None; c = None; d = None })) ∷ past) (noted script (Call i WordConfigure (Configured (record { a = Some raw_made; b = None; c = None; d = None }))) t)
-  fit-configure i raw at none fit =
-      let requests : t.requests ≡ 0 = no-requests (requests_in script) t.calls t.requests fit.are_calls none in
-      let sent : t.sent ≡ 0 = (let l = fit.order.sent in omega arith) in
+  pub fit-configure : (i : ℕ) → IsRaw script → i ≡ t.calls → t.calls < length script.commands → command_at script t.calls ≡ Some (Configure (raw_spec ∷ [])) → t.configured ≡ false → Fit script past t → Fit script (Call i WordConfigure (Configured (record { a = Some raw_made; b = None; c = None; d = None })) ∷ past) (record t { begun = None; calls = t.calls + 1; configured = true })
+  fit-configure i raw at more command none fit =
+      let requests : t.requests ≡ 0 = (fit.bare none).0 in
+      let sent : t.sent ≡ 0 = (let l = fit.order.sent in omega (arith, requests)) in
+      let count : made_count past ≡ 0 = fit.made_count ∙ rw none refl in
+      let here : configures_at script t.calls ≡ true = rw command refl in
       record {
+        typed = fit.typed;
+        short = fit.short;
         plain = fit.plain;
         calls = grind (arith, common_steps, fit.calls);
         begun = refl;
         requests = grind (arith, common_steps, fit.requests);
-        are_calls = inr (omega (arith, none, requests), omega (arith, requests), omega (arith, none));
+        within = omega (arith, more);
+        few = (let l = fit.few in omega arith);
         commands = fit.commands;
-        raw = fit.raw;
+        alone = fit.alone;
         in_range = fit.in_range;
         unset = fit.unset;
         submitted = rw append-nil fit.submitted;
-        streams = rw (at, none, raw.configure) refl;
-        made = rw none refl;
-        made_count = grind (arith, common_steps, nat_tests, none, fit.made_count);
-        configured = grind (arith, nat_tests);
-        closed = (let c = fit.closed in grind (arith, nat_tests));
+        streams = rw (at, command) refl;
+        made = refl;
+        made_count = grind (arith, common_steps, count);
+        configured = refl;
+        closed = fit.closed;
+        bare = λ h. absurd (cc);
+        first = λ j l c. absurd (let same = raw.one j t.calls c here in omega (arith, l, same));
         taken = fit.taken;
         numbers = grind (arith, common_steps, fit.numbers);
         frames = fit.frames;
@@ -168,42 +173,36 @@ module _ (script : Script) (past : List Entry) (t : Facts) where
           slow = fit.order.slow;
         };
       }
-    where
-      no-requests : (k calls requests : ℕ) → AreCalls k calls requests → calls ≡ 0 → requests ≡ 0
-      no-requests k calls requests (inl c) z = c.1
-      no-requests k calls requests (inr c) z = absurd (omega (arith, c.0, z))
 
-  pub requests-room : Fit script past t → 0 < t.calls → t.calls < requests_in script + 1 → requests_in script ≤ 32 → t.requests < 32
-  requests-room fit some last few = room (requests_in script) t.calls t.requests fit.are_calls some last few
-    where
-      room : (k calls requests : ℕ) → AreCalls k calls requests → 0 < calls → calls < k + 1 → k ≤ 32 → requests < 32
-      room k calls requests (inl c) some last few = absurd (omega (arith, c.0, some))
-      room k calls requests (inr c) some last few = omega (arith, c.0, last, few)
-
-  pub fit-once : (i : ℕ) (r : RequestId) (item : Item) → i ≡ t.calls → r.0 ≡ t.requests → 0 < t.calls → t.calls < requests_in script + 1 → t.requests < 32 → command_at script i ≡ Some (Once item) → is_raw_item item ≡ true → range_fault item.settings ≡ None → Fit script past t → Fit script (Call i WordOnce (Submitted r) ∷ past) (record t { begun = None; calls = t.calls + 1; requests = t.requests + 1; items = slice_set t.items t.requests item })
-  fit-once i r item at number some last few command raw range fit =
+  pub fit-once : (i : ℕ) (r : RequestId) (item : Item) → i ≡ t.calls → r.0 ≡ t.requests → t.calls < length script.commands → t.configured ≡ true → command_at script i ≡ Some (Once item) → asked item ≡ 0 ∷ [] → range_fault item.settings ≡ None → Fit script past t → Fit script (Call i WordOnce (Submitted r) ∷ past) (record t { begun = None; calls = t.calls + 1; requests = t.requests + 1; items = slice_set t.items t.requests item })
+  fit-once i r item at number more stands command alone range fit =
       let size = fit.order.items in
-      let long : t.requests < length t.items = omega (arith, size, few) in
-      let within : t.requests + 1 ≤ t.calls = calls-more (requests_in script) t.calls t.requests fit.are_calls some in
+      let few = fit.few in
+      let long : t.requests < length t.items = omega (arith, size, few, more) in
       record {
+        typed = fit.typed;
+        short = fit.short;
         plain = fit.plain;
         calls = grind (arith, common_steps, fit.calls);
         begun = refl;
         requests = grind (arith, common_steps, fit.requests);
-        are_calls = inr (omega (arith, within), omega (arith, within, last), omega (arith, last));
+        within = omega (arith, more);
+        few = omega (arith, few);
         commands = λ q l. elim (cases_eq q t.requests) [
           | inl e ↦ (let new : r.0 ≡ q = omega (arith, number, e) in let test : (r.0 == q) ≡ true = grind (arith, nat_tests) in rw (test, command, e, item-new t.items item t.requests long) refl)
           | inr ne ↦ (let test : (r.0 == q) ≡ false = grind (arith, nat_tests, number) in rw (test, fit.commands q (omega arith), items-kept t.items item t.requests q long (omega arith)) refl)
         ];
-        raw = λ q l. by-case (λ x. is_raw_item x ≡ true) fit.raw raw q l long;
+        alone = λ q l. by-case (λ x. asked x ≡ 0 ∷ []) fit.alone alone q l long;
         in_range = λ q l. by-case (λ x. range_fault x.settings ≡ None) fit.in_range range q l long;
         unset = λ q l. (let old = fit.unset q (omega arith) in let set = index-set t.items t.requests q item no_item long in grind (arith, nat_tests));
         submitted = rw (fit.submitted, command, number, add-one t.requests, requests-kept t.items item t.requests t.requests long (omega arith), item-new t.items item t.requests long) refl;
-        streams = fit.streams ∙ (called t.calls _ some ∙ sym (called (t.calls + 1) _ (omega arith)));
-        made = fit.made ∙ (called t.calls _ some ∙ sym (called (t.calls + 1) _ (omega arith)));
-        made_count = grind (arith, common_steps, nat_tests, fit.made_count);
-        configured = (let c = fit.configured in grind (arith, nat_tests));
-        closed = (let c = fit.closed in grind (arith, nat_tests));
+        streams = fit.streams;
+        made = fit.made;
+        made_count = grind (arith, common_steps, fit.made_count);
+        configured = fit.configured;
+        closed = fit.closed;
+        bare = λ h. absurd (let no' = sym stands ∙ h in cc);
+        first = λ j l c. fit.first j (omega (arith, l)) c;
         taken = fit.taken;
         numbers = grind (arith, common_steps, fit.numbers);
         frames = fit.frames;
@@ -245,36 +244,35 @@ module _ (script : Script) (past : List Entry) (t : Facts) where
         };
       }
     where
-      calls-more : (k calls requests : ℕ) → AreCalls k calls requests → 0 < calls → requests + 1 ≤ calls
-      calls-more k calls requests (inl c) l = absurd (omega (arith, c.0, l))
-      calls-more k calls requests (inr c) l = c.0
-
       by-case : (P : Item → Type 0) → ((q : ℕ) → q < t.requests → P (item_for t.items q)) → P item → (q : ℕ) → q < t.requests + 1 → t.requests < length t.items → P (item_for (slice_set t.items t.requests item) q)
       by-case P old new q l long = elim (cases_eq q t.requests) [
         | inl e ↦ rw (e, item-new t.items item t.requests long) new
         | inr ne ↦ rw (items-kept t.items item t.requests q long (omega arith)) (old q (omega arith))
       ]
 
-  pub fit-refused : (i code : ℕ) (first second : Option ℕ) → i ≡ t.calls → 0 < t.calls → t.calls < requests_in script + 1 → Fit script past t → Fit script (Call i WordOnce (Refused code first second) ∷ past) (record t { begun = None; calls = t.calls + 1 })
-  fit-refused i code first second at some last fit =
-      let within : t.requests + 1 ≤ t.calls = calls-more (requests_in script) t.calls t.requests fit.are_calls some in
-      let few = few-requests fit in
+  pub fit-refused : (i : ℕ) (word : Word) (code : ℕ) (first second : Option ℕ) → t.calls < length script.commands → Fit script past t → Fit script (Call i word (Refused code first second) ∷ past) (record t { begun = None; calls = t.calls + 1 })
+  fit-refused i word code first second more fit =
       record {
+        typed = fit.typed;
+        short = fit.short;
         plain = fit.plain;
         calls = grind (arith, common_steps, fit.calls);
         begun = refl;
         requests = grind (arith, common_steps, fit.requests);
-        are_calls = inr (omega (arith, within), few, omega (arith, last));
+        within = omega (arith, more);
+        few = (let l = fit.few in omega arith);
         commands = fit.commands;
-        raw = fit.raw;
+        alone = fit.alone;
         in_range = fit.in_range;
         unset = fit.unset;
         submitted = rw append-nil fit.submitted;
-        streams = fit.streams ∙ (called t.calls _ some ∙ sym (called (t.calls + 1) _ (omega arith)));
-        made = fit.made ∙ (called t.calls _ some ∙ sym (called (t.calls + 1) _ (omega arith)));
-        made_count = grind (arith, common_steps, nat_tests, fit.made_count);
-        configured = (let c = fit.configured in grind (arith, nat_tests));
-        closed = (let c = fit.closed in grind (arith, nat_tests));
+        streams = fit.streams;
+        made = fit.made;
+        made_count = grind (arith, common_steps, fit.made_count);
+        configured = fit.configured;
+        closed = fit.closed;
+        bare = fit.bare;
+        first = λ j l c. fit.first j (omega (arith, l)) c;
         taken = fit.taken;
         numbers = grind (arith, common_steps, fit.numbers);
         frames = fit.frames;
@@ -315,31 +313,30 @@ module _ (script : Script) (past : List Entry) (t : Facts) where
           slow = fit.order.slow;
         };
       }
-    where
-      calls-more : (k calls requests : ℕ) → AreCalls k calls requests → 0 < calls → requests + 1 ≤ calls
-      calls-more k calls requests (inl c) l = absurd (omega (arith, c.0, l))
-      calls-more k calls requests (inr c) l = c.0
 
-  pub fit-close : (i : ℕ) → i ≡ t.calls → t.calls ≡ requests_in script + 1 → Fit script past t → Fit script (Call i WordClose Ok ∷ past) (noted script (Call i WordClose Ok) t)
-  fit-close i at calls fit =
-      let some : 0 < t.calls = omega (arith, calls) in
-      let few = few-requests fit in
+  pub fit-close : (i : ℕ) → t.calls < length script.commands → Fit script past t → Fit script (Call i WordClose Ok ∷ past) (record t { begun = None; calls = t.calls + 1; closed = true })
+  fit-close i more fit =
       record {
+        typed = fit.typed;
+        short = fit.short;
         plain = fit.plain;
         calls = grind (arith, common_steps, fit.calls);
         begun = refl;
         requests = grind (arith, common_steps, fit.requests);
-        are_calls = inr (omega (arith, calls, few), few, omega (arith, calls));
+        within = omega (arith, more);
+        few = (let l = fit.few in omega arith);
         commands = fit.commands;
-        raw = fit.raw;
+        alone = fit.alone;
         in_range = fit.in_range;
         unset = fit.unset;
         submitted = rw append-nil fit.submitted;
-        streams = fit.streams ∙ (called t.calls _ some ∙ sym (called (t.calls + 1) _ (omega arith)));
-        made = fit.made ∙ (called t.calls _ some ∙ sym (called (t.calls + 1) _ (omega arith)));
-        made_count = grind (arith, common_steps, nat_tests, fit.made_count);
-        configured = (let c = fit.configured in grind (arith, nat_tests));
-        closed = grind (arith, nat_tests);
+        streams = fit.streams;
+        made = fit.made;
+        made_count = grind (arith, common_steps, fit.made_count);
+        configured = fit.configured;
+        closed = refl;
+        bare = fit.bare;
+        first = λ j l c. fit.first j (omega (arith, l)) c;
         taken = fit.taken;
         numbers = grind (arith, common_steps, fit.numbers);
         frames = fit.frames;
@@ -397,13 +394,16 @@ module _ (script : Script) (past : List Entry) (t : Facts) where
       let long : b.0 < length t.places = rw o.places within in
       let long' : b.0 < length t.fences = rw o.fences within in
       record {
+        typed = fit.typed;
+        short = fit.short;
         plain = fit.plain;
         calls = grind (arith, common_steps, fit.calls);
         begun = fit.begun;
         requests = grind (arith, common_steps, fit.requests);
-        are_calls = fit.are_calls;
+        within = fit.within;
+        few = fit.few;
         commands = fit.commands;
-        raw = fit.raw;
+        alone = fit.alone;
         in_range = fit.in_range;
         unset = fit.unset;
         submitted = rw append-nil fit.submitted;
@@ -412,6 +412,8 @@ module _ (script : Script) (past : List Entry) (t : Facts) where
         made_count = grind (arith, common_steps, fit.made_count);
         configured = fit.configured;
         closed = fit.closed;
+        bare = λ h. absurd (let none = (fit.bare h).0 in omega (arith, none, some));
+        first = fit.first;
         taken = λ r. grind (arith, nat_tests, fit.taken r);
         numbers = grind (arith, common_steps, fit.numbers);
         frames = rw below-suc (ap (λ z. t.sent ∷ z) fit.frames);
@@ -469,13 +471,16 @@ module _ (script : Script) (past : List Entry) (t : Facts) where
       let short = short-exposure (settings_for t.items t.shutters) (fit.in_range t.shutters within) in
       let ended : t.ended ≡ t.shutters = (let a = o.ended in let b = o.one_open in omega arith) in
       record {
+        typed = fit.typed;
+        short = fit.short;
         plain = fit.plain;
         calls = grind (arith, common_steps, fit.calls);
         begun = fit.begun;
         requests = grind (arith, common_steps, fit.requests);
-        are_calls = fit.are_calls;
+        within = fit.within;
+        few = fit.few;
         commands = fit.commands;
-        raw = fit.raw;
+        alone = fit.alone;
         in_range = fit.in_range;
         unset = fit.unset;
         submitted = rw append-nil fit.submitted;
@@ -484,6 +489,8 @@ module _ (script : Script) (past : List Entry) (t : Facts) where
         made_count = grind (arith, common_steps, fit.made_count);
         configured = fit.configured;
         closed = fit.closed;
+        bare = fit.bare;
+        first = fit.first;
         taken = fit.taken;
         numbers = grind (arith, common_steps, fit.numbers);
         frames = fit.frames;
@@ -529,13 +536,16 @@ module _ (script : Script) (past : List Entry) (t : Facts) where
   fit-part k part is few some fit =
       let o = fit.order in
       record {
+        typed = fit.typed;
+        short = fit.short;
         plain = fit.plain;
         calls = grind (arith, common_steps, fit.calls);
         begun = fit.begun;
         requests = grind (arith, common_steps, fit.requests);
-        are_calls = fit.are_calls;
+        within = fit.within;
+        few = fit.few;
         commands = fit.commands;
-        raw = fit.raw;
+        alone = fit.alone;
         in_range = fit.in_range;
         unset = fit.unset;
         submitted = rw append-nil fit.submitted;
@@ -544,6 +554,8 @@ module _ (script : Script) (past : List Entry) (t : Facts) where
         made_count = grind (arith, common_steps, fit.made_count);
         configured = fit.configured;
         closed = fit.closed;
+        bare = fit.bare;
+        first = fit.first;
         taken = fit.taken;
         numbers = grind (arith, common_steps, fit.numbers);
         frames = fit.frames;
@@ -589,13 +601,16 @@ module _ (script : Script) (past : List Entry) (t : Facts) where
   fit-third part two some fit =
       let o = fit.order in
       record {
+        typed = fit.typed;
+        short = fit.short;
         plain = fit.plain;
         calls = grind (arith, common_steps, fit.calls);
         begun = fit.begun;
         requests = grind (arith, common_steps, fit.requests);
-        are_calls = fit.are_calls;
+        within = fit.within;
+        few = fit.few;
         commands = fit.commands;
-        raw = fit.raw;
+        alone = fit.alone;
         in_range = fit.in_range;
         unset = fit.unset;
         submitted = rw append-nil fit.submitted;
@@ -604,6 +619,8 @@ module _ (script : Script) (past : List Entry) (t : Facts) where
         made_count = grind (arith, common_steps, fit.made_count);
         configured = fit.configured;
         closed = fit.closed;
+        bare = fit.bare;
+        first = fit.first;
         taken = fit.taken;
         numbers = grind (arith, common_steps, fit.numbers);
         frames = fit.frames;
@@ -653,13 +670,16 @@ module _ (script : Script) (past : List Entry) (t : Facts) where
       let long : t.buffer.0 < length t.places = rw o.places within in
       let long' : t.buffer.0 < length t.fences = rw o.fences within in
       record {
+        typed = fit.typed;
+        short = fit.short;
         plain = fit.plain;
         calls = grind (arith, common_steps, fit.calls);
         begun = fit.begun;
         requests = grind (arith, common_steps, fit.requests);
-        are_calls = fit.are_calls;
+        within = fit.within;
+        few = fit.few;
         commands = fit.commands;
-        raw = fit.raw;
+        alone = fit.alone;
         in_range = fit.in_range;
         unset = fit.unset;
         submitted = rw append-nil fit.submitted;
@@ -668,6 +688,8 @@ module _ (script : Script) (past : List Entry) (t : Facts) where
         made_count = grind (arith, common_steps, fit.made_count);
         configured = fit.configured;
         closed = fit.closed;
+        bare = λ h. absurd (let none = (fit.bare h).0 in let a = o.sent in omega (arith, none, sent, a));
+        first = fit.first;
         taken = fit.taken;
         numbers = grind (arith, common_steps, fit.numbers);
         frames = fit.frames;
@@ -711,19 +733,28 @@ module _ (script : Script) (past : List Entry) (t : Facts) where
 
   -- ---- the client's buffers
 
+  -- no more fences are released than there are commands
+  pub released-within : Fit script past t → t.released ≤ length script.commands
+  released-within fit =
+      let a = fit.order.sent in let b = fit.order.shutters in let c = fit.order.returned in let d = fit.order.clients in let e = fit.few in let f = fit.within in
+      omega (arith, a, b, c, d, e, f)
+
   pub fit-release : (b : BufferId) → b.0 < 5 → slice_index_or t.places b.0 Pool ≡ Client → Fit script past t → Fit script (Release b (record { 0 = t.released }) ∷ past) (noted script (Release b (record { 0 = t.released })) t)
   fit-release b within there fit =
       let o = fit.order in
       let long : b.0 < length t.places = rw o.places within in
       let long' : b.0 < length t.fences = rw o.fences within in
       record {
+        typed = fit.typed;
+        short = fit.short;
         plain = fit.plain;
         calls = grind (arith, common_steps, fit.calls);
         begun = fit.begun;
         requests = grind (arith, common_steps, fit.requests);
-        are_calls = fit.are_calls;
+        within = fit.within;
+        few = fit.few;
         commands = fit.commands;
-        raw = fit.raw;
+        alone = fit.alone;
         in_range = fit.in_range;
         unset = fit.unset;
         submitted = rw append-nil fit.submitted;
@@ -732,6 +763,8 @@ module _ (script : Script) (past : List Entry) (t : Facts) where
         made_count = grind (arith, common_steps, fit.made_count);
         configured = fit.configured;
         closed = fit.closed;
+        bare = λ h. absurd (let home = rw ((fit.bare h).1, index-replicate 5 b.0 Pool) at there in cc);
+        first = fit.first;
         taken = fit.taken;
         numbers = grind (arith, common_steps, fit.numbers);
         frames = fit.frames;
@@ -773,18 +806,22 @@ module _ (script : Script) (past : List Entry) (t : Facts) where
         };
       }
 
-  pub fit-signal : (f : FenceNo) → f.0 < t.released → t.released ≤ 32 → Fit script past t → Fit script (Signal f ∷ past) (noted script (Signal f) t)
-  fit-signal f some few fit =
+  pub fit-signal : (f : FenceNo) → f.0 < t.released → Fit script past t → Fit script (Signal f ∷ past) (noted script (Signal f) t)
+  fit-signal f some fit =
       let o = fit.order in
+      let few = released-within fit in
       let long : f.0 < length t.signalled = rw o.signalled (omega (arith, some, few)) in
       record {
+        typed = fit.typed;
+        short = fit.short;
         plain = fit.plain;
         calls = grind (arith, common_steps, fit.calls);
         begun = fit.begun;
         requests = grind (arith, common_steps, fit.requests);
-        are_calls = fit.are_calls;
+        within = fit.within;
+        few = fit.few;
         commands = fit.commands;
-        raw = fit.raw;
+        alone = fit.alone;
         in_range = fit.in_range;
         unset = fit.unset;
         submitted = rw append-nil fit.submitted;
@@ -793,6 +830,8 @@ module _ (script : Script) (past : List Entry) (t : Facts) where
         made_count = grind (arith, common_steps, fit.made_count);
         configured = fit.configured;
         closed = fit.closed;
+        bare = fit.bare;
+        first = fit.first;
         taken = fit.taken;
         numbers = grind (arith, common_steps, fit.numbers);
         frames = fit.frames;

@@ -7,6 +7,7 @@ pub mod Frames
 pub mod Due
 pub mod Sending
 pub mod Answering
+pub mod Refusing
 pub mod Ending
 pub mod Steps
 pub mod Tabled

@@ -1,11 +1,11 @@
 -- Lemmas on lists and tests that know nothing of cameras.
-use Rattle.std.proofs.Common.{◌≡◌, ℕ, zero, suc, ◌==◌, ◌+◌, ◌<◌, ◌≤◌, Bool, true, false, ◌&&◌, List, [], ◌∷◌, None, refl, ap, arith, find, length, filter, count_by, slice_index_or, slice_set, if◌then◌else◌}
+use Rattle.std.proofs.Common.{◌≡◌, ℕ, zero, suc, ◌==◌, ◌+◌, ◌<◌, ◌≤◌, Bool, true, false, ◌&&◌, List, [], ◌∷◌, None, refl, ap, arith, find, length, filter, count_by, replicate, slice_index_or, slice_set, if◌then◌else◌}
 use Rattle.std.specs.List.{list_all}
 use Rattle.std.proofs.lemmas.Grind.{common_steps}
 use Rattle.std.proofs.lemmas.Bool.{false≢true}
 use Rattle.std.proofs.lemmas.Bool.Decides.{nat_tests}
 use native.Mathlib.Numerals.{add-one}
-use Rattle.service_core.specs.Fit.{below, when_called}
+use Rattle.service_core.specs.Fit.{below}
 
 pub and_parts : (a b : Bool) → (a && b) ≡ true → (a ≡ true) × (b ≡ true)
 and_parts true b h = (refl, h)
@@ -31,9 +31,14 @@ filter-none-below p (suc n) h = rw (h n (omega arith)) (filter-none-below p n (�
 pub below-suc : (n : ℕ) → below (n + 1) ≡ n ∷ below n
 below-suc n = rw add-one refl
 
-pub called : {T : Type 0} (n : ℕ) (xs : List T) → 0 < n → when_called n xs ≡ xs
-called zero xs l = absurd (omega arith)
-called (suc n) xs l = refl
+pub index-replicate : {T : Type 0} (n i : ℕ) (d : T) → slice_index_or (replicate n d) i d ≡ d
+index-replicate zero i d = refl
+index-replicate (suc n) zero d = refl
+index-replicate (suc n) (suc i) d = index-replicate n i d
+
+pub length-replicate : {T : Type 0} (n : ℕ) (d : T) → length (replicate n d) ≡ n
+length-replicate zero d = refl
+length-replicate (suc n) d = ap suc (length-replicate n d)
 
 module _ {T : Type 0} where
   -- what stands at place j after place i was set

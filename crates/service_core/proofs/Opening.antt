@@ -1,34 +1,36 @@
 -- The tables before the first entry.
-use Rattle.std.proofs.Common.{◌≡◌, ℕ, zero, suc, false, [], Option, None, refl, arith, inl, replicate, slice_index_or}
+use Rattle.std.proofs.Common.{◌≡◌, ℕ, ◌<◌, true, false, [], Option, None, refl, arith, length}
 use Rattle.std.proofs.lemmas.Bool.Decides.{nat_tests}
 use Rattle.std.proofs.lemmas.Grind.{common_steps}
 use Rattle.cam_types.specs.declared.number.FenceNo.{FenceNo}
 use Rattle.cam_types.specs.declared.script.Script.{Script}
+use Rattle.trace_bounds.specs.Typed.{is_typed}
 use Rattle.service_core.specs.Fit.{Fit, first_facts, no_item}
+use Rattle.service_core.proofs.Lists.{index-replicate, length-replicate}
 use Rattle.service_core.specs.declared.tables.Place.TheVariants.{Pool}
 
-index-replicate : {T : Type 0} (n i : ℕ) (d : T) → slice_index_or (replicate n d) i d ≡ d
-index-replicate zero i d = refl
-index-replicate (suc n) zero d = refl
-index-replicate (suc n) (suc i) d = index-replicate n i d
-
-pub fit-first : (script : Script) → Fit script [] first_facts
-fit-first script = record {
+pub fit-first : (script : Script) → is_typed script ≡ true → length script.commands < 4294967295 → Fit script [] (first_facts (length script.commands))
+fit-first script typed short = record {
+  typed = typed;
+  short = short;
   plain = refl;
   calls = refl;
   begun = refl;
   requests = refl;
-  are_calls = inl (refl, refl);
+  within = omega arith;
+  few = omega arith;
   commands = λ r l. absurd (omega arith);
-  raw = λ r l. absurd (omega arith);
+  alone = λ r l. absurd (omega arith);
   in_range = λ r l. absurd (omega arith);
-  unset = λ r l. index-replicate 32 r no_item;
+  unset = λ r l. index-replicate (length script.commands) r no_item;
   submitted = refl;
   streams = refl;
   made = refl;
   made_count = refl;
   configured = refl;
-  closed = grind (arith, nat_tests);
+  closed = refl;
+  bare = λ h. (refl, refl);
+  first = λ i l h. refl;
   taken = λ r. grind (arith, nat_tests);
   numbers = refl;
   frames = refl;
@@ -47,7 +49,7 @@ fit-first script = record {
   places = λ b. rw (index-replicate 5 b Pool) refl;
   away = λ b. grind (arith, nat_tests);
   fences = λ b. rw (index-replicate {T = Option FenceNo} 5 b None) refl;
-  signalled = λ f. rw (index-replicate 32 f false) refl;
+  signalled = λ f. rw (index-replicate (length script.commands) f false) refl;
   released = refl;
   next_fence = refl;
   order = record {
@@ -61,8 +63,8 @@ fit-first script = record {
     no_parts = λ e. refl;
     places = refl;
     fences = refl;
-    signalled = refl;
-    items = refl;
+    signalled = length-replicate (length script.commands) false;
+    items = length-replicate (length script.commands) no_item;
     buffer = omega arith;
     clients = refl;
     clock = omega arith;

@@ -59,9 +59,9 @@ pub goes-on : (past : List Entry) → list_all is_plain past ≡ true → is_sto
 goes-on past h = rw (begun-goes-on past h) (none-plain is_error_device past no-device-error h)
 
 no-repeat : (script : Script) (i : ℕ) (word : Word) (reply : Reply) (past : List Entry) → is_plain (Call i word reply) ≡ true → repeating script past ≡ None → repeating script (Call i word reply ∷ past) ≡ None
+no-repeat script i word (Refused c f s) past h none = none
 no-repeat script i Configure (Configured m) past h none = refl
 no-repeat script i Once (Submitted r) past h none = none
-no-repeat script i Once (Refused c f s) past h none = none
 no-repeat script i Close Ok past h none = refl
 no-repeat script i word reply past h none = absurd (false≢true h)
 

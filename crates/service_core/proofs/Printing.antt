@@ -25,7 +25,7 @@ use Rattle.trace_model.specs.Printable.{fence_fits, is_byte, is_digest, is_print
 use Rattle.service_core.specs.Fit.{one_target}
 use Rattle.service_core.proofs.Lists.{and_parts, and_from}
 
-pub small-number : (n : ℕ) → n ≤ 100000 → is_small n ≡ true
+pub small-number : (n : ℕ) → n < 4294967296 → is_small n ≡ true
 small-number n l = grind (arith, nat_tests)
 
 -- ---- digests
@@ -85,7 +85,7 @@ fence-fits b past all = after (find (names b) past) (λ e h. found-passes is_pri
 
 -- ---- parts
 
-pub part-fits : (k : ℕ) (s : Settings) (time : ℕ) → 0 < k → k ≤ 3 → range_fault s ≡ None → time ≤ 4200000000 → part_fits k (part_at k s time) ≡ true
+pub part-fits : (k : ℕ) (s : Settings) (time : ℕ) → 0 < k → k ≤ 3 → range_fault s ≡ None → time ≤ 429496730500000000 → part_fits k (part_at k s time) ≡ true
 part-fits zero s time some few range l = absurd (omega (arith, some))
 part-fits (suc zero) s time some few range l = grind (arith, nat_tests)
 part-fits (suc (suc zero)) s time some few range l = grind (arith, nat_tests)
@@ -94,20 +94,17 @@ part-fits (suc (suc (suc (suc k)))) s time some few range l = absurd (omega (ari
 
 -- ---- entries
 
-pub call-prints : (i : ℕ) (word : Word) (reply : Reply) → i ≤ 34 → reply_fits word reply ≡ true → is_printable (Call i word reply) ≡ true
+pub call-prints : (i : ℕ) (word : Word) (reply : Reply) → i < 4294967295 → reply_fits word reply ≡ true → is_printable (Call i word reply) ≡ true
 call-prints i word reply l fits = rw (small-number i (omega arith), fits) refl
 
-pub send-prints : (n : ℕ) (same : Bool) (b : BufferId) (fence : Option FenceNo) → n ≤ 32 → b.0 < 5 → fence_fits fence ≡ true → is_printable (Send (record { 0 = n }) (record { 0 = n }) 0 same (one_target (record { stream = record { 0 = 0 }; buffer = b; fence = fence }))) ≡ true
+pub send-prints : (n : ℕ) (same : Bool) (b : BufferId) (fence : Option FenceNo) → n < 4294967295 → b.0 < 5 → fence_fits fence ≡ true → is_printable (Send (record { 0 = n }) (record { 0 = n }) 0 same (one_target (record { stream = record { 0 = 0 }; buffer = b; fence = fence }))) ≡ true
 send-prints n same b fence few within fits = rw (small-number n (omega arith), small-number b.0 (omega arith), fits) refl
 
-pub shutter-prints : (n time : ℕ) → n ≤ 32 → time ≤ 4200000000 → is_printable (Shutter (record { 0 = n }) time) ≡ true
+pub shutter-prints : (n time : ℕ) → n < 4294967295 → time ≤ 429496730500000000 → is_printable (Shutter (record { 0 = n }) time) ≡ true
 shutter-prints n time few early = let fits : nat_lt time (2 ^ 64) ≡ true = grind (arith, nat_tests) in rw (small-number n (omega arith), fits) refl
 
-pub filled-prints : (n : ℕ) (b : BufferId) (spec : StreamSpec) (s : Settings) (m : ℕ) → n ≤ 32 → b.0 < 5 → is_printable (Filled (record { 0 = n }) (record { 0 = 0 }) b None (digest spec s m)) ≡ true
+pub filled-prints : (n : ℕ) (b : BufferId) (spec : StreamSpec) (s : Settings) (m : ℕ) → n < 4294967295 → b.0 < 5 → is_printable (Filled (record { 0 = n }) (record { 0 = 0 }) b None (digest spec s m)) ≡ true
 filled-prints n b spec s m few within = rw (small-number n (omega arith), small-number b.0 (omega arith), digest-fits spec s m) refl
 
-pub release-prints : (b : BufferId) (f : ℕ) → b.0 < 5 → f ≤ 32 → is_printable (Release b (record { 0 = f })) ≡ true
+pub release-prints : (b : BufferId) (f : ℕ) → b.0 < 5 → f < 4294967295 → is_printable (Release b (record { 0 = f })) ≡ true
 release-prints b f within few = rw (small-number b.0 (omega arith), small-number f (omega arith)) refl
-
-pub refused-prints : (i tag : ℕ) → i ≤ 34 → tag ≤ 2147483651 → is_printable (Call i WordOnce (Refused 8 (Some 0) (Some tag))) ≡ true
-refused-prints i tag l small = let fits : is_small tag ≡ true = grind (arith, nat_tests) in rw (small-number i (omega arith), fits) refl

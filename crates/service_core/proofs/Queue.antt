@@ -1,5 +1,5 @@
 -- The queue of a raw script: the requests that were accepted and not sent.
-use Rattle.std.proofs.Common.{◌≡◌, ℕ, zero, suc, ◌+◌, ◌<◌, ◌≤◌, Bool, true, false, not, List, [], ◌∷◌, ◌++◌, Some, None, refl, ap, ◌∙◌, arith, inl, inr, nat_lt, length, filter, length-append, if◌then◌else◌}
+use Rattle.std.proofs.Common.{◌≡◌, ℕ, zero, suc, ◌+◌, ◌-◌, ◌<◌, ◌≤◌, Bool, true, false, not, List, [], ◌∷◌, ◌++◌, Some, None, refl, ap, ◌∙◌, arith, inl, inr, nat_lt, length, filter, length-append, if◌then◌else◌}
 use Rattle.std.proofs.lemmas.List.Elements.{filter-append}
 use Rattle.std.proofs.lemmas.Bool.{cases_lt, cases_eq}
 use Rattle.std.proofs.lemmas.Bool.Decides.{nat_tests}
@@ -8,7 +8,6 @@ use Rattle.trace_model.specs.declared.entry.Entry.{Entry}
 use Rattle.trace_model.specs.Client.{is_empty}
 use Rattle.trace_model.specs.Queue.{Waiting, first_in, is_taken, next, queued}
 use Rattle.service_core.specs.Fit.{Facts, Fit, item_for, requests_to}
-use Rattle.service_core.proofs.FitSteps.{few-requests}
 use Rattle.service_core.proofs.Plain.{nothing-repeats}
 use Rattle.service_core.proofs.RawLemmas.{IsRaw}
 
@@ -45,15 +44,14 @@ first-kept script past t (suc r) fit l = elim (cases_eq t.sent r) [
   | inr ne ↦ rw (one-more script past t r fit) (first-front _ _ _ (first-kept script past t r fit (omega arith)))
 ]
 
-few-kept : (script : Script) (past : List Entry) (t : Facts) (r : ℕ) → Fit script past t → length (kept t past r) ≤ r
-few-kept script past t zero fit = omega arith
-few-kept script past t (suc r) fit =
-    let ih = few-kept script past t r fit in
-    rw (one-more script past t r fit, length-append) (more (nat_lt r t.sent) ih)
-  where
-    more : (b : Bool) → length (kept t past r) ≤ r → length (kept t past r) + length (if b then [] else waiting t r ∷ []) ≤ suc r
-    more true h = omega arith
-    more false h = omega arith
+kept-length : (script : Script) (past : List Entry) (t : Facts) (r : ℕ) → Fit script past t → length (kept t past r) ≡ r - t.sent
+kept-length script past t zero fit = omega arith
+kept-length script past t (suc r) fit =
+    let ih = kept-length script past t r fit in
+    rw (one-more script past t r fit, length-append) (elim (cases_lt r t.sent) [
+      | inl l ↦ (let taken : nat_lt r t.sent ≡ true = grind (arith, nat_tests) in rw taken (omega (arith, ih, l)))
+      | inr m ↦ (let waits : nat_lt r t.sent ≡ false = grind (arith, nat_tests) in rw waits (omega (arith, ih, m)))
+    ])
 
 module _ (script : Script) (past : List Entry) (t : Facts) (raw : IsRaw script) (fit : Fit script past t) where
   kept-is : queued script past ≡ kept t past t.requests
@@ -65,12 +63,8 @@ module _ (script : Script) (past : List Entry) (t : Facts) (raw : IsRaw script) 
   pub queue-first : t.sent < t.requests → first_in (queued script past) ≡ Some (waiting t t.sent)
   queue-first l = rw kept-is (first-kept script past t t.requests fit l)
 
-  pub queue-short : length (queued script past) ≤ 32
-  queue-short =
-      let few = few-requests script past t fit in
-      let short = few-kept script past t t.requests fit in
-      let all = raw.few in
-      rw kept-is (omega (arith, short, few, all))
+  pub queue-length : length (queued script past) ≡ t.requests - t.sent
+  queue-length = rw kept-is (kept-length script past t t.requests fit)
 
   pub next-is : t.sent < t.requests → next script past ≡ Some (record { request = t.sent; index = 0; item = item_for t.items t.sent; repeats = false })
   next-is l = rw (queue-first l) refl

@@ -1,32 +1,32 @@
--- What holds of the commands of a raw script.
-use Rattle.std.proofs.Common.{◌≡◌, ℕ, zero, suc, ◌==◌, ◌+◌, ◌-◌, ◌<◌, ◌≤◌, true, false, ◌&&◌, not, List, [], ◌∷◌, Some, None, refl, ap, arith, nat_le, length, take, slice_get, slice_index_or}
-use Rattle.std.proofs.lemmas.Bool.{false≢true}
+-- What holds of the commands of a raw script, and of an item that isn't refused.
+use Rattle.std.proofs.Common.{◌≡◌, ℕ, zero, suc, ◌==◌, ◌+◌, ◌<◌, ◌≤◌, Bool, true, false, ◌&&◌, not, List, [], ◌∷◌, Option, Some, None, refl, sym, ap, ◌∙◌, arith, inl, inr, nat_le, nat_lt, find, length, count_by, slice_get, if◌then◌else◌}
+use Rattle.std.specs.List.{list_all}
+use Rattle.std.proofs.lemmas.Bool.{cases_Bool, false≢true}
 use Rattle.std.proofs.lemmas.Bool.Decides.{nat_tests}
-use native.Mathlib.Numerals.{add-one}
 use Rattle.cam_types.specs.Metadata.{range_fault}
 use Rattle.cam_types.specs.declared.item.Item.{Item}
 use Rattle.cam_types.specs.declared.item.Settings.{Settings}
+use Rattle.cam_types.specs.declared.reply.Reply.{Reply}
 use Rattle.cam_types.specs.declared.script.Command.{Command}
-use Rattle.cam_types.specs.declared.script.Command.TheVariants.{Configure, Once, Close}
 use Rattle.cam_types.specs.declared.script.Script.{Script}
 use Rattle.cam_types.specs.declared.stream.Format.{Format}
 use Rattle.cam_types.specs.declared.stream.Format.TheVariants.{Raw16, Yuv, Other}
 use Rattle.cam_types.specs.declared.stream.StreamSpec.{StreamSpec}
 use Rattle.trace_model.specs.Calls.{command_at}
-use Rattle.trace_model.specs.Reply.{is_raw}
-use Rattle.service_core.specs.Fit.{raw_spec}
-use Rattle.service_core.specs.RawScripts.{is_raw_spec, is_raw_alone, is_raw_item, are_requests, are_raw_commands, is_raw_script, requests_in}
+use Rattle.trace_model.specs.Reply.{first_repeated, is_configure, is_raw, item_refusal, or_else, targets_refusal, with_value}
+use Rattle.trace_bounds.proofs.Counts.{count-cons}
+use Rattle.trace_bounds.proofs.NextFits.{at-all}
+use Rattle.service_core.specs.Fit.{asked, configures_at, configures_if_any, raw_spec}
+use Rattle.service_core.specs.RawScripts.{is_raw_spec, is_raw_alone, is_raw_command, are_raw_commands, is_raw_script}
 use Rattle.service_core.proofs.Lists.{and_parts}
 
 -- what it means that a script is a raw one
 pub record IsRaw (script : Script) : Type 0 where
   pub faults : script.faults ≡ []
   pub picks : script.picks ≡ []
-  pub size : length script.commands ≡ requests_in script + 2
-  pub few : requests_in script ≤ 32
-  pub configure : command_at script 0 ≡ Some (Configure (raw_spec ∷ []))
-  pub once : (r : ℕ) → r < requests_in script → (item : Item) × (command_at script (suc r) ≡ Some (Once item)) × (is_raw_item item ≡ true)
-  pub close : command_at script (requests_in script + 1) ≡ Some Close
+  pub known : (i : ℕ) (c : Command) → command_at script i ≡ Some c → is_raw_command c ≡ true
+  -- no two places have a configure
+  pub one : (i j : ℕ) → configures_at script i ≡ true → configures_at script j ≡ true → i ≡ j
 
 empty : {T : Type 0} (xs : List T) → (length xs == 0) ≡ true → xs ≡ []
 empty [] h = refl
@@ -49,85 +49,96 @@ spec-is spec h =
     format-is Yuv h = absurd (false≢true h)
     format-is (Other n) h = absurd (false≢true h)
 
-specs-are : (specs : List StreamSpec) → is_raw_alone specs ≡ true → specs ≡ raw_spec ∷ []
+-- a configure of the form is of the one stream
+pub specs-are : (specs : List StreamSpec) → is_raw_alone specs ≡ true → specs ≡ raw_spec ∷ []
 specs-are [] h = absurd (false≢true h)
 specs-are (spec ∷ []) h = ap (λ s. s ∷ []) (spec-is spec h)
 specs-are (spec ∷ (other ∷ specs)) h = absurd (false≢true h)
 
--- the commands behind the configure
-pub record AreRequests (commands : List Command) : Type 0 where
-  pub some : 0 < length commands
-  pub once : (r : ℕ) → r + 1 < length commands → (item : Item) × (slice_get commands r ≡ Some (Once item)) × (is_raw_item item ≡ true)
-  pub close : slice_get commands (length commands - 1) ≡ Some Close
+-- ---- the one configure
 
-behind-once : (item : Item) (commands : List Command) → is_raw_item item ≡ true → AreRequests commands → AreRequests (Once item ∷ commands)
-behind-once item commands raw rest = record {
-  some = omega arith;
-  once = λ r l. at r l;
-  close = let e : length (Once item ∷ commands) - 1 ≡ suc (length commands - 1) = omega (arith, rest.some) in rw e rest.close;
-}
+-- a command that doesn't configure leaves the count, and one that does raises it
+count-without : (c : Command) (cs : List Command) → is_configure c ≡ false → count_by is_configure (c ∷ cs) ≡ count_by is_configure cs
+count-without c cs h = count-cons is_configure c cs ∙ rw h (omega arith)
+
+count-with : (c : Command) (cs : List Command) → is_configure c ≡ true → count_by is_configure (c ∷ cs) ≡ 1 + count_by is_configure cs
+count-with c cs h = count-cons is_configure c cs ∙ rw h refl
+
+none-there : (cs : List Command) (i : ℕ) → count_by is_configure cs ≡ 0 → configures_if_any (slice_get cs i) ≡ false
+none-there [] i h = refl
+none-there (c ∷ cs) i h = elim (cases_Bool (is_configure c)) [
+  | inl y ↦ absurd (let e = count-with c cs y in omega (arith, e, h))
+  | inr n ↦ at i n (none-there cs) (let e = count-without c cs n in omega (arith, e, h))
+]
   where
-    at : (r : ℕ) → r + 1 < length (Once item ∷ commands) → (i : Item) × (slice_get (Once item ∷ commands) r ≡ Some (Once i)) × (is_raw_item i ≡ true)
-    at zero l = (item, refl, raw)
-    at (suc r) l = rest.once r (omega arith)
+    at : (i : ℕ) → is_configure c ≡ false → ((j : ℕ) → count_by is_configure cs ≡ 0 → configures_if_any (slice_get cs j) ≡ false) → count_by is_configure cs ≡ 0 → configures_if_any (slice_get (c ∷ cs) i) ≡ false
+    at zero n rest h = n
+    at (suc j) n rest h = rest j h
 
-requests-are : (commands : List Command) → are_requests commands ≡ true → AreRequests commands
-requests-are [] h = absurd (false≢true h)
-requests-are (Once item ∷ commands) h =
-    let parts = and_parts (is_raw_item item) (are_requests commands) h in behind-once item commands parts.0 (requests-are commands parts.1)
-requests-are (Close ∷ []) h = record { some = omega arith; once = λ r l. absurd (omega arith); close = refl }
-requests-are (Close ∷ (_ ∷ _)) h = absurd (false≢true h)
-requests-are (_ ∷ _) h = absurd (false≢true h)
+fewer : (c : Command) (cs : List Command) → count_by is_configure (c ∷ cs) ≤ 1 → count_by is_configure cs ≤ 1
+fewer c cs few = elim (cases_Bool (is_configure c)) [
+  | inl y ↦ (let e = count-with c cs y in omega (arith, e, few))
+  | inr n ↦ (let e = count-without c cs n in omega (arith, e, few))
+]
 
-raw-behind : (script : Script) (specs : List StreamSpec) (commands : List Command) → script.faults ≡ [] → script.picks ≡ [] → script.commands ≡ Configure specs ∷ commands → specs ≡ raw_spec ∷ [] → AreRequests commands → nat_le (length commands) 33 ≡ true → IsRaw script
-raw-behind script specs commands faults picks all one rest few =
-    let some = rest.some in
-    let few' : length commands ≤ 33 = grind (arith, nat_tests) in
-    let size : length script.commands ≡ length commands + 1 = rw all (omega arith) in
-    let k : requests_in script ≡ length commands - 1 = omega (arith, size) in
-    record {
-      faults = faults;
-      picks = picks;
-      size = omega (arith, size, some, k);
-      few = omega (arith, k, few', some);
-      configure = rw (all, one) refl;
-      once = λ r l. at r (omega (arith, k, some, l));
-      close = rw (k, all, add-one) rest.close;
-    }
-  where
-    at : (r : ℕ) → r + 1 < length commands → (item : Item) × (command_at script (suc r) ≡ Some (Once item)) × (is_raw_item item ≡ true)
-    at r l = let c = rest.once r l in (c.0, rw all c.1, c.2)
+none-behind : (c : Command) (cs : List Command) → count_by is_configure (c ∷ cs) ≤ 1 → is_configure c ≡ true → count_by is_configure cs ≡ 0
+none-behind c cs few y = let e = count-with c cs y in omega (arith, e, few)
+
+only-place : (cs : List Command) (i j : ℕ) → count_by is_configure cs ≤ 1 → configures_if_any (slice_get cs i) ≡ true → configures_if_any (slice_get cs j) ≡ true → i ≡ j
+only-place [] i j few a b = absurd (false≢true a)
+only-place (c ∷ cs) zero zero few a b = refl
+only-place (c ∷ cs) zero (suc j) few a b = absurd (false≢true (sym (none-there cs j (none-behind c cs few a)) ∙ b))
+only-place (c ∷ cs) (suc i) zero few a b = absurd (false≢true (sym (none-there cs i (none-behind c cs few b)) ∙ a))
+only-place (c ∷ cs) (suc i) (suc j) few a b = ap suc (only-place cs i j (fewer c cs few) a b)
 
 pub raw : (script : Script) → is_raw_script script ≡ true → IsRaw script
 raw script h =
     let parts = and_parts (length script.faults == 0) ((length script.picks == 0) && are_raw_commands script.commands) h in
     let parts' = and_parts (length script.picks == 0) (are_raw_commands script.commands) parts.1 in
-    behind script.commands refl (empty script.faults parts.0) (empty script.picks parts'.0) parts'.1
+    let commands = and_parts (list_all is_raw_command script.commands) (nat_le (count_by is_configure script.commands) 1) parts'.1 in
+    let few : count_by is_configure script.commands ≤ 1 = at-most-one (count_by is_configure script.commands) commands.1 in
+    record {
+      faults = empty script.faults parts.0;
+      picks = empty script.picks parts'.0;
+      known = λ i c at. at-all is_raw_command script.commands i c commands.0 at;
+      one = λ i j a b. only-place script.commands i j few a b;
+    }
   where
-    behind : (commands : List Command) → script.commands ≡ commands → script.faults ≡ [] → script.picks ≡ [] → are_raw_commands commands ≡ true → IsRaw script
-    behind [] e faults picks h = absurd (false≢true h)
-    behind (Configure specs ∷ commands) e faults picks h =
-        let parts = and_parts (is_raw_alone specs) (nat_le (length commands) 33 && are_requests commands) h in
-        let rest = and_parts (nat_le (length commands) 33) (are_requests commands) parts.1 in
-        raw-behind script specs commands faults picks e (specs-are specs parts.0) (requests-are commands rest.1) rest.0
-    behind (_ ∷ _) e faults picks h = absurd (false≢true h)
+    at-most-one : (n : ℕ) → nat_le n 1 ≡ true → n ≤ 1
+    at-most-one n h = grind (arith, nat_tests)
 
 -- ---- an item
 
-alone : (xs : List ℕ) → slice_index_or xs 0 1 ≡ 0 → take 1 xs ≡ 0 ∷ []
-alone [] h = absurd (omega (arith, h))
-alone (x ∷ xs) h = rw h refl
+or-none : (a b : Option Reply) → or_else a b ≡ None → (a ≡ None) × (b ≡ None)
+or-none (Some r) b h = absurd (cc)
+or-none None b h = (refl, h)
 
-pub targets-are : (item : Item) → is_raw_item item ≡ true → take item.targets.count item.targets.list ≡ 0 ∷ []
-targets-are item h =
-    let targets = and_parts (item.targets.count == 1) (slice_index_or item.targets.list 0 1 == 0) h in
-    let one : item.targets.count ≡ 1 = grind (arith, nat_tests) in
-    let zero' : slice_index_or item.targets.list 0 1 ≡ 0 = grind (arith, nat_tests) in
-    rw one (alone item.targets.list zero')
+value-none : (code i : ℕ) (o : Option ℕ) → with_value code i o ≡ None → o ≡ None
+value-none code i (Some v) h = absurd (cc)
+value-none code i None h = refl
 
--- the tags of settings fit their fields
-pub small-tag : (s : Settings) (tag : ℕ) → range_fault s ≡ Some tag → tag ≤ 2147483651
-small-tag s tag h = grind (arith, nat_tests)
+only-first : (ts : List ℕ) → targets_refusal 1 0 ts ≡ None → ts ≡ 0 ∷ []
+only-first [] h = absurd (cc)
+only-first (zero ∷ []) h = refl
+only-first (zero ∷ (zero ∷ ts)) h =
+    let parts = or-none (with_value 6 0 (find (λ t. not (nat_lt t 1)) (0 ∷ (0 ∷ ts)))) (with_value 7 0 (first_repeated [] (0 ∷ (0 ∷ ts)))) h in
+    absurd (let none = value-none 7 0 (first_repeated [] (0 ∷ (0 ∷ ts))) parts.1 in cc)
+only-first (zero ∷ (suc t ∷ ts)) h =
+    let parts = or-none (with_value 6 0 (find (λ t. not (nat_lt t 1)) (0 ∷ (suc t ∷ ts)))) (with_value 7 0 (first_repeated [] (0 ∷ (suc t ∷ ts)))) h in
+    let none = value-none 6 0 (find (λ t. not (nat_lt t 1)) (0 ∷ (suc t ∷ ts))) parts.0 in
+    let unknown : nat_lt (suc t) 1 ≡ false = grind (arith, nat_tests) in
+    absurd (let none' = rw unknown at none in cc)
+only-first (suc t ∷ ts) h =
+    let parts = or-none (with_value 6 0 (find (λ t. not (nat_lt t 1)) (suc t ∷ ts))) (with_value 7 0 (first_repeated [] (suc t ∷ ts))) h in
+    let none = value-none 6 0 (find (λ t. not (nat_lt t 1)) (suc t ∷ ts)) parts.0 in
+    let unknown : nat_lt (suc t) 1 ≡ false = grind (arith, nat_tests) in
+    absurd (let none' = rw unknown at none in cc)
+
+-- an item that isn't refused asks for stream 0 alone, with settings in their ranges
+pub not-refused : (item : Item) → item_refusal 1 0 item ≡ None → (asked item ≡ 0 ∷ []) × (range_fault item.settings ≡ None)
+not-refused item h =
+    let parts = or-none (targets_refusal 1 0 (asked item)) (with_value 8 0 (range_fault item.settings)) h in
+    (only-first (asked item) parts.0, value-none 8 0 (range_fault item.settings) parts.1)
 
 pub short-exposure : (s : Settings) → range_fault s ≡ None → s.exposure ≤ 100000000
 short-exposure s h = grind (arith, nat_tests)

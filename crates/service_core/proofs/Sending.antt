@@ -21,12 +21,11 @@ use Rattle.service_core.specs.First.{entry_of}
 use Rattle.service_core.specs.Ready.{where_entry}
 use Rattle.service_core.specs.declared.step.StepName.TheVariants.{Send as SendStep}
 use Rattle.service_core.specs.Fit.{Facts, Fit, as_place, item_for, settings_for, one_target, raw_made, raw_spec, settings_before}
-use Rattle.service_core.proofs.Due.{some-called}
+use Rattle.service_core.proofs.Due.{stands}
 use Rattle.service_core.proofs.Frames.{quiet-yes, quiet-no, none-open}
-use Rattle.service_core.proofs.Lists.{called}
 use Rattle.service_core.proofs.Plain.{goes-on}
 use Rattle.service_core.proofs.Queue.{next-is, next-none}
-use Rattle.service_core.proofs.RawLemmas.{IsRaw, targets-are}
+use Rattle.service_core.proofs.RawLemmas.{IsRaw}
 use Rattle.service_core.specs.Due.{is_pool, sent_with}
 
 pub pool-place : (p : Place) → is_at (as_place p) in_trace.Pool ≡ is_pool p
@@ -49,23 +48,23 @@ find-range p q xs d h =
     find-from p q xs 0 d at ∙ sym (position_from-zero p xs)
 
 module _ (script : Script) (past : List Entry) (t : Facts) (raw : IsRaw script) (fit : Fit script past t) where
-  buffers-are : 0 < t.calls → buffers_of past 0 ≡ range_with_len 0 5
-  buffers-are l = rw (fit.made, called t.calls (raw_made ∷ []) l) refl
+  buffers-are : t.configured ≡ true → buffers_of past 0 ≡ range_with_len 0 5
+  buffers-are l = rw (fit.made, l) refl
 
   none-away : t.returned ≡ t.sent → (bs : List ℕ) → filter (λ b. is_at (place b past) in_trace.Device) bs ≡ []
   none-away e [] = refl
   none-away e (b ∷ bs) = (let away = fit.away b in let no' : is_at (place b past) in_trace.Device ≡ false = grind (arith, nat_tests) in rw no' (none-away e bs))
 
   streams-of : t.sent < t.requests → targets_in_order (item_for t.items t.sent) ≡ 0 ∷ []
-  streams-of l = rw (targets-are (item_for t.items t.sent) (fit.raw t.sent l)) refl
+  streams-of l = rw (fit.alone t.sent l) refl
 
   goes : t.ended ≡ t.sent → t.returned ≡ t.sent → t.sent < t.requests → may_go script past (record { request = t.sent; index = 0; item = item_for t.items t.sent; repeats = false }) ≡ true
   goes e r l =
-      rw (goes-on past fit.plain, streams-of l, none-open script past t fit e r, none-away r (buffers_of past 0), fit.streams, called t.calls (raw_spec ∷ []) (some-called script past t raw fit (omega (arith, l)))) refl
+      rw (goes-on past fit.plain, streams-of l, none-open script past t fit e r, none-away r (buffers_of past 0), fit.streams, stands script past t raw fit (omega (arith, l))) refl
 
   pub send-yes : t.ended ≡ t.sent → t.returned ≡ t.sent → t.sent < t.requests → entry_of script past SendStep ≡ sent_with t (position is_pool t.places)
   send-yes e r l =
-      let some = some-called script past t raw fit (omega (arith, l)) in
+      let some = stands script past t raw fit (omega (arith, l)) in
       let least : find (λ b. is_at (place b past) in_trace.Pool) (range_with_len 0 5) ≡ position is_pool t.places = ap (λ (n : ℕ). find (λ b. is_at (place b past) in_trace.Pool) (range_with_len 0 n)) (sym fit.order.places) ∙ (find-range is_pool (λ b. is_at (place b past) in_trace.Pool) t.places Pool (λ i _. (rw (fit.places i) (pool-place (slice_index_or t.places i Pool))))) in
       rw (quiet-yes script past t fit e r, next-is script past t raw fit l, goes e r l, streams-of l, buffers-are some, least) (with-least (position is_pool t.places))
     where
@@ -96,7 +95,7 @@ module _ (script : Script) (past : List Entry) (t : Facts) (raw : IsRaw script) 
 
   pub send-allowed : (b : BufferId) → t.ended ≡ t.sent → t.returned ≡ t.sent → t.sent < t.requests → b.0 < 5 → slice_index_or t.places b.0 Pool ≡ Pool → IsAllowed script past (Send (record { 0 = t.sent }) (record { 0 = t.sent }) 0 (are_last (settings_before t.items t.sent) (settings_for t.items t.sent)) (one_target (record { stream = record { 0 = 0 }; buffer = b; fence = slice_index_or t.fences b.0 None })))
   send-allowed b e r l within home =
-      let some = some-called script past t raw fit (omega (arith, l)) in
+      let some = stands script past t raw fit (omega (arith, l)) in
       let one : (t.sent == t.sent) ≡ true = grind (arith, nat_tests) in
       let at : is_at (place b.0 past) in_trace.Pool ≡ true = rw (fit.places b.0, home) refl in
       let mark : mark_of script past (settings_for t.items t.sent) ≡ are_last (settings_before t.items t.sent) (settings_for t.items t.sent) = rw fit.settings refl in

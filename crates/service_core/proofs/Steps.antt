@@ -1,5 +1,5 @@
 -- An entry that a step adds is allowed, and leaves the tables in order.
-use Rattle.std.proofs.Common.{◌≡◌, ℕ, ◌==◌, ◌+◌, ◌<◌, ◌≤◌, Bool, true, false, ◌&&◌, not, List, ◌∷◌, Option, Some, None, refl, sym, ap, ◌∙◌, arith, inl, inr, nat_lt, position, slice_index_or, is_some, if◌then◌else◌}
+use Rattle.std.proofs.Common.{◌≡◌, ℕ, ◌==◌, ◌+◌, ◌<◌, ◌≤◌, Bool, true, false, ◌&&◌, ◌||◌, not, List, [], ◌∷◌, Option, Some, None, refl, sym, ap, ◌∙◌, arith, inl, inr, nat_lt, length, position, slice_index_or, is_some, if◌then◌else◌}
 use Rattle.std.proofs.lemmas.Bool.{cases_Bool, cases_lt, cases_eq, false≢true}
 use Rattle.std.proofs.lemmas.Bool.Decides.{nat_tests}
 use Rattle.std.proofs.lemmas.List.Quantifiers.{position-Some}
@@ -10,7 +10,7 @@ use Rattle.cam_types.specs.declared.script.Word.{Word}
 use Rattle.trace_model.specs.declared.entry.Entry.{Entry}
 use Rattle.trace_model.specs.declared.entry.Entry.TheVariants as trace
 use Rattle.trace_model.specs.Allowed.{IsAllowed}
-use Rattle.trace_model.specs.Calls.{begun, is_waiting, next_command, word_of}
+use Rattle.trace_model.specs.Calls.{begun, command_at, is_waiting, next_command, word_of}
 use Rattle.trace_model.specs.Client.{begin_due, begin_of, call_due, call_of, may_answer}
 use Rattle.trace_model.specs.Filled.{filled_due}
 use Rattle.trace_model.specs.Frames.{no_settings}
@@ -18,10 +18,10 @@ use Rattle.trace_model.specs.Numbers.{call_count}
 use Rattle.trace_model.specs.Partial.{partial_due}
 use Rattle.trace_model.specs.Picture.{digest}
 use Rattle.trace_model.specs.Printable.{is_printable}
-use Rattle.trace_model.specs.Reply.{reply}
+use Rattle.trace_model.specs.Reply.{refused, reply}
 use Rattle.std.specs.List.{list_all}
 use Rattle.cam_types.specs.declared.script.Word.TheVariants.{Once as WordOnce}
-use Rattle.service_core.proofs.Printing.{call-prints, fence-fits, filled-prints, part-fits, refused-prints, release-prints, send-prints, shutter-prints, small-number}
+use Rattle.service_core.proofs.Printing.{call-prints, fence-fits, filled-prints, part-fits, release-prints, send-prints, shutter-prints, small-number}
 use Rattle.trace_model.specs.Send.{are_last}
 use Rattle.cam_types.specs.Metadata.{part_at, range_fault}
 use Rattle.cam_types.specs.declared.item.Item.{Item}
@@ -30,6 +30,7 @@ use Rattle.cam_types.specs.declared.part.Part.{Part}
 use Rattle.cam_types.specs.declared.reply.Reply.{Reply}
 use Rattle.cam_types.specs.declared.reply.Reply.TheVariants.{Ok, Submitted, Configured, Refused}
 use Rattle.cam_types.specs.declared.script.Command.{Command}
+use Rattle.cam_types.specs.declared.script.Command.TheVariants.{Configure, Once, Close}
 use Rattle.cam_types.specs.declared.script.Word.TheVariants.{Configure as WordConfigure, Close as WordClose}
 use Rattle.service_core.specs.declared.step.StepName.{StepName}
 use Rattle.service_core.specs.declared.step.StepName.TheVariants.{Send, Release, Signal, Client, Shutter, Partial, Deliver}
@@ -38,13 +39,16 @@ use Rattle.service_core.specs.declared.tables.Place.TheVariants.{Pool, Device, C
 use Rattle.service_core.specs.First.{entry_of}
 use Rattle.service_core.specs.Ready.{or_entry}
 use Rattle.service_core.specs.Fit.{Facts, Fit, IsSmall, is_client, item_for, settings_for, noted, once_item, raw_made, raw_spec, settings_before}
-use Rattle.service_core.specs.RawScripts.{requests_in}
-use Rattle.service_core.specs.Due.{is_pool, is_home, passed}
-use Rattle.service_core.proofs.Answering.{AtRequest, Stage, stage, client-configure-begin, client-configure-call, client-once, client-close-begin, client-close-call, client-close-wait, client-end}
+use Rattle.service_core.specs.Due.{client_of, close_reply, configure_reply, is_home, is_pool, once_reply, passed}
+use Rattle.service_core.proofs.Answering.{client-is, is-first}
+use Rattle.service_core.proofs.Refusing.{IsRefused, once-kind}
+use Rattle.trace_bounds.specs.Typed.{command_typed}
+use Rattle.trace_bounds.proofs.Counts.{place-within}
+use Rattle.trace_bounds.proofs.NextFits.{at-all}
 use Rattle.service_core.proofs.Due.{release-is, signal-is, shutter-yes, shutter-no, partial-yes, partial-no, filled-yes, filled-no}
-use Rattle.service_core.proofs.FitSteps.{few-requests, fit-begin, fit-configure, fit-once, fit-close, fit-refused, requests-room, fit-send, fit-shutter, fit-part, fit-third, fit-filled, fit-release, fit-signal}
+use Rattle.service_core.proofs.FitSteps.{fit-begin, fit-configure, fit-once, fit-close, fit-refused, fit-send, fit-shutter, fit-part, fit-third, fit-filled, fit-release, fit-signal}
 use Rattle.service_core.proofs.Lists.{and_parts, index-within}
-use Rattle.service_core.proofs.RawLemmas.{IsRaw, short-exposure, small-tag}
+use Rattle.service_core.proofs.RawLemmas.{IsRaw, short-exposure, specs-are}
 use Rattle.service_core.proofs.Sending.{send-yes, send-busy, send-none, send-allowed}
 
 if-some : (b : Bool) (x e : Entry) → (if b then Some x else None) ≡ Some e → (b ≡ true) × (x ≡ e)
@@ -68,9 +72,10 @@ module _ (script : Script) (past : List Entry) (t : Facts) (raw : IsRaw script) 
   -- the tables' numbers are small
   pub small : IsSmall t
   small =
-      let few = few-requests script past t fit in
+      let few = fit.few in
       let o = fit.order in
-      let all = raw.few in
+      let within = fit.within in
+      let short = fit.short in
       let a = o.sent in
       let b = o.shutters in
       let c = o.ended in
@@ -78,29 +83,25 @@ module _ (script : Script) (past : List Entry) (t : Facts) (raw : IsRaw script) 
       let f = o.clients in
       let g = o.slow in
       record {
-        calls = called (requests_in script) t.calls t.requests all fit.are_calls;
-        requests = omega (arith, few, all);
-        sent = omega (arith, a, few, all);
-        shutters = omega (arith, a, b, few, all);
-        ended = omega (arith, a, b, c, few, all);
-        returned = omega (arith, a, b, d, few, all);
-        released = omega (arith, a, b, d, f, few, all);
+        calls = omega (arith, within, short);
+        requests = omega (arith, few, within, short);
+        sent = omega (arith, a, few, within, short);
+        shutters = omega (arith, a, b, few, within, short);
+        ended = omega (arith, a, b, c, few, within, short);
+        returned = omega (arith, a, b, d, few, within, short);
+        released = omega (arith, a, b, d, f, few, within, short);
         parts = o.parts;
-        next_time = omega (arith, a, b, g, few, all);
+        next_time = omega (arith, a, b, g, few, within, short);
         exposure = exposure';
       }
     where
-      called : (k calls requests : ℕ) → k ≤ 32 → Rattle.service_core.specs.Fit.AreCalls k calls requests → calls ≤ 34
-      called k calls requests l (inl c) = omega (arith, c.0)
-      called k calls requests l (inr c) = omega (arith, c.2, l)
-
       exposure' : (settings_for t.items t.shutters).exposure ≤ 100000000
       exposure' = elim (cases_lt t.shutters t.requests) [
         | inl less ↦ short-exposure (settings_for t.items t.shutters) (fit.in_range t.shutters less)
         | inr more ↦ (let none : settings_for t.items t.shutters ≡ no_settings = ap (λ (x : Item). x.settings) (fit.unset t.shutters more) in rw none (omega arith))
       ]
 
-  small-time : t.time ≤ 4200000000
+  small-time : t.time ≤ 429496730500000000
   small-time = let a = small.next_time in let b = fit.order.clock in omega arith
 
   -- the entry is allowed, the tables stay in order, and it has a line
@@ -121,7 +122,7 @@ module _ (script : Script) (past : List Entry) (t : Facts) (raw : IsRaw script) 
   step-signal f e h =
       let due = if-some (nat_lt f.0 t.released && not (slice_index_or t.signalled f.0 false)) _ e (sym (signal-is script past t fit f) ∙ h) in
       let l : f.0 < t.released = (let p = and_parts (nat_lt f.0 t.released) (not (slice_index_or t.signalled f.0 false)) due.0 in grind (arith, nat_tests)) in
-      rw (← due.1) (h ∙ ap Some (sym due.1), fit-signal script past t f l small.released fit, small-number f.0 (let few = small.released in omega arith))
+      rw (← due.1) (h ∙ ap Some (sym due.1), fit-signal script past t f l fit, small-number f.0 (let few = small.released in omega arith))
 
   step-shutter : (e : Entry) → entry_of script past Shutter ≡ Some e → Goes e
   step-shutter e h = elim (cases_lt t.shutters t.sent) [
@@ -192,38 +193,64 @@ module _ (script : Script) (past : List Entry) (t : Facts) (raw : IsRaw script) 
       rw (← is, shape.1) (b ∙ ap Some shape.1)
   client-allowed None e b h = let shape = call-shape (next_command script past) e h in rw shape.3 (h ∙ ap Some shape.3)
 
+  -- the tables stay in order, and the entry has a line
+  abbrev Follows : Entry → Type 0
+  Follows e = Fit script (e ∷ past) (noted script e t) × (is_printable e ≡ true)
+
+  -- where a command is next, one more call is within the script
+  more-calls : (c : Command) → command_at script t.calls ≡ Some c → t.calls < length script.commands
+  more-calls c at = let l = place-within script.commands t.calls c at in omega (arith, l)
+
+  refused-follows : (c : Command) (word : Word) (r : Reply) → command_at script t.calls ≡ Some c → IsRefused r → Follows (trace.Call t.calls word r)
+  refused-follows c word r at no' =
+      rw no'.is (fit-refused script past t t.calls word no'.code no'.place no'.value (more-calls c at) fit, call-prints t.calls word (Refused no'.code no'.place no'.value) small.calls no'.fits)
+
+  closed-refusal : IsRefused (refused 2)
+  closed-refusal = record { code = 2; place = None; value = None; is = refl; fits = refl }
+
+  configure-follows : (closed : Bool) → t.closed ≡ closed → command_at script t.calls ≡ Some (Configure (raw_spec ∷ [])) → Follows (trace.Call t.calls WordConfigure (configure_reply t))
+  configure-follows true c at =
+      let is : configure_reply t ≡ refused 2 = rw c refl in
+      rw is (refused-follows (Configure (raw_spec ∷ [])) WordConfigure (refused 2) at closed-refusal)
+  configure-follows false c at =
+      let is : configure_reply t ≡ Configured (record { a = Some raw_made; b = None; c = None; d = None }) = rw c refl in
+      rw is (fit-configure script past t t.calls raw refl (more-calls (Configure (raw_spec ∷ [])) at) at (is-first script past t raw fit at) fit, call-prints t.calls WordConfigure (Configured (record { a = Some raw_made; b = None; c = None; d = None })) small.calls refl)
+
+  close-follows : (closed : Bool) → t.closed ≡ closed → command_at script t.calls ≡ Some Close → Follows (trace.Call t.calls WordClose (close_reply t))
+  close-follows true c at =
+      let is : close_reply t ≡ refused 2 = rw c refl in
+      rw is (refused-follows Close WordClose (refused 2) at closed-refusal)
+  close-follows false c at =
+      let is : close_reply t ≡ Ok = rw c refl in
+      rw is (fit-close script past t t.calls (more-calls Close at) fit, call-prints t.calls WordClose Ok small.calls refl)
+
+  once-follows : (item : Item) → command_at script t.calls ≡ Some (Once item) → Follows (trace.Call t.calls WordOnce (once_reply t item))
+  once-follows item at = elim (once-kind t item (at-all command_typed script.commands t.calls (Once item) fit.typed at)) [
+    | inl no' ↦ refused-follows (Once item) WordOnce (once_reply t item) at no'
+    | inr yes' ↦ rw yes'.is (
+      rw at (fit-once script past t t.calls (record { 0 = t.requests }) item refl refl (more-calls (Once item) at) yes'.configured at yes'.alone yes'.range fit),
+      call-prints t.calls WordOnce (Submitted (record { 0 = t.requests })) small.calls (small-number t.requests (let few = small.requests in omega arith)),
+    )
+  ]
+
   step-client : (e : Entry) → entry_of script past Client ≡ Some e → Goes e
-  step-client e h = (client-allowed (begin_due script past) e refl h, (at (stage script past t raw fit) t.begun refl).0, (at (stage script past t raw fit) t.begun refl).1)
+  step-client e h =
+      let follows = at (command_at script t.calls) refl t.begun refl (sym (client-is script past t raw fit) ∙ h) in
+      (client-allowed (begin_due script past) e refl h, follows.0, follows.1)
     where
-      end : {x : Entry} → entry_of script past Client ≡ Some x → Fit script (x ∷ past) (noted script x t) → is_printable x ≡ true → Fit script (e ∷ past) (noted script e t) × (is_printable e ≡ true)
-      end known good prints = let is = same-entry (sym known ∙ h) in rw (← is) (good, prints)
-
-      accepted : 0 < t.calls → t.calls < requests_in script + 1 → (r : AtRequest script t) → range_fault r.item.settings ≡ None → Fit script (e ∷ past) (noted script e t) × (is_printable e ≡ true)
-      accepted some last r range =
-          end {x = trace.Call t.calls WordOnce (Submitted (record { 0 = t.requests }))} (client-once script past t raw fit r.item some last r.raw r.command ∙ rw range refl)
-          (rw r.command (fit-once script past t t.calls (record { 0 = t.requests }) r.item refl refl some last (requests-room script past t fit some last raw.few) r.command r.raw range fit))
-          (call-prints t.calls WordOnce (Submitted (record { 0 = t.requests })) small.calls (small-number t.requests (let few = small.requests in omega arith)))
-
-      refused : 0 < t.calls → t.calls < requests_in script + 1 → (r : AtRequest script t) → (tag : ℕ) → range_fault r.item.settings ≡ Some tag → Fit script (e ∷ past) (noted script e t) × (is_printable e ≡ true)
-      refused some last r tag range =
-          end {x = trace.Call t.calls WordOnce (Refused 8 (Some 0) (Some tag))} (client-once script past t raw fit r.item some last r.raw r.command ∙ rw range refl)
-          (fit-refused script past t t.calls 8 (Some 0) (Some tag) refl some last fit)
-          (refused-prints t.calls tag small.calls (small-tag r.item.settings tag range))
-
-      by-fault : 0 < t.calls → t.calls < requests_in script + 1 → (r : AtRequest script t) → (fault : Option ℕ) → range_fault r.item.settings ≡ fault → Fit script (e ∷ past) (noted script e t) × (is_printable e ≡ true)
-      by-fault some last r None range = accepted some last r range
-      by-fault some last r (Some tag) range = refused some last r tag range
-
-      at : Stage script t → (begun : Option Word) → t.begun ≡ begun → Fit script (e ∷ past) (noted script e t) × (is_printable e ≡ true)
-      at (inl c) None b = end (client-configure-begin script past t raw fit c.0 b) (fit-begin script past t WordConfigure refl fit) refl
-      at (inl c) (Some w) b = end (client-configure-call script past t raw fit w c.0 b) (fit-configure script past t t.calls raw refl c.0 fit) (call-prints t.calls WordConfigure (Configured (record { a = Some raw_made; b = None; c = None; d = None })) small.calls refl)
-      at (inr (inl c)) b' b = by-fault c.0 c.1 c.2 (range_fault c.2.item.settings) refl
-      at (inr (inr (inl c))) None b = end (client-close-begin script past t raw fit c.1 b) (fit-begin script past t WordClose refl fit) refl
-      at (inr (inr (inl c))) (Some w) b = elim (cases_Bool (is_home t)) [
-        | inl home ↦ end (client-close-call script past t raw fit w c.0 c.1 b home) (fit-close script past t t.calls refl c.0 fit) (call-prints t.calls WordClose Ok small.calls refl)
-        | inr away ↦ absurd (let known = sym (client-close-wait script past t raw fit w c.0 c.1 b away) ∙ h in cc)
-      ]
-      at (inr (inr (inr c))) b' b = absurd (let known = sym (client-end script past t raw fit c.1) ∙ h in cc)
+      at : (o : Option Command) → command_at script t.calls ≡ o → (b : Option Word) → t.begun ≡ b → client_of t o b ≡ Some e → Follows e
+      at None c b eb h = absurd (cc)
+      at (Some (Configure specs)) c None eb h = let is = same-entry h in rw (← is) (fit-begin script past t WordConfigure refl fit, refl)
+      at (Some (Configure specs)) c (Some word) eb h =
+          let is = same-entry h in
+          let one = specs-are specs (raw.known t.calls (Configure specs) c) in
+          rw (← is) (configure-follows t.closed refl (rw one at c))
+      at (Some (Once item)) c b eb h = let is = same-entry h in rw (← is) (once-follows item c)
+      at (Some Close) c None eb h = let is = same-entry h in rw (← is) (fit-begin script past t WordClose refl fit, refl)
+      at (Some Close) c (Some word) eb h =
+          let is = (if-some (t.closed || is_home t) (trace.Call t.calls WordClose (close_reply t)) e h).1 in
+          rw (← is) (close-follows t.closed refl c)
+      at (Some other) c b eb h = absurd (false≢true (raw.known t.calls other c))
 
   -- ---- sends
 

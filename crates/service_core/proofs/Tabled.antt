@@ -16,7 +16,6 @@ use Rattle.service_core.specs.First.{entry_of}
 use Rattle.cam_types.specs.Metadata.{range_fault}
 use Rattle.service_core.specs.Fit.{Facts, Fit, settings_for}
 use Rattle.service_core.specs.Due.{client_of, filled_of, is_deliverable, is_home, is_resting, partial_of, passed, send_of, shutter_of}
-use Rattle.service_core.proofs.Answering.{Stage, stage, client-configure-begin, client-configure-call, client-once, client-close-begin, client-close-call, client-close-wait, client-end}
 use Rattle.service_core.proofs.Due.{shutter-yes, shutter-no, partial-yes, partial-no, filled-yes, filled-no}
 use Rattle.service_core.proofs.Lists.{and_parts}
 use Rattle.service_core.proofs.RawLemmas.{IsRaw}
@@ -63,20 +62,6 @@ module _ (script : Script) (past : List Entry) (t : Facts) (raw : IsRaw script) 
           let same : n ≡ record { 0 = t.returned } = ap frame at in
           let first : s ≡ record { 0 = 0 } = ap stream_at stream in
           rw (same, first) (filled-yes script past t raw fit l pass)
-
-  pub client-is : entry_of script past ClientStep ≡ client_of t (command_at script t.calls) t.begun
-  client-is = at (stage script past t raw fit) t.begun refl
-    where
-      at : Stage script t → (begun : Option Word) → t.begun ≡ begun → entry_of script past ClientStep ≡ client_of t (command_at script t.calls) begun
-      at (inl c) None b = rw c.1 (client-configure-begin script past t raw fit c.0 b)
-      at (inl c) (Some w) b = rw c.1 (client-configure-call script past t raw fit w c.0 b)
-      at (inr (inl c)) b' b = rw c.2.command (client-once script past t raw fit c.2.item c.0 c.1 c.2.raw c.2.command)
-      at (inr (inr (inl c))) None b = rw c.1 (client-close-begin script past t raw fit c.1 b)
-      at (inr (inr (inl c))) (Some w) b = elim (cases_Bool (is_home t)) [
-        | inl home ↦ rw (c.1, home) (client-close-call script past t raw fit w c.0 c.1 b home)
-        | inr away ↦ rw (c.1, away) (client-close-wait script past t raw fit w c.0 c.1 b away)
-      ]
-      at (inr (inr (inr c))) b' b = rw c.1 (client-end script past t raw fit c.1)
 
   pub send-is : entry_of script past SendStep ≡ send_of t
   send-is =

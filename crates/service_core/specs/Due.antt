@@ -1,12 +1,13 @@
-use Rattle.std.specs.Prelude.{ℕ, ◌==◌, ◌+◌, Bool, true, false, ◌&&◌, not, Option, Some, None, is_some, nat_lt, option_map, position, slice_index_or, take, if◌then◌else◌}
+use Rattle.std.specs.Prelude.{ℕ, ◌==◌, ◌+◌, ◌-◌, Bool, true, false, ◌&&◌, ◌||◌, not, Option, Some, None, is_some, nat_lt, option_map, position, slice_index_or, take, if◌then◌else◌}
 use Rattle.std.specs.List.{list_all}
-use Rattle.cam_types.specs.Metadata.{part_at, range_fault}
+use Rattle.cam_types.specs.Metadata.{part_at}
+use Rattle.cam_types.specs.declared.item.Item.{Item}
 use Rattle.cam_types.specs.declared.number.BufferId.{BufferId}
 use Rattle.cam_types.specs.declared.number.FenceNo.{FenceNo}
 use Rattle.cam_types.specs.declared.number.FrameNo.{FrameNo}
 use Rattle.cam_types.specs.declared.number.StreamIx.{StreamIx}
 use Rattle.cam_types.specs.declared.reply.Reply.{Reply}
-use Rattle.cam_types.specs.declared.reply.Reply.TheVariants.{Ok, Submitted, Configured, Refused}
+use Rattle.cam_types.specs.declared.reply.Reply.TheVariants.{Ok, Submitted, Configured}
 use Rattle.cam_types.specs.declared.script.Command.{Command}
 use Rattle.cam_types.specs.declared.script.Command.TheVariants.{Configure, Once, Close}
 use Rattle.cam_types.specs.declared.script.Word.{Word}
@@ -14,6 +15,7 @@ use Rattle.cam_types.specs.declared.script.Word.TheVariants.{Configure as WordCo
 use Rattle.trace_model.specs.declared.entry.Entry.{Entry}
 use Rattle.trace_model.specs.declared.entry.Entry.TheVariants.{Begin, Call, Send, Shutter, Partial, Filled, Release, Signal}
 use Rattle.trace_model.specs.Picture.{digest}
+use Rattle.trace_model.specs.Reply.{item_refusal, or_else, refused, reply_with, where_true}
 use Rattle.trace_model.specs.Send.{are_last}
 use Rattle.service_core.specs.declared.step.StepName.{StepName}
 use Rattle.service_core.specs.declared.step.StepName.TheVariants.{Send as StepSend, Release as StepRelease, Signal as StepSignal, Client as StepClient, Shutter as StepShutter, Partial as StepPartial, Deliver as StepDeliver}
@@ -56,21 +58,35 @@ release_of t b = if is_client (slice_index_or t.places b.0 Pool) then Some (Rele
 abbrev pub signal_of : Facts → FenceNo → Option Entry
 signal_of t f = if nat_lt f.0 t.released && not (slice_index_or t.signalled f.0 false) then Some (Signal f) else None
 
--- of a request: it is accepted where no setting is out of its range
-abbrev pub once_reply : Facts → Option ℕ → Reply
-once_reply t None = Submitted (record { 0 = t.requests })
-once_reply t (Some tag) = Refused 8 (Some 0) (Some tag)
+-- refused where too many would wait
+abbrev pub queue_refusal_of : Facts → Option Reply
+queue_refusal_of t = where_true (nat_lt 256 (t.requests - t.sent + 1)) (refused 11)
 
-abbrev pub once_of : Facts → Option ℕ → Entry
-once_of t fault = Call t.calls WordOnce (once_reply t fault)
+abbrev pub item_reply : Facts → Item → Reply
+item_reply t item = reply_with (or_else (item_refusal 1 0 item) (queue_refusal_of t)) (Submitted (record { 0 = t.requests }))
+
+-- of a request: refused once closed and before a configure, and then for what it asks for
+abbrev pub once_reply : Facts → Item → Reply
+once_reply t item = if t.closed then refused 2 else (if t.configured then item_reply t item else refused 1)
+
+-- of the configure of one RAW16 stream, and of a close
+abbrev pub configure_reply : Facts → Reply
+configure_reply t = if t.closed then refused 2 else Configured (record { a = Some raw_made; b = None; c = None; d = None })
+
+abbrev pub close_reply : Facts → Reply
+close_reply t = if t.closed then refused 2 else Ok
+
+-- a close is answered at once where it is refused, and otherwise once everything is home
+abbrev pub close_of : Facts → Option Entry
+close_of t = if t.closed || is_home t then Some (Call t.calls WordClose (close_reply t)) else None
 
 -- of the client's next command, and of the one that has begun
 abbrev pub client_of : Facts → Option Command → Option Word → Option Entry
 client_of t (Some (Configure _)) None = Some (Begin WordConfigure)
-client_of t (Some (Configure _)) (Some _) = Some (Call t.calls WordConfigure (Configured (record { a = Some raw_made; b = None; c = None; d = None })))
-client_of t (Some (Once item)) _ = Some (once_of t (range_fault item.settings))
+client_of t (Some (Configure _)) (Some _) = Some (Call t.calls WordConfigure (configure_reply t))
+client_of t (Some (Once item)) _ = Some (Call t.calls WordOnce (once_reply t item))
 client_of t (Some Close) None = Some (Begin WordClose)
-client_of t (Some Close) (Some _) = if is_home t then Some (Call t.calls WordClose Ok) else None
+client_of t (Some Close) (Some _) = close_of t
 client_of t _ _ = None
 
 -- the mark, with which the next item is sent

@@ -1,4 +1,4 @@
-use Rattle.std.specs.Prelude.{◌≡◌, ℕ, zero, suc, ◌==◌, ◌+◌, ◌*◌, ◌<◌, ◌≤◌, ◌⊎◌, Bool, true, false, ◌&&◌, List, [], ◌∷◌, ◌++◌, Option, Some, None, length, max, count_by, nat_lt, replicate, slice_index_or, slice_set, if◌then◌else◌}
+use Rattle.std.specs.Prelude.{◌≡◌, ℕ, zero, suc, ◌==◌, ◌+◌, ◌*◌, ◌<◌, ◌≤◌, Bool, true, false, ◌&&◌, List, [], ◌∷◌, ◌++◌, Option, Some, None, length, max, count_by, nat_lt, replicate, slice_index_or, slice_set, take, if◌then◌else◌}
 use Rattle.std.specs.List.{list_any, list_all}
 use Rattle.cam_types.specs.Metadata.{range_fault}
 use Rattle.cam_types.specs.declared.four.Four.{Four}
@@ -35,7 +35,8 @@ use Rattle.trace_model.specs.Shutter.{next_time}
 use Rattle.service_core.specs.declared.tables.Place.{Place}
 use Rattle.service_core.specs.declared.tables.Place.TheVariants.{Pool, Device, Client}
 use Rattle.service_core.specs.declared.tables.Tables.{Tables}
-use Rattle.service_core.specs.RawScripts.{is_raw_item, requests_in}
+use Rattle.trace_model.specs.Reply.{is_configure}
+use Rattle.trace_bounds.specs.Typed.{is_typed}
 
 -- That the service's tables say what the definitions say of its trace. Nothing that a user of the service relies on
 -- stands here: this is the invariant that carries the proof.
@@ -44,6 +45,8 @@ use Rattle.service_core.specs.RawScripts.{is_raw_item, requests_in}
 pub record Facts : Type 0 where
   pub calls : ℕ
   pub begun : Option Word
+  pub configured : Bool
+  pub closed : Bool
   pub requests : ℕ
   pub items : List Item
   pub sent : ℕ
@@ -64,6 +67,8 @@ abbrev pub facts_of : Tables → Facts
 facts_of t = record {
   calls = t.calls;
   begun = t.begun;
+  configured = t.configured;
+  closed = t.closed;
   requests = t.requests;
   items = t.items.items;
   sent = t.sent;
@@ -97,14 +102,21 @@ item_for items r = slice_index_or items r no_item
 abbrev pub settings_for : List Item → ℕ → Settings
 settings_for items r = (item_for items r).settings
 
+-- the streams that an item asks for, as they are written
+abbrev pub asked : Item → List ℕ
+asked item = take item.targets.count item.targets.list
+
 -- ---- the tables before the first entry
 
-abbrev pub first_facts : Facts
-first_facts = record {
+-- with room for a request for each of so many commands
+abbrev pub first_facts : ℕ → Facts
+first_facts commands = record {
   calls = 0;
   begun = None;
+  configured = false;
+  closed = false;
   requests = 0;
-  items = replicate 32 no_item;
+  items = replicate commands no_item;
   sent = 0;
   shutters = 0;
   ended = 0;
@@ -117,7 +129,7 @@ first_facts = record {
   places = replicate 5 Pool;
   fences = replicate 5 None;
   released = 0;
-  signalled = replicate 32 false;
+  signalled = replicate commands false;
 }
 
 -- ---- the tables after an entry
@@ -136,7 +148,9 @@ abbrev pub noted : Script → Entry → Facts → Facts
 noted script (Begin word) t = record t { begun = Some word }
 noted script (Call i word (Submitted r)) t =
     record t { begun = None; calls = t.calls + 1; requests = t.requests + 1; items = slice_set t.items t.requests (once_item (command_at script i)) }
-noted script (Call i word reply) t = record t { begun = None; calls = t.calls + 1 }
+noted script (Call i word (Configured m)) t = record t { begun = None; calls = t.calls + 1; configured = true }
+noted script (Call i word Ok) t = record t { begun = None; calls = t.calls + 1; closed = true }
+noted script (Call i word (Refused code first second)) t = record t { begun = None; calls = t.calls + 1 }
 noted script (Send n r i same targets) t = noted_target targets.a t
 noted script (Shutter n time) t = record t {
   shutters = t.shutters + 1;
@@ -173,9 +187,9 @@ is_raw_call _ = false
 -- the entry is one that a run of such a script has
 abbrev pub is_plain : Entry → Bool
 is_plain (Begin word) = is_raw_call word
+is_plain (Call i word (Refused code first second)) = true
 is_plain (Call i WordConfigure (Configured m)) = true
 is_plain (Call i WordOnce (Submitted r)) = true
-is_plain (Call i WordOnce (Refused code first second)) = true
 is_plain (Call i WordClose Ok) = true
 is_plain (Send _ _ _ _ _) = true
 is_plain (Shutter _ _) = true
@@ -190,14 +204,18 @@ abbrev pub below : ℕ → List ℕ
 below zero = []
 below (suc n) = n ∷ below n
 
--- how the calls and the requests go together: none was made; the configure stands, and each request has a call of its own
-abbrev pub AreCalls : ℕ → ℕ → ℕ → Type 0
-AreCalls k calls requests = ((calls ≡ 0) × (requests ≡ 0)) ⊎ ((requests + 1 ≤ calls) × (requests ≤ k) × (calls ≤ k + 2))
+-- this, once a configure is accepted
+abbrev pub where_configured : {T : Type 0} → Bool → List T → List T
+where_configured true xs = xs
+where_configured false xs = []
 
--- this, once the configure is answered
-abbrev pub when_called : {T : Type 0} → ℕ → List T → List T
-when_called zero xs = []
-when_called (suc _) xs = xs
+abbrev pub configures_if_any : Option Command → Bool
+configures_if_any (Some command) = is_configure command
+configures_if_any None = false
+
+-- the command at a place, if there is one, configures
+abbrev pub configures_at : Script → ℕ → Bool
+configures_at script i = configures_if_any (command_at script i)
 
 -- the first requests, as they were put into the queue
 abbrev pub requests_to : List Item → ℕ → List Waiting
@@ -233,8 +251,8 @@ abbrev pub settings_before : List Item → ℕ → Option Settings
 settings_before items zero = None
 settings_before items (suc n) = Some (settings_for items n)
 
--- how the counts go together
-pub record InOrder (t : Facts) : Type 0 where
+-- how the counts go together, where there is room for so many requests
+pub record InOrder (room : ℕ) (t : Facts) : Type 0 where
   pub sent : t.sent ≤ t.requests
   pub shutters : t.shutters ≤ t.sent
   pub ended : t.ended ≤ t.shutters
@@ -245,31 +263,39 @@ pub record InOrder (t : Facts) : Type 0 where
   pub no_parts : t.ended ≡ t.shutters → t.parts ≡ 0
   pub places : length t.places ≡ 5
   pub fences : length t.fences ≡ 5
-  pub signalled : length t.signalled ≡ 32
-  pub items : length t.items ≡ 32
+  pub signalled : length t.signalled ≡ room
+  pub items : length t.items ≡ room
   pub buffer : t.buffer.0 < 5
   pub clients : t.released + count_by is_client t.places ≡ t.returned
   pub clock : t.time ≤ t.next_time
   pub slow : t.next_time ≤ 1000000000 + t.shutters * 100000000
 
 pub record Fit (script : Script) (past : List Entry) (t : Facts) : Type 0 where
+  -- the script's numbers are within their types, and one more than its commands can be counted
+  pub typed : is_typed script ≡ true
+  pub short : length script.commands < 4294967295
   pub plain : list_all is_plain past ≡ true
   -- the client
   pub calls : call_count past ≡ t.calls
   pub begun : begun past ≡ t.begun
   pub requests : request_count past ≡ t.requests
-  pub are_calls : AreCalls (requests_in script) t.calls t.requests
+  pub within : t.calls ≤ length script.commands
+  pub few : t.requests ≤ t.calls
   pub commands : (r : ℕ) → r < t.requests → command_of script past r ≡ Some (Once (item_for t.items r))
   -- each item that was accepted asks for stream 0 alone, with settings in their ranges
-  pub raw : (r : ℕ) → r < t.requests → is_raw_item (item_for t.items r) ≡ true
+  pub alone : (r : ℕ) → r < t.requests → asked (item_for t.items r) ≡ 0 ∷ []
   pub in_range : (r : ℕ) → r < t.requests → range_fault (item_for t.items r).settings ≡ None
   pub unset : (r : ℕ) → t.requests ≤ r → item_for t.items r ≡ no_item
   pub submitted : submitted script past ≡ requests_to t.items t.requests
-  pub streams : streams script past ≡ when_called t.calls (raw_spec ∷ [])
-  pub made : made past ≡ when_called t.calls (raw_made ∷ [])
-  pub made_count : made_count past ≡ (if t.calls == 0 then 0 else 5)
-  pub configured : is_configured past ≡ nat_lt 0 t.calls
-  pub closed : is_closed past ≡ nat_lt (requests_in script + 1) t.calls
+  pub streams : streams script past ≡ where_configured t.configured (raw_spec ∷ [])
+  pub made : made past ≡ where_configured t.configured (raw_made ∷ [])
+  pub made_count : made_count past ≡ (if t.configured then 5 else 0)
+  pub configured : is_configured past ≡ t.configured
+  pub closed : is_closed past ≡ t.closed
+  -- until a configure is accepted no request is, and every buffer stays where it was
+  pub bare : t.configured ≡ false → (t.requests ≡ 0) × (t.places ≡ replicate 5 Pool)
+  -- a configure that is still ahead is the first
+  pub first : (i : ℕ) → t.calls ≤ i → configures_at script i ≡ true → t.configured ≡ false
   -- the frames
   pub taken : (r : ℕ) → list_any (takes r 0) past ≡ nat_lt r t.sent
   pub numbers : next_number past ≡ t.sent
@@ -294,18 +320,19 @@ pub record Fit (script : Script) (past : List Entry) (t : Facts) : Type 0 where
   pub released : released past ≡ below t.released
   pub next_fence : next_fence past ≡ t.released
   -- all of this together
-  pub order : InOrder t
+  pub order : InOrder (length script.commands) t
 
 -- ---- how small the numbers are
 
+-- one more of each fits in its field
 pub record IsSmall (t : Facts) : Type 0 where
-  pub calls : t.calls ≤ 34
-  pub requests : t.requests ≤ 32
-  pub sent : t.sent ≤ 32
-  pub shutters : t.shutters ≤ 32
-  pub ended : t.ended ≤ 32
-  pub returned : t.returned ≤ 32
-  pub released : t.released ≤ 32
+  pub calls : t.calls < 4294967295
+  pub requests : t.requests < 4294967295
+  pub sent : t.sent < 4294967295
+  pub shutters : t.shutters < 4294967295
+  pub ended : t.ended < 4294967295
+  pub returned : t.returned < 4294967295
+  pub released : t.released < 4294967295
   pub parts : t.parts ≤ 2
-  pub next_time : t.next_time ≤ 4200000000
+  pub next_time : t.next_time ≤ 429496730500000000
   pub exposure : (settings_for t.items t.shutters).exposure ≤ 100000000

@@ -1,10 +1,12 @@
-ghost use Rattle.std.specs.Prelude.{◌≡◌};
-ghost use Rattle.service_core.specs.RawScripts.{are_raw_commands, are_requests, is_raw_alone, is_raw_item, is_raw_script, is_raw_spec};
+ghost use Rattle.std.specs.Prelude.{◌≡◌, count_by};
+ghost use Rattle.std.specs.List.{list_all};
+ghost use Rattle.trace_model.specs.Reply.{is_configure};
+ghost use Rattle.service_core.specs.RawScripts.{are_raw_commands, is_raw_alone, is_raw_command, is_raw_script, is_raw_spec};
 
-use cam_types::{Command, Format, Item, Script, StreamSpec};
+use cam_types::{Command, Format, Script, StreamSpec};
 
-/// Whether the service runs the script today: one RAW16 stream, then at most 32 requests for it, then a `close`, without
-/// faults and picks.
+/// Whether the service runs the script today: `configure`, `once` and `close` commands, at most one `configure`, of one
+/// RAW16 stream, without faults and picks.
 pub fn is_raw_script(script: &Script) -> bool
     ensures { result ≡ is_raw_script script.now }
 {
@@ -16,9 +18,37 @@ pub fn is_raw_script(script: &Script) -> bool
 fn are_raw_commands(commands: &[Command]) -> bool
     ensures { result ≡ are_raw_commands commands.now }
 {
-    match commands {
-        [Command::Configure(specs), rest @ ..] => is_raw_alone(specs.as_slice())
-            && (rest.len() <= 33 && are_requests(rest)),
+    are_known(commands) && configure_count(commands) <= 1
+}
+
+fn are_known(commands: &[Command]) -> bool
+    ensures { result ≡ list_all is_raw_command commands.now }
+{
+    commands.iter().all(|command| is_raw_command(command))
+}
+
+fn configure_count(commands: &[Command]) -> usize
+    ensures { result ≡ count_by is_configure commands.now }
+{
+    commands
+        .iter()
+        .filter(|command| is_configure(command))
+        .count()
+}
+
+fn is_configure(command: &Command) -> bool
+    ensures { result ≡ is_configure command.now }
+{
+    matches!(command, Command::Configure(_))
+}
+
+fn is_raw_command(command: &Command) -> bool
+    ensures { result ≡ is_raw_command command.now }
+{
+    match command {
+        Command::Configure(specs) => is_raw_alone(specs.as_slice()),
+        Command::Once(_) => true,
+        Command::Close => true,
         _ => false,
     }
 }
@@ -36,25 +66,4 @@ fn is_raw_spec(spec: StreamSpec) -> bool
     ensures { result ≡ is_raw_spec spec }
 {
     !spec.input && matches!(spec.format, Format::Raw16) && spec.width == 160 && spec.height == 120
-}
-
-/// Whether the commands are requests, and a `close` behind them.
-fn are_requests(commands: &[Command]) -> bool
-    ensures { result ≡ are_requests commands.now }
-{
-    let mut rest = commands;
-    while let [Command::Once(item), behind @ ..] = rest {
-        if !is_raw_item(*item) {
-            return false;
-        }
-        rest = behind;
-    }
-    matches!(rest, [Command::Close])
-}
-
-/// Whether the item asks for a picture of stream 0 alone.
-fn is_raw_item(item: Item) -> bool
-    ensures { result ≡ is_raw_item item }
-{
-    item.targets.count == 1 && item.targets.list[0] == 0
 }

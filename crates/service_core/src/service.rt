@@ -13,11 +13,12 @@ use crate::history::History;
 use crate::step::{Step, StepName};
 use crate::tables::Tables;
 use cam_types::{BufferId, FenceNo, FrameNo, NoMemory, Script, StreamIx};
-use std::alloc::Global;
+use std::alloc::{AllocError, Global};
 use std::marker::Model;
+use trace_bounds::every_script_is_typed;
 use trace_model::Entry;
 
-/// The camera service, for scripts of one RAW16 stream and requests for it: see `is_raw_script`. It has one frame at a
+/// The camera service, for scripts of one RAW16 stream: see `is_raw_script`. It has one frame at a
 /// time. A contract sees the script and the history, which is a run of the script whatever calls were made.
 #[derive(Drop)]
 pub struct Service {
@@ -52,10 +53,16 @@ impl Service {
         ensures script { IfOk result (λ service. service.script ≡ script) }
         ensures history { IfOk result (λ service. service.history ≡ []) }
     {
+        // Each count of the tables must have room for one more than there are commands.
+        let commands = script.commands.len();
+        if commands == u32::MAX {
+            return Err(AllocError);
+        }
+        every_script_is_typed(&script);
         Ok(Service {
             script,
             history: History::new(alloc),
-            tables: Tables::new(alloc)?,
+            tables: Tables::new(alloc, commands)?,
             canvas: Some(Canvas::new(alloc)?),
         })
     }

@@ -1,4 +1,4 @@
-ghost use Rattle.std.specs.Prelude.{◌≡◌, ℕ, ◌+◌, ◌<◌, ◌≤◌, ◌^◌, List, Option, IfOk, false, length, max, not, option_copied, option_map, position, take, slice_index_or, slice_set};
+ghost use Rattle.std.specs.Prelude.{◌≡◌, ℕ, ◌+◌, ◌<◌, ◌≤◌, ◌^◌, List, Option, IfOk, true, false, length, max, not, option_copied, option_map, position, take, slice_index_or, slice_set};
 ghost use Rattle.std.specs.List.{list_all};
 ghost use Rattle.cam_types.specs.declared.number.FenceNo.{FenceNo as SomeFence};
 ghost use Rattle.cam_types.specs.declared.number.FrameNo.{FrameNo as SomeFrame};
@@ -7,39 +7,34 @@ ghost use Rattle.cam_types.specs.declared.part.Part.{Part as SomePart};
 ghost use Rattle.cam_types.specs.declared.script.Script.{Script as SomeScript};
 ghost use Rattle.cam_types.specs.declared.script.Word.{Word as SomeWord};
 ghost use Rattle.cam_types.specs.declared.stream.StreamSpec.{StreamSpec as SomeSpec};
-ghost use Rattle.cam_types.specs.Metadata.{range_fault};
 ghost use Rattle.trace_model.specs.Calls.{command_at};
+ghost use Rattle.trace_model.specs.Reply.{refused};
 ghost use Rattle.trace_model.specs.Send.{are_same};
 ghost use Rattle.service_core.specs.Fit.{IsSmall, facts_of, first_facts, is_client, noted, noted_target, once_item, settings_for};
-ghost use Rattle.service_core.specs.Due.{buffer_number, client_of, device_first, fence_number, first_but_send, first_of, has_all_signals, is_deliverable, is_home, is_pool, is_resting, mark_for, once_of, once_reply, partial_of, passed, release_of, send_of, sent_with, shutter_of, signal_of};
+ghost use Rattle.service_core.specs.Due.{buffer_number, client_of, close_of, close_reply, configure_reply, device_first, fence_number, first_but_send, first_of, has_all_signals, is_deliverable, is_home, is_pool, is_resting, item_reply, mark_for, once_reply, partial_of, passed, queue_refusal_of, release_of, send_of, sent_with, shutter_of, signal_of};
 
 use crate::step::StepName;
 use cam_types::{
     BufferId, Command, FenceNo, Four, FrameNo, Item, Made, NoMemory, Reply, RequestId, Script,
     Settings, StreamIx, Targets, Word,
 };
-use meta_rules::range_fault;
 use partial_results::part;
 use std::alloc::Global;
 use trace_model::{Entry, Sent};
+use trace_replies::item::item_refusal;
+use trace_replies::refused::{CLOSED, NOT_CONFIGURED, QUEUE_FULL};
 
 /// The buffers of the stream: three at the device, and two beside them.
 pub const BUFFERS: u32 = 5;
 
-/// The most fences that a run has: one for each frame.
-const FENCES: usize = 32;
-
-/// The refusal of a request with a setting out of its range.
-const BAD_SETTING: u8 = 8;
+/// The most items that may wait.
+const QUEUE_LIMIT: u32 = 256;
 
 /// The time of the first shutter, in nanoseconds.
 const FIRST_SHUTTER: u64 = 1_000_000_000;
 
 /// The least time between two shutters, in nanoseconds.
 const FRAME_TIME: u64 = 33_333_333;
-
-/// The most requests that a script of the form has.
-const REQUESTS: usize = 32;
 
 /// The item of no request.
 const NO_ITEM: Item = Item {
@@ -81,9 +76,13 @@ pub struct Tables {
     pub calls: u32,
     /// The command that has begun and isn't answered.
     pub begun: Option<Word>,
+    /// Whether a configure was accepted.
+    pub configured: bool,
+    /// Whether a close was accepted.
+    pub closed: bool,
     /// How many requests were accepted.
     pub requests: u32,
-    /// Their items, by number; there is room for as many as a script of the form has.
+    /// Their items, by number; there is room for one of each command.
     pub items: Vec<Item>,
     /// How many frames were sent.
     pub sent: u32,
@@ -120,6 +119,16 @@ fn item_of_command(script: &Script, place: u32) -> Item
     match script.commands.get(place) {
         Some(Command::Once(item)) => *item,
         _ => NO_ITEM,
+    }
+}
+
+fn refused(code: u8) -> Reply
+    ensures { result ≡ refused code }
+{
+    Reply::Refused {
+        code,
+        first: None,
+        second: None,
     }
 }
 
@@ -166,15 +175,17 @@ fn first_unsignalled(signalled: &[bool]) -> Option<usize>
 }
 
 impl Tables {
-    /// The tables before the first step.
-    pub fn new(alloc: Global) -> Result<Tables, NoMemory>
-        ensures { IfOk result (λ tables. facts_of tables ≡ first_facts) }
+    /// The tables before the first step, with room for so many commands.
+    pub fn new(alloc: Global, commands: u32) -> Result<Tables, NoMemory>
+        ensures { IfOk result (λ tables. facts_of tables ≡ first_facts commands) }
     {
         Ok(Tables {
             calls: 0,
             begun: None,
+            configured: false,
+            closed: false,
             requests: 0,
-            items: Vec::from_array(alloc, [NO_ITEM; REQUESTS])?,
+            items: vec![in alloc; NO_ITEM; commands as usize]?,
             sent: 0,
             shutters: 0,
             ended: 0,
@@ -187,7 +198,7 @@ impl Tables {
             places: vec![in alloc; Place::Pool; BUFFERS as usize]?,
             fences: vec![in alloc; None; BUFFERS as usize]?,
             released: 0,
-            signalled: vec![in alloc; false; FENCES]?,
+            signalled: vec![in alloc; false; commands as usize]?,
         })
     }
 
@@ -317,6 +328,16 @@ impl Tables {
         })
     }
 
+    fn configure_reply(&self) -> Reply
+        ensures { result ≡ configure_reply (facts_of self.now) }
+    {
+        if self.closed {
+            refused(CLOSED)
+        } else {
+            Reply::Configured(RAW_MADE)
+        }
+    }
+
     fn due_configure(&self) -> Option<Entry>
         ensures { (specs : List SomeSpec) → result ≡ client_of (facts_of self.now) (Option.Some (Command.Configure specs)) self.now.begun }
     {
@@ -324,51 +345,93 @@ impl Tables {
             None => Some(Entry::Begin {
                 word: Word::Configure,
             }),
-            Some(_) => self.call(Word::Configure, Reply::Configured(RAW_MADE)),
+            Some(_) => self.call(Word::Configure, self.configure_reply()),
+        }
+    }
+
+    fn close_reply(&self) -> Reply
+        ensures { result ≡ close_reply (facts_of self.now) }
+    {
+        if self.closed {
+            refused(CLOSED)
+        } else {
+            Reply::Ok
+        }
+    }
+
+    /// The answer to a close that has begun: where it isn't refused, everything must be home.
+    fn close_call(&self) -> Option<Entry>
+        ensures { result ≡ close_of (facts_of self.now) }
+    {
+        if self.closed || self.is_home() {
+            self.call(Word::Close, self.close_reply())
+        } else {
+            None
         }
     }
 
     fn due_close(&self) -> Option<Entry>
         ensures { result ≡ client_of (facts_of self.now) (Option.Some Command.Close) self.now.begun }
     {
-        if self.begun.is_none() {
-            return Some(Entry::Begin { word: Word::Close });
+        match self.begun {
+            None => Some(Entry::Begin { word: Word::Close }),
+            Some(_) => self.close_call(),
         }
-        if self.is_home() {
-            self.call(Word::Close, Reply::Ok)
+    }
+
+    /// The refusal of a request where too many would wait.
+    fn queue_refusal(&self) -> Option<Reply>
+        requires { self.now.sent ≤ self.now.requests }
+        ensures { result ≡ queue_refusal_of (facts_of self.now) }
+    {
+        if self.requests - self.sent >= QUEUE_LIMIT {
+            Some(refused(QUEUE_FULL))
         } else {
             None
         }
     }
 
-    fn once_reply(&self, fault: Option<u32>) -> Reply
-        ensures { result ≡ once_reply (facts_of self.now) fault }
+    /// The reply to a request while the stream stands.
+    fn reply_to_item(&self, item: &Item) -> Reply
+        requires { self.now.sent ≤ self.now.requests }
+        ensures { result ≡ item_reply (facts_of self.now) item.now }
     {
-        match fault {
+        if let Some(refusal) = item_refusal(1, 0, item) {
+            return refusal;
+        }
+        match self.queue_refusal() {
+            Some(refusal) => refusal,
             None => Reply::Submitted(RequestId(self.requests)),
-            Some(tag) => Reply::Refused {
-                code: BAD_SETTING,
-                first: Some(0),
-                second: Some(tag),
-            },
         }
     }
 
-    /// The call of a request: refused where a setting is out of its range.
-    fn due_once(&self, settings: Settings) -> Option<Entry>
-        ensures { result ≡ Option.Some (once_of (facts_of self.now) (range_fault settings)) }
+    fn once_reply(&self, item: &Item) -> Reply
+        requires { self.now.sent ≤ self.now.requests }
+        ensures { result ≡ once_reply (facts_of self.now) item.now }
     {
-        let reply = self.once_reply(range_fault(settings));
-        self.call(Word::Once, reply)
+        match (self.closed, self.configured) {
+            (true, _) => refused(CLOSED),
+            (false, false) => refused(NOT_CONFIGURED),
+            (false, true) => self.reply_to_item(item),
+        }
+    }
+
+    /// The call of a request.
+    fn due_once(&self, item: &Item) -> Option<Entry>
+        requires { self.now.sent ≤ self.now.requests }
+        ensures { result ≡ Option.Some (Entry.Call self.now.calls SomeWord.Once (once_reply (facts_of self.now) item.now)) }
+    {
+        self.call(Word::Once, self.once_reply(item))
     }
 
     /// The `begin` or the `call` of the next command.
     pub fn due_client(&self, command: Option<&Command>) -> Option<Entry>
+        requires { self.now.sent ≤ self.now.requests }
         ensures { result ≡ client_of (facts_of self.now) (option_copied command.entry) self.now.begun }
     {
         match command {
             Some(Command::Configure(_)) => self.due_configure(),
-            Some(Command::Once(item)) => self.due_once(item.settings),
+            Some(Command::Once(item)) => self.due_once(item),
             Some(Command::Close) => self.due_close(),
             Some(Command::Burst(_)) => None,
             Some(Command::Repeat(_)) => None,
@@ -482,8 +545,7 @@ impl Tables {
 
     /// The least fence that was released and isn't signalled.
     fn least_unsignalled(&self) -> Option<FenceNo>
-        requires released { self.now.released ≤ 32 }
-        requires signalled { length self.now.signalled.items ≡ 32 }
+        requires released { self.now.released ≤ length self.now.signalled.items }
         ensures { option_map fence_number result ≡ position not (take self.now.released self.now.signalled.items) }
     {
         match first_unsignalled(&self.signalled[..self.released as usize]) {
@@ -510,8 +572,8 @@ impl Tables {
     /// The first step that the client's release or signal, the client or the device can make.
     fn first_but_send(&self, command: Option<&Command>) -> Option<StepName>
         requires places { length self.now.places.items ≡ 5 }
-        requires released { self.now.released ≤ 32 }
-        requires signalled { length self.now.signalled.items ≡ 32 }
+        requires released { self.now.released ≤ length self.now.signalled.items }
+        requires sent { self.now.sent ≤ self.now.requests }
         ensures { result ≡ first_but_send (facts_of self.now) (option_copied command.entry) }
     {
         if let Some(buffer) = self.least_at_client() {
@@ -529,8 +591,8 @@ impl Tables {
     /// The first step that is ready.
     pub fn first(&self, command: Option<&Command>) -> Option<StepName>
         requires places { length self.now.places.items ≡ 5 }
-        requires released { self.now.released ≤ 32 }
-        requires signalled { length self.now.signalled.items ≡ 32 }
+        requires released { self.now.released ≤ length self.now.signalled.items }
+        requires sent { self.now.sent ≤ self.now.requests }
         ensures { result ≡ first_of (facts_of self.now) (option_copied command.entry) }
     {
         if self.due_send().is_some() {
@@ -559,8 +621,8 @@ impl Tables {
 
     /// Takes note of an accepted request.
     fn note_submission(&mut self, item: Item)
-        requires calls { self.old.calls < 100 }
-        requires requests { self.old.requests < 100 }
+        requires calls { self.old.calls < 4294967295 }
+        requires requests { self.old.requests < 4294967295 }
         ensures { facts_of self.new ≡ record (facts_of self.old) { begun = Option.None; calls = self.old.calls + 1; requests = self.old.requests + 1; items = slice_set (facts_of self.old).items self.old.requests item } }
     {
         if (self.requests as usize) < self.items.len() {
@@ -571,31 +633,51 @@ impl Tables {
         self.requests += 1;
     }
 
-    /// Takes note of another answer.
-    fn note_answer(&mut self)
-        requires { self.old.calls < 100 }
+    /// Takes note of a refusal.
+    fn note_refusal(&mut self)
+        requires { self.old.calls < 4294967295 }
         ensures { facts_of self.new ≡ record (facts_of self.old) { begun = Option.None; calls = self.old.calls + 1 } }
     {
         self.begun = None;
         self.calls += 1;
     }
 
+    /// Takes note of an accepted configure.
+    fn note_configured(&mut self)
+        requires { self.old.calls < 4294967295 }
+        ensures { facts_of self.new ≡ record (facts_of self.old) { begun = Option.None; configured = true; calls = self.old.calls + 1 } }
+    {
+        self.begun = None;
+        self.configured = true;
+        self.calls += 1;
+    }
+
+    /// Takes note of an accepted close.
+    fn note_closed(&mut self)
+        requires { self.old.calls < 4294967295 }
+        ensures { facts_of self.new ≡ record (facts_of self.old) { begun = Option.None; closed = true; calls = self.old.calls + 1 } }
+    {
+        self.begun = None;
+        self.closed = true;
+        self.calls += 1;
+    }
+
     fn note_call(&mut self, script: &Script, index: u32, reply: Reply)
-        requires calls { self.old.calls < 100 }
-        requires requests { self.old.requests < 100 }
+        requires calls { self.old.calls < 4294967295 }
+        requires requests { self.old.requests < 4294967295 }
         ensures { (word : SomeWord) → facts_of self.new ≡ noted script.now (Entry.Call index word reply) (facts_of self.old) }
     {
         match reply {
             Reply::Submitted(_) => self.note_submission(item_of_command(script, index)),
-            Reply::Ok => self.note_answer(),
-            Reply::Configured(_) => self.note_answer(),
-            Reply::Refused { .. } => self.note_answer(),
+            Reply::Ok => self.note_closed(),
+            Reply::Configured(_) => self.note_configured(),
+            Reply::Refused { .. } => self.note_refusal(),
         }
     }
 
     /// Takes note of the one target of a frame that is sent.
     fn note_sent(&mut self, target: Sent)
-        requires { self.old.sent < 100 }
+        requires { self.old.sent < 4294967295 }
         ensures { facts_of self.new ≡ noted_target (Option.Some target) (facts_of self.old) }
     {
         self.sent += 1;
@@ -606,7 +688,7 @@ impl Tables {
     }
 
     fn note_target(&mut self, target: Option<Sent>)
-        requires { self.old.sent < 100 }
+        requires { self.old.sent < 4294967295 }
         ensures { facts_of self.new ≡ noted_target target (facts_of self.old) }
     {
         match target {
@@ -616,7 +698,7 @@ impl Tables {
     }
 
     fn note_shutter(&mut self, exposure: u64)
-        requires shutters { self.old.shutters < 100 }
+        requires shutters { self.old.shutters < 4294967295 }
         requires time { self.old.next_time < 2 ^ 62 }
         requires exposure { exposure < 2 ^ 62 }
         ensures { facts_of self.new ≡ record (facts_of self.old) { shutters = self.old.shutters + 1; time = self.old.next_time; next_time = self.old.next_time + max 33333333 exposure } }
@@ -637,7 +719,7 @@ impl Tables {
     }
 
     fn note_partial(&mut self)
-        requires ended { self.old.ended < 100 }
+        requires ended { self.old.ended < 4294967295 }
         requires parts { self.old.parts < 100 }
         ensures { (script : SomeScript) (n : SomeFrame) (k : ℕ) (part : SomePart) → facts_of self.new ≡ noted script (Entry.Partial n k part) (facts_of self.old) }
     {
@@ -650,7 +732,7 @@ impl Tables {
     }
 
     fn note_filled(&mut self, buffer: BufferId)
-        requires { self.old.returned < 100 }
+        requires { self.old.returned < 4294967295 }
         ensures { (script : SomeScript) (n : SomeFrame) (s : SomeStream) (fence : Option SomeFence) (digest : List ℕ) → facts_of self.new ≡ noted script (Entry.Filled n s buffer fence digest) (facts_of self.old) }
     {
         self.returned += 1;
@@ -659,7 +741,7 @@ impl Tables {
     }
 
     fn note_release(&mut self, buffer: BufferId, fence: FenceNo)
-        requires { self.old.released < 100 }
+        requires { self.old.released < 4294967295 }
         ensures { (script : SomeScript) → facts_of self.new ≡ noted script (Entry.Release buffer fence) (facts_of self.old) }
     {
         self.released += 1;

@@ -1,4 +1,4 @@
-//! Which scripts are run, and a run of two requests: by the steps that are chosen, and by each step's name.
+//! Which scripts are run, a run of two requests, by the steps that are chosen and by each step's name, and what is refused.
 use super::*;
 use cam_types::{
     BufferId, Command, CommandList, Fault, FaultList, FenceNo, Format, Four, FrameNo, Item,
@@ -19,6 +19,8 @@ enum Line {
     TwoRaw,
     /// A request of a level.
     Once(u32),
+    /// A request for another stream.
+    OnceOf(u8),
     Repeat,
     Close,
 }
@@ -35,9 +37,78 @@ const SCRIPTS: &[(&[Line], bool)] = &[
     ),
     (&[Line::TwoRaw, Line::Once(100), Line::Close], false),
     (&[Line::Raw, Line::Repeat, Line::Close], false),
-    (&[Line::Raw, Line::Once(100)], false),
-    (&[Line::Once(100), Line::Close], false),
-    (&[], false),
+    (&[Line::Raw, Line::Once(100)], true),
+    (&[Line::Once(100), Line::Close], true),
+    (REFUSALS, true),
+    (&[], true),
+    (&[Line::Raw, Line::Close, Line::Raw, Line::Close], false),
+];
+
+/// Scripts and their traces.
+const RUNS: &[(&[Line], &[Entry])] = &[(TWO_REQUESTS, &TRACE), (REFUSALS, &REFUSED)];
+
+const REFUSALS: &[Line] = &[
+    Line::Once(100),
+    Line::Raw,
+    Line::OnceOf(3),
+    Line::Close,
+    Line::Once(100),
+    Line::Close,
+];
+
+/// The trace of the refusals: before the configure, of an unknown stream, and after the close.
+const REFUSED: [Entry; 9] = [
+    Entry::Call {
+        index: 0,
+        word: Word::Once,
+        reply: Reply::Refused {
+            code: 1,
+            first: None,
+            second: None,
+        },
+    },
+    Entry::Begin {
+        word: Word::Configure,
+    },
+    Entry::Call {
+        index: 1,
+        word: Word::Configure,
+        reply: CONFIGURED,
+    },
+    Entry::Call {
+        index: 2,
+        word: Word::Once,
+        reply: Reply::Refused {
+            code: 6,
+            first: Some(0),
+            second: Some(3),
+        },
+    },
+    Entry::Begin { word: Word::Close },
+    Entry::Call {
+        index: 3,
+        word: Word::Close,
+        reply: Reply::Ok,
+    },
+    Entry::Call {
+        index: 4,
+        word: Word::Once,
+        reply: Reply::Refused {
+            code: 2,
+            first: None,
+            second: None,
+        },
+    },
+    Entry::Begin { word: Word::Close },
+    Entry::Call {
+        index: 5,
+        word: Word::Close,
+        reply: Reply::Refused {
+            code: 2,
+            first: None,
+            second: None,
+        },
+    },
 ];
 
 const TWO_REQUESTS: &[Line] = &[Line::Raw, Line::Once(100), Line::Once(100), Line::Close];
@@ -207,7 +278,7 @@ fn add<T: Drop>(list: &mut Listing<T>, entry: T) -> Result<(), NoMemory> {
     list.push(entry)
 }
 
-fn item(level: u32) -> Item {
+fn item(level: u32, stream: u8) -> Item {
     Item {
         settings: Settings {
             pattern: 0,
@@ -217,7 +288,7 @@ fn item(level: u32) -> Item {
         },
         targets: Targets {
             count: 1,
-            list: [0; 8],
+            list: [stream, 0, 0, 0, 0, 0, 0, 0],
         },
     }
 }
@@ -242,7 +313,8 @@ fn command(alloc: Global, line: Line) -> Result<Option<Command>, NoMemory> {
         Line::Fault => None,
         Line::Raw => Some(Command::Configure(raw_streams(alloc, 1)?)),
         Line::TwoRaw => Some(Command::Configure(raw_streams(alloc, 2)?)),
-        Line::Once(level) => Some(Command::Once(item(level))),
+        Line::Once(level) => Some(Command::Once(item(level, 0))),
+        Line::OnceOf(stream) => Some(Command::Once(item(100, stream))),
         Line::Repeat => Some(Command::Repeat(Listing::new(alloc))),
         Line::Close => Some(Command::Close),
     })
@@ -275,21 +347,23 @@ fn runs_raw_scripts_alone(rt: HostRuntime) -> Result<(), Fail> {
 
 #[test]
 fn chooses_each_step_of_a_run(rt: HostRuntime) -> Result<(), Fail> {
-    let script = script(rt.alloc(), TWO_REQUESTS)?;
-    assert!(rt; is_raw_script(&script));
-    let mut service = Service::open(rt.alloc(), script)?;
-    for want in TRACE.as_slice() {
-        assert!(rt; !service.done());
-        match service.chosen() {
-            Some(step) => assert_eq!(rt; service.step(step), Step::Did(*want)),
-            None => assert!(rt; false, "{want:?}"),
+    for (lines, trace) in RUNS {
+        let script = script(rt.alloc(), lines)?;
+        assert!(rt; is_raw_script(&script));
+        let mut service = Service::open(rt.alloc(), script)?;
+        for want in *trace {
+            assert!(rt; !service.done());
+            match service.chosen() {
+                Some(step) => assert_eq!(rt; service.step(step), Step::Did(*want)),
+                None => assert!(rt; false, "{want:?}"),
+            }
         }
+        assert!(rt; service.done());
+        assert_eq!(rt; service.chosen(), None);
+        service.is_a_run();
+        assert_eq!(rt; service.trace(), *trace);
+        service.scrap();
     }
-    assert!(rt; service.done());
-    assert_eq!(rt; service.chosen(), None);
-    service.is_a_run();
-    assert_eq!(rt; service.trace(), TRACE.as_slice());
-    service.scrap();
     Ok(())
 }
 
