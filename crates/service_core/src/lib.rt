@@ -2,7 +2,6 @@
 //! entry to the trace.
 #![tactic(auto)]
 
-mod draw;
 mod history;
 mod raw;
 mod service;

@@ -8,15 +8,26 @@ ghost use Rattle.service_core.specs.First.{IsFirstRun, entry_of, first_chosen, f
 ghost use Rattle.service_core.specs.History.{trace_of};
 ghost use Rattle.service_core.specs.RawScripts.{is_raw_script};
 
-use crate::draw::Canvas;
 use crate::history::History;
 use crate::step::{Step, StepName};
 use crate::tables::Tables;
-use cam_types::{BufferId, FenceNo, FrameNo, NoMemory, Script, StreamIx};
+use cam_types::{
+    BufferId, FenceNo, Format, FrameNo, NoMemory, SENSOR_HEIGHT, SENSOR_WIDTH, Script, StreamIx,
+    StreamSpec,
+};
+use picture_digest::Canvas;
 use std::alloc::{AllocError, Global};
 use std::marker::Model;
 use trace_bounds::every_script_is_typed;
 use trace_model::Entry;
+
+/// The stream that the service serves.
+const RAW: StreamSpec = StreamSpec {
+    input: false,
+    format: Format::Raw16,
+    width: SENSOR_WIDTH,
+    height: SENSOR_HEIGHT,
+};
 
 /// The camera service, for scripts of one RAW16 stream: see `is_raw_script`. It has one frame at a
 /// time. A contract sees the script and the history, which is a run of the script whatever calls were made.
@@ -29,7 +40,7 @@ pub struct Service {
 }
 
 impl Model for Service {
-    ghost use Rattle.std.specs.Prelude.{◌≡◌, true, IfSome, IsSome, length};
+    ghost use Rattle.std.specs.Prelude.{◌≡◌, true, IsSome};
     ghost use Rattle.service_core.specs.Answers.{State};
     ghost use Rattle.service_core.specs.Fit.{Fit, facts_of};
     ghost use Rattle.service_core.specs.First.{IsFirstRun};
@@ -43,7 +54,7 @@ impl Model for Service {
 
     ghost view = { λ s. record { script = s.script; history = s.history } };
 
-    ghost invariant = { λ s. (is_raw_script s.script ≡ true) × IsFirstRun s.script s.history × IsLegal s.script (trace_of s.history) × (list_all is_printable (trace_of s.history) ≡ true) × Fit s.script (trace_of s.history) (facts_of s.tables) × IsSome s.canvas × IfSome s.canvas (λ canvas. length canvas.block.items ≡ 38400) };
+    ghost invariant = { λ s. (is_raw_script s.script ≡ true) × IsFirstRun s.script s.history × IsLegal s.script (trace_of s.history) × (list_all is_printable (trace_of s.history) ≡ true) × Fit s.script (trace_of s.history) (facts_of s.tables) × IsSome s.canvas };
 }
 
 impl Service {
@@ -169,7 +180,7 @@ impl Service {
         match self.canvas.take() {
             None => None,
             Some(canvas) => {
-                let (digest, canvas) = canvas.draw(settings, frame);
+                let (digest, canvas) = canvas.digest(RAW, settings, frame);
                 self.canvas = Some(canvas);
                 Some(Entry::Filled {
                     frame,

@@ -18,4 +18,4 @@ invariant_of-self-2 c =
     let tables : facts_of c.note.new.self ≡ noted c.self.inside.script c.args.entry (facts_of c.self.inside.tables) = grind arith in
     let due : entry_of c.self.inside.script (trace_of c.self.inside.history) c.args.step ≡ Some c.args.entry = rw (← c.self.view_is) at c.requires in
     let after = goes c.self.inside.script (trace_of c.self.inside.history) (facts_of c.self.inside.tables) (raw c.self.inside.script c.self.invariant.0) c.self.invariant.4 c.self.invariant.3 c.args.step c.args.entry due in
-    rw (pushed, tables) (before.0, (rw due refl, before.1), (after.0, before.2), and_from _ _ after.2 before.3, after.1, before.5, before.6)
+    rw (pushed, tables) (before.0, (rw due refl, before.1), (after.0, before.2), and_from _ _ after.2 before.3, after.1, before.5)
