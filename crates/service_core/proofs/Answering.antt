@@ -1,5 +1,5 @@
 -- When the client's next command begins and when it is answered.
-use Rattle.std.proofs.Common.{◌≡◌, ℕ, zero, suc, ◌+◌, ◌-◌, ◌<◌, ◌≤◌, Bool, true, false, ◌&&◌, ◌||◌, List, [], ◌∷◌, Option, Some, None, refl, sym, ap, ◌∙◌, arith, inl, inr, nat_lt, length, slice_index_or, if◌then◌else◌}
+use Rattle.std.proofs.Common.{◌≡◌, ℕ, suc, ◌+◌, ◌<◌, Bool, true, false, ◌&&◌, ◌||◌, List, [], ◌∷◌, Option, Some, None, refl, sym, ap, ◌∙◌, arith, inl, inr, length, slice_index_or, if◌then◌else◌}
 use Rattle.std.specs.List.{list_all, range_with_len}
 use Rattle.std.proofs.lemmas.Bool.{cases_eq, false≢true}
 use Rattle.std.proofs.lemmas.Bool.Decides.{nat_tests}
@@ -10,9 +10,9 @@ use Rattle.cam_types.specs.declared.script.Command.{Command}
 use Rattle.cam_types.specs.declared.script.Command.TheVariants.{Configure, Once, Close}
 use Rattle.cam_types.specs.declared.script.Script.{Script}
 use Rattle.cam_types.specs.declared.script.Word.{Word}
-use Rattle.cam_types.specs.declared.script.Word.TheVariants.{Configure as WordConfigure, Once as WordOnce, Close as WordClose}
+use Rattle.cam_types.specs.declared.script.Word.TheVariants.{Configure as WordConfigure, Once as WordOnce}
 use Rattle.trace_model.specs.declared.entry.Entry.{Entry}
-use Rattle.trace_model.specs.declared.entry.Entry.TheVariants.{Begin, Call}
+use Rattle.trace_model.specs.declared.entry.Entry.TheVariants.{Call}
 use Rattle.trace_model.specs.Calls.{begun, command_at}
 use Rattle.trace_model.specs.Client.{begin_of, call_of, is_idle}
 use Rattle.trace_model.specs.Configuration.{made_count}
@@ -27,7 +27,7 @@ use Rattle.service_core.specs.declared.step.StepName.TheVariants.{Client as Clie
 use Rattle.service_core.specs.declared.tables.Place.TheVariants.{Pool}
 use Rattle.service_core.specs.First.{entry_of}
 use Rattle.service_core.specs.Ready.{or_entry}
-use Rattle.service_core.specs.Due.{client_of, close_of, configure_reply, is_home, is_pool, is_resting, item_reply, once_reply, queue_refusal_of}
+use Rattle.service_core.specs.Due.{client_of, close_of, configure_reply, is_home, is_pool, is_resting, once_reply, queue_refusal_of}
 use Rattle.service_core.specs.Fit.{Facts, Fit, raw_made, raw_spec}
 use Rattle.service_core.proofs.Frames.{quiet-yes, quiet-no}
 use Rattle.service_core.proofs.Plain.{none-plain, no-device-error}

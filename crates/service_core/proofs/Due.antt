@@ -22,7 +22,7 @@ use Rattle.trace_model.specs.Release.{release_due, signal_due}
 use Rattle.trace_model.specs.Shutter.{shutter_due, may_expose}
 use Rattle.service_core.specs.declared.tables.Place.{Place}
 use Rattle.service_core.specs.declared.tables.Place.TheVariants.{Pool, Device, Client}
-use Rattle.service_core.specs.Fit.{Facts, Fit, as_place, below, is_client, item_for, settings_for, last_target, one_target, raw_made, raw_spec, settings_before}
+use Rattle.service_core.specs.Fit.{Facts, Fit, as_place, below, is_client, settings_for, last_target, raw_spec}
 use Rattle.service_core.specs.Due.{passed}
 use Rattle.service_core.proofs.FitSteps.{frame-settings}
 use Rattle.service_core.proofs.Frames.{no-request-error, no-result-error, no-buffer-error, no-errors, sent-is, ended-is, earlier}

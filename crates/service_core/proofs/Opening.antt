@@ -1,5 +1,5 @@
 -- The tables before the first entry.
-use Rattle.std.proofs.Common.{◌≡◌, ℕ, ◌<◌, true, false, [], Option, None, refl, arith, length}
+use Rattle.std.proofs.Common.{◌≡◌, ◌<◌, true, false, [], Option, None, refl, arith, length}
 use Rattle.std.proofs.lemmas.Bool.Decides.{nat_tests}
 use Rattle.std.proofs.lemmas.Grind.{common_steps}
 use Rattle.cam_types.specs.declared.number.FenceNo.{FenceNo}

@@ -20,7 +20,7 @@ use Rattle.service_core.specs.declared.tables.Place.TheVariants.{Pool, Device, C
 use Rattle.service_core.specs.First.{entry_of}
 use Rattle.service_core.specs.Ready.{where_entry}
 use Rattle.service_core.specs.declared.step.StepName.TheVariants.{Send as SendStep}
-use Rattle.service_core.specs.Fit.{Facts, Fit, as_place, item_for, settings_for, one_target, raw_made, raw_spec, settings_before}
+use Rattle.service_core.specs.Fit.{Facts, Fit, as_place, item_for, settings_for, one_target, settings_before}
 use Rattle.service_core.proofs.Due.{stands}
 use Rattle.service_core.proofs.Frames.{quiet-yes, quiet-no, none-open}
 use Rattle.service_core.proofs.Plain.{goes-on}

@@ -23,7 +23,7 @@ use Rattle.std.specs.List.{list_all}
 use Rattle.cam_types.specs.declared.script.Word.TheVariants.{Once as WordOnce}
 use Rattle.service_core.proofs.Printing.{call-prints, fence-fits, filled-prints, part-fits, release-prints, send-prints, shutter-prints, small-number}
 use Rattle.trace_model.specs.Send.{are_last}
-use Rattle.cam_types.specs.Metadata.{part_at, range_fault}
+use Rattle.cam_types.specs.Metadata.{part_at}
 use Rattle.cam_types.specs.declared.item.Item.{Item}
 use Rattle.cam_types.specs.declared.number.FrameNo.{FrameNo}
 use Rattle.cam_types.specs.declared.part.Part.{Part}
@@ -38,7 +38,7 @@ use Rattle.service_core.specs.declared.tables.Place.{Place}
 use Rattle.service_core.specs.declared.tables.Place.TheVariants.{Pool, Device, Client as AtClient}
 use Rattle.service_core.specs.First.{entry_of}
 use Rattle.service_core.specs.Ready.{or_entry}
-use Rattle.service_core.specs.Fit.{Facts, Fit, IsSmall, is_client, item_for, settings_for, noted, once_item, raw_made, raw_spec, settings_before}
+use Rattle.service_core.specs.Fit.{Facts, Fit, IsSmall, is_client, settings_for, noted, raw_made, raw_spec, settings_before}
 use Rattle.service_core.specs.Due.{client_of, close_reply, configure_reply, is_home, is_pool, once_reply, passed}
 use Rattle.service_core.proofs.Answering.{client-is, is-first}
 use Rattle.service_core.proofs.Refusing.{IsRefused, once-kind}

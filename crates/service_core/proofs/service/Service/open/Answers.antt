@@ -1,4 +1,4 @@
-use Rattle.std.proofs.Common.{◌≡◌, ◌<◌, length, refl, arith}
+use Rattle.std.proofs.Common.{◌<◌, length, refl, arith}
 use Rattle.service_core.proofs.Opening.{fit-first}
 use Rattle.service_core.proofs.service.Service.open.Goals as goal
 
