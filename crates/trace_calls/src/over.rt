@@ -12,7 +12,7 @@ use trace_pool::pool::all_in_pool;
 
 /// Whether nothing is queued.
 #[tactic(auto, using(crate::proofs::SinceLemmas::empty_first))]
-fn is_queue_empty(script: &Script, entries: &[Entry]) -> bool
+pub fn is_queue_empty(script: &Script, entries: &[Entry]) -> bool
     ensures { result ≡ is_empty (queued script.now (reverse entries.now)) }
 {
     first_queued(script, entries).is_none()

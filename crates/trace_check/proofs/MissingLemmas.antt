@@ -1,16 +1,10 @@
--- The queue is empty where it has no first item; the released fences by the entries that release them.
-use Rattle.std.proofs.Common.{◌≡◌, ℕ, Bool, ◌&&◌, not, List, [], ◌∷◌, refl, ap, is_some}
+-- The released fences by the entries that release them.
+use Rattle.std.proofs.Common.{◌≡◌, ℕ, Bool, ◌&&◌, List, [], ◌∷◌, refl, ap}
 use Rattle.std.specs.List.{list_all}
 use Rattle.trace_model.specs.declared.entry.Entry.{Entry}
 use Rattle.trace_model.specs.declared.entry.Entry.TheVariants.{Begin, Call, Send, Dropped, Shutter, Partial, Filled, Failed, ErrorRequest, ErrorResult, ErrorBuffer, ErrorDevice, Release, Signal}
-use Rattle.trace_model.specs.Client.{is_empty}
 use Rattle.trace_model.specs.Complete.{released}
-use Rattle.trace_model.specs.Queue.{Waiting, first_in}
 use Rattle.trace_check.specs.Released.{on_release}
-
-pub queue-first : (xs : List Waiting) → is_empty xs ≡ not (is_some (first_in xs))
-queue-first [] = refl
-queue-first (x ∷ xs) = refl
 
 pub released-all : (p : ℕ → Bool) (past : List Entry) → list_all p (released past) ≡ list_all (on_release p) past
 released-all p [] = refl

@@ -1,17 +1,17 @@
 //! What a legal run lacks for being complete.
 ghost use Rattle.std.specs.Prelude.{◌≡◌, reverse};
 ghost use Rattle.std.specs.List.{list_all};
-ghost use Rattle.trace_model.specs.Complete.{is_all_called, is_all_signalled, is_queue_empty};
+ghost use Rattle.trace_model.specs.Complete.{is_all_called, is_all_signalled};
 ghost use Rattle.trace_model.specs.Fence.{is_signalled};
 ghost use Rattle.trace_check.specs.Released.{on_release};
 ghost use Rattle.trace_check.specs.Verdict.{first_missing};
 
 use crate::verdict::MissingPart;
 use cam_types::Script;
+use trace_calls::over::is_queue_empty;
 use trace_filters::fence::is_signalled;
 use trace_filters::number::call_count;
 use trace_filters::open::is_quiet;
-use trace_filters::queue::first_queued;
 use trace_model::Entry;
 use trace_pool::pool::all_in_pool;
 
@@ -20,16 +20,6 @@ fn is_all_called(script: &Script, entries: &[Entry]) -> bool
     ensures { result ≡ is_all_called script.now (reverse entries.now) }
 {
     call_count(entries) == script.commands.len() as usize
-}
-
-/// Whether no item is queued.
-fn is_queue_empty(script: &Script, entries: &[Entry]) -> bool
-    ensures { result ≡ is_queue_empty script.now (reverse entries.now) }
-{
-    match first_queued(script, entries) {
-        Some(_) => false,
-        None => true,
-    }
 }
 
 /// Whether the fence that the entry releases, if it releases one, is signalled.
