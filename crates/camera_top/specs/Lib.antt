@@ -3,3 +3,4 @@ pub mod Answers
 pub mod Says
 pub mod Judging
 pub mod Ends
+pub mod Counting

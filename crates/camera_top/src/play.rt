@@ -1,10 +1,11 @@
-ghost use Rattle.std.specs.Prelude.{◌≡◌, [], true};
+ghost use Rattle.std.specs.Prelude.{◌≡◌, ◌≤◌, [], count_by, length, true};
 ghost use Rattle.cam_types.specs.Script.{awaited_by};
 ghost use Rattle.service_core.specs.First.{IsFirstPlayedRun, IsFirstStuck, move_bound, queued_by};
 ghost use Rattle.service_core.specs.RawScripts.{is_raw_script};
+ghost use Rattle.camera_top.specs.Counting.{is_once};
 ghost use Rattle.camera_top.specs.Ends.{EndsAs};
 
-use cam_types::Script;
+use cam_types::{Command, Script};
 use service_core::{Service, Step};
 
 /// How a run ended.
@@ -15,13 +16,27 @@ pub enum Ended {
     NoMemory,
 }
 
+fn is_once(command: &Command) -> bool
+    ensures { result ≡ is_once command.now }
+{
+    matches!(command, Command::Once(_))
+}
+
+fn request_count(commands: &[Command]) -> usize
+    ensures value { result ≡ count_by is_once commands.now }
+    ensures few { result ≤ length commands.now }
+{
+    commands.iter().filter(|command| is_once(command)).count()
+}
+
 /// More moves than a run of the script makes: see `move_bound` of the service's definitions.
 pub fn move_bound(script: &Script) -> u64
     requires { is_raw_script script.now ≡ true }
     ensures { result ≡ move_bound script.now }
 {
     let commands = script.commands.len() as u64;
-    let frames = 64 * (commands + 2) + (commands - 2);
+    let requests = request_count(script.commands.as_slice()) as u64;
+    let frames = 64 * (commands + 2) + requests;
     32 * frames + (2 * (commands + 1) + 1)
 }
 

@@ -7,5 +7,7 @@ returns c =
     let b = bounded c.args.script.now c.requires in
     let awaited = b.awaited in
     let queued = b.queued in
-    let count = c.len-commands.ensures in
-    rw (awaited, queued, count) (omega arith)
+    let commands = c.len-commands.ensures in
+    let requests = c.request_count-requests.ensures.value in
+    let slice = c.as_slice.ensures in
+    rw (awaited, queued, commands, requests, slice) (omega arith)
