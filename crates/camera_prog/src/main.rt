@@ -1,16 +1,28 @@
 //! The program: it hands the words, standard input and standard output to the top call, and ends with its status.
 #![tactic(auto)]
 
+ghost use Rattle.std.specs.Prelude.{◌≡◌, ◌≤◌, IfOk, OnErr};
+ghost use Rattle.std.specs.Io.KnownBytes.{Keeps};
+ghost use Rattle.io_edge.specs.Faults.{Rose};
+ghost use Rattle.camera_prog.specs.Ends.{number_of};
+
 use camera_top::{Status, camera_main};
-use io_edge::{NoMemory, StdSink, StdSource};
-use std::alloc::AllocError;
+use io_edge::{NoMemory, Sink, Source, StdSink, StdSource};
+use std::alloc::{AllocError, Global};
 use std::process::ExitCode;
 use std::{env, io};
 
 fn main(rt: HostRuntime) -> ExitCode {
-    match run(&rt) {
-        Ok(status) => ExitCode::from(status.number),
-        Err(_) => ExitCode::from(Status::NO_MEMORY.number),
+    ExitCode::from(number_of(run(&rt)))
+}
+
+/// The number that the program ends with.
+fn number_of(ended: Result<Status, NoMemory>) -> u8
+    ensures { result ≡ number_of ended }
+{
+    match ended {
+        Ok(status) => status.number,
+        Err(_) => Status::NO_MEMORY.number,
     }
 }
 
@@ -19,11 +31,26 @@ fn run(rt: &HostRuntime) -> Result<Status, NoMemory> {
     let mut source = StdSource::new(rt)?;
     let mut sink = StdSink::new(rt)?;
     let texts = words_of(rt)?;
-    let mut words = Vec::new(rt.alloc());
-    for text in &texts {
+    answer(rt.alloc(), texts.as_slice(), &mut source, &mut sink)
+}
+
+/// Runs the top call on the words. Where there is no memory to hand them over, nothing is written.
+fn answer<S: Source, K: Sink>(
+    alloc: Global,
+    texts: &[String],
+    source: &mut S,
+    sink: &mut K,
+) -> Result<Status, NoMemory>
+    ensures source_failed { IfOk result (λ status. status.number ≡ 3 → Rose (S.faults source.old) (S.faults source.new) × Keeps (K.written sink.old) (K.written sink.new)) }
+    ensures sink_failed { IfOk result (λ status. status.number ≡ 4 → Rose (K.faults sink.old) (K.faults sink.new)) }
+    ensures known { IfOk result (λ status. status.number ≤ 6) }
+    ensures no_memory { OnErr result (Keeps (K.written sink.old) (K.written sink.new)) }
+{
+    let mut words = Vec::new(alloc);
+    for text in texts {
         words.push(text.as_str())?;
     }
-    Ok(camera_main(rt.alloc(), words.as_slice(), &mut source, &mut sink))
+    Ok(camera_main(alloc, words.as_slice(), source, sink))
 }
 
 /// The words behind the program's name. Words that are no text are no form of the command line, as no words are.
