@@ -4,7 +4,7 @@ use Rattle.std.proofs.lemmas.Bool.{cases_Bool, false≢true}
 use Rattle.std.proofs.lemmas.Bool.Decides.{nat_tests}
 use Rattle.cam_types.specs.declared.script.Script.{Script}
 use Rattle.trace_model.specs.declared.entry.Entry.{Entry}
-use Rattle.trace_model.specs.declared.entry.Entry.TheVariants.{Send, Filled, Failed, Release}
+use Rattle.trace_model.specs.declared.entry.Entry.TheVariants.{Send, Filled, Failed, Release, Early}
 use Rattle.trace_model.specs.Configuration.{is_buffer}
 use Rattle.trace_model.specs.Entry.{names}
 use Rattle.trace_model.specs.Laws.{ConservesBuffers, returns_buffer, sends_buffer}
@@ -14,7 +14,7 @@ use Rattle.trace_model.proofs.LawLemmas.{at-device, until-returned}
 use Rattle.trace_bounds.proofs.Counts.{count-cons}
 use Rattle.buffer_laws.proofs.Lists.{count-over}
 use Rattle.buffer_laws.proofs.Own.{at-device-by-some, device-buffer}
-use Rattle.buffer_laws.proofs.Returns.{filled-back, failed-back}
+use Rattle.buffer_laws.proofs.Returns.{early-back, filled-back, failed-back}
 
 -- 1 at the device, else 0
 abbrev pub out_by : Place → ℕ
@@ -108,6 +108,18 @@ conserved script (Failed n s c f ∷ past) b legal =
           counted b 0 1 1 0 (Failed n s c f) past refl return before after refl ih
           )
       | inr other ↦ passed_over b (Failed n s c f) past other refl other ih
+    ]
+conserved script (Early n s c d ∷ past) b legal =
+    let ih = conserved script past b legal.1 in
+    elim (cases_Bool (c.0 == b)) [
+      | inl named ↦ (
+          let back = early-back script past n s c d legal.0 in
+          let before = was_out past n.0 s.0 c.0 b named back.out in
+          let return : by_test (returns_buffer b (Early n s c d)) ≡ 1 = rw named refl in
+          let after : out_by (place b (Early n s c d ∷ past)) ≡ 0 = rw (place_named b (Early n s c d) past named) refl in
+          counted b 0 1 1 0 (Early n s c d) past refl return before after refl ih
+          )
+      | inr other ↦ passed_over b (Early n s c d) past other refl other ih
     ]
 conserved script (Release c f ∷ past) b legal =
     let ih = conserved script past b legal.1 in

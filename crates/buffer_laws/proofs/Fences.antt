@@ -7,10 +7,10 @@ use Rattle.cam_types.specs.declared.number.FenceNo.{FenceNo}
 use Rattle.cam_types.specs.declared.script.Script.{Script}
 use Rattle.trace_model.specs.declared.entry.Entry.{Entry}
 use Rattle.trace_model.specs.declared.entry.Entry.TheVariants.{Release, Signal}
-use Rattle.trace_model.specs.Complete.{IsComplete, released}
+use Rattle.trace_model.specs.Complete.{released}
 use Rattle.trace_model.specs.Entry.{is_release, releases_fence, signals}
 use Rattle.trace_model.specs.Fence.{is_signalled}
-use Rattle.trace_model.specs.Laws.{FencesOnce, signals_after_release}
+use Rattle.trace_model.specs.Laws.{signals_after_release}
 use Rattle.trace_model.specs.Legal.{IsLegal}
 use Rattle.trace_model.specs.Numbers.{next_fence}
 use Rattle.trace_model.specs.Release.{signal_due}
@@ -24,7 +24,7 @@ use Rattle.buffer_laws.proofs.Lists.{all-where, count-one, count-over, none-coun
 abbrev pub ReleasedBelow : List Entry → ℕ → Type 0
 ReleasedBelow past f = count_by (releases_fence f) past ≡ (if nat_lt f (next_fence past) then 1 else 0)
 
-by_number : (f g n m k j : ℕ) → (g == f) ≡ true → g ≡ n → m ≡ 1 + n → k ≡ 1 + j → j ≡ (if nat_lt f n then 1 else 0) → k ≡ (if nat_lt f m then 1 else 0)
+pub by_number : (f g n m k j : ℕ) → (g == f) ≡ true → g ≡ n → m ≡ 1 + n → k ≡ 1 + j → j ≡ (if nat_lt f n then 1 else 0) → k ≡ (if nat_lt f m then 1 else 0)
 by_number f g n m k j same number next one before =
     let same' : g ≡ f = grind (arith, nat_tests) in
     let no' : nat_lt f n ≡ false = grind (arith, nat_tests, same', number) in
@@ -32,7 +32,7 @@ by_number f g n m k j same number next one before =
     let before' : j ≡ 0 = rw no' at before in
     rw yes' (omega (arith, one, before'))
 
-by_other : (f g n m k j : ℕ) → (g == f) ≡ false → g ≡ n → m ≡ 1 + n → k ≡ j → j ≡ (if nat_lt f n then 1 else 0) → k ≡ (if nat_lt f m then 1 else 0)
+pub by_other : (f g n m k j : ℕ) → (g == f) ≡ false → g ≡ n → m ≡ 1 + n → k ≡ j → j ≡ (if nat_lt f n then 1 else 0) → k ≡ (if nat_lt f m then 1 else 0)
 by_other f g n m k j other number next over before =
     elim (cases_Bool (nat_lt f n)) [
       | inl below ↦ (
@@ -76,10 +76,10 @@ released-low script (Release b g ∷ past) legal =
     below_more f n m next low = grind (arith, nat_tests, next, low)
 released-low script (e ∷ past) legal = released-low script past legal.1
 
-is_one : (k : ℕ) (below : Bool) → below ≡ true → k ≡ (if below then 1 else 0) → k ≡ 1
+pub is_one : (k : ℕ) (below : Bool) → below ≡ true → k ≡ (if below then 1 else 0) → k ≡ 1
 is_one k below yes' h = rw yes' at h
 
-one_equals : (k : ℕ) → k ≡ 1 → (k == 1) ≡ true
+pub one_equals : (k : ℕ) → k ≡ 1 → (k == 1) ≡ true
 one_equals k h = rw h refl
 
 pub fences_released_once : (script : Script) (past : List Entry) → IsLegal script past → list_all (λ f. count_by (releases_fence f) past == 1) (released past) ≡ true
@@ -136,10 +136,3 @@ fences_signalled_later script (Signal f ∷ past) legal =
     is_low : (n m : ℕ) → n < m → nat_lt n m ≡ true
     is_low n m l = grind (arith, nat_tests, l)
 fences_signalled_later script (e ∷ past) legal = fences_signalled_later script past legal.1
-
-pub fences_once : (script : Script) (past : List Entry) → IsComplete script past → FencesOnce past
-fences_once script past complete = record {
-  released_once = fences_released_once script past complete.legal;
-  signalled_once = signalled-once script past complete.legal complete.signals;
-  later = fences_signalled_later script past complete.legal;
-}

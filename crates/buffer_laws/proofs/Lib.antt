@@ -5,4 +5,6 @@ pub mod Conserved
 pub mod Fences
 pub mod Sends
 pub mod Once
+pub mod Home
+pub mod Early
 pub mod Order

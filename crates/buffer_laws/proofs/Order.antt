@@ -6,7 +6,7 @@ use Rattle.std.proofs.lemmas.Bool.Decides.{nat_tests}
 use Rattle.cam_types.specs.declared.reply.Reply.TheVariants.{Configured}
 use Rattle.cam_types.specs.declared.script.Script.{Script}
 use Rattle.trace_model.specs.declared.entry.Entry.{Entry}
-use Rattle.trace_model.specs.declared.entry.Entry.TheVariants.{Call, Send, Filled}
+use Rattle.trace_model.specs.declared.entry.Entry.TheVariants.{Call, Send, Filled, Early}
 use Rattle.trace_model.specs.Entry.{is_error_buffer, is_error_request, returns}
 use Rattle.trace_model.specs.Faults.{buffer_fault, request_fault}
 use Rattle.trace_model.specs.Filled.{lets_pass}
@@ -18,14 +18,15 @@ use Rattle.trace_model.specs.Open.{has_error_buffer, is_returned}
 use Rattle.trace_model.proofs.Basics.{and_parts}
 use Rattle.buffer_laws.proofs.Lists.{any-behind, any-where, found-any}
 use Rattle.buffer_laws.proofs.Once.{out-not-returned, returned-sent}
-use Rattle.buffer_laws.proofs.Returns.{ComesBack, ComesFilled, filled-back, filled-well}
+use Rattle.buffer_laws.proofs.Returns.{ComesBack, ComesFilled, early-back, early-well, filled-back, filled-well}
 use Rattle.buffer_laws.proofs.Sends.{out-sent, send-number, sent-below}
 
 -- ---- filled buffers
 
--- the entry fills the buffer of frame m for stream s
+-- the entry gives back the buffer of frame m for stream s, filled or early
 abbrev pub fills : ℕ → ℕ → Entry → Bool
 fills m s (Filled k t _ _ _) = (k.0 == m) && (t.0 == s)
+fills m s (Early k t _ _) = (k.0 == m) && (t.0 == s)
 fills m s _ = false
 
 abbrev pub was_filled : ℕ → ℕ → List Entry → Bool
@@ -33,6 +34,7 @@ was_filled m s past = list_any (fills m s) past
 
 fills_and_returns : (m s : ℕ) (e : Entry) → fills m s e ≡ true → returns m s e ≡ true
 fills_and_returns m s (Filled k t b f d) h = h
+fills_and_returns m s (Early k t b d) h = h
 fills_and_returns m s e h = absurd (false≢true h)
 
 filled_returned : (m s : ℕ) (past : List Entry) → was_filled m s past ≡ true → is_returned m s past ≡ true
@@ -105,6 +107,11 @@ passes-before script (Filled k u c f d ∷ past) m s n legal filled sent less =
       | inl own ↦ keeps_passing (Filled k u c f d) past s n refl (filled_by script past k.0 u.0 m s n (filled-well script past k u c f d legal.0) own sent less)
       | inr other ↦ (let filled' = rw other at filled in keeps_passing (Filled k u c f d) past s n refl (passes-before script past m s n legal.1 filled' sent less))
     ]
+passes-before script (Early k u c d ∷ past) m s n legal filled sent less =
+    elim (cases_Bool (fills m s (Early k u c d))) [
+      | inl own ↦ keeps_passing (Early k u c d) past s n refl (filled_by script past k.0 u.0 m s n (early-well script past k u c d legal.0) own sent less)
+      | inr other ↦ (let filled' = rw other at filled in keeps_passing (Early k u c d) past s n refl (passes-before script past m s n legal.1 filled' sent less))
+    ]
 passes-before script (e ∷ past) m s n legal filled sent less = keeps_passing e past s n refl (passes-before script past m s n legal.1 filled sent less)
 
 -- ---- in order
@@ -159,6 +166,16 @@ below n s (Filled m t b f d ∷ past) each =
           )
       | inr other ↦ rw (other, ih) refl
     ]
+below n s (Early m t b d ∷ past) each =
+    let ih = below n s past (λ k h. each k (any-behind (fills k s) (Early m t b d) past h)) in
+    elim (cases_Bool (t.0 == s)) [
+      | inl own ↦ (
+          let number : (m.0 == m.0) ≡ true = grind (arith, nat_tests) in
+          let filled : was_filled m.0 s (Early m t b d ∷ past) ≡ true = rw (number, own) refl in
+          rw (own, each m.0 filled, ih) refl
+          )
+      | inr other ↦ rw (other, ih) refl
+    ]
 below n s (Call i w (Configured each') ∷ past) each = refl
 below n s (e ∷ past) each = below n s past each
 
@@ -167,6 +184,11 @@ delivered_in_order script [] legal = refl
 delivered_in_order script (Filled n s b f d ∷ past) legal =
     let back = filled-back script past n s b f d legal.0 in
     let well = filled-well script past n s b f d legal.0 in
+    let first = below n.0 s.0 past (λ m filled. later_than_filled script past n.0 s.0 b.0 m legal.1 back well filled) in
+    rw (first, delivered_in_order script past legal.1) refl
+delivered_in_order script (Early n s b d ∷ past) legal =
+    let back = early-back script past n s b d legal.0 in
+    let well = early-well script past n s b d legal.0 in
     let first = below n.0 s.0 past (λ m filled. later_than_filled script past n.0 s.0 b.0 m legal.1 back well filled) in
     rw (first, delivered_in_order script past legal.1) refl
 delivered_in_order script (e ∷ past) legal = delivered_in_order script past legal.1

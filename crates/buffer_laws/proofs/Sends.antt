@@ -7,7 +7,7 @@ use Rattle.cam_types.specs.Four.{four_list}
 use Rattle.cam_types.specs.declared.four.Four.{Four}
 use Rattle.cam_types.specs.declared.script.Script.{Script}
 use Rattle.trace_model.specs.declared.entry.Entry.{Entry}
-use Rattle.trace_model.specs.declared.entry.Entry.TheVariants.{Send, Dropped, Filled, Failed, Release}
+use Rattle.trace_model.specs.declared.entry.Entry.TheVariants.{Send, Dropped, Filled, Failed, Release, Early}
 use Rattle.trace_model.specs.declared.entry.Sent.{Sent}
 use Rattle.trace_model.specs.Entry.{is_numbering, names, sends}
 use Rattle.trace_model.specs.Frames.{frames, is_sent, target_of}
@@ -195,6 +195,11 @@ out-target script (Failed m u c f ∷ past) n s b legal h =
     elim (cases_Bool (c.0 == b)) [
       | inl named ↦ (let wrong = rw named at h in absurd (false≢true wrong))
       | inr other ↦ out-target script past n s b legal.1 (out-before past (Failed m u c f) n s b other h)
+    ]
+out-target script (Early m u c d ∷ past) n s b legal h =
+    elim (cases_Bool (c.0 == b)) [
+      | inl named ↦ (let wrong = rw named at h in absurd (false≢true wrong))
+      | inr other ↦ out-target script past n s b legal.1 (out-before past (Early m u c d) n s b other h)
     ]
 out-target script (Release c f ∷ past) n s b legal h =
     elim (cases_Bool (c.0 == b)) [

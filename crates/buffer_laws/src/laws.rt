@@ -12,7 +12,7 @@ pub fn buffers_are_conserved()
 {}
 
 /// In a legal run each fence is released once, and signalled only after that; in a complete one each is signalled once.
-#[tactic(auto, using(crate::proofs::Fences::fences_released_once, crate::proofs::Fences::fences_signalled_later, crate::proofs::Fences::fences_once))]
+#[tactic(auto, using(crate::proofs::Fences::fences_released_once, crate::proofs::Fences::fences_signalled_later, crate::proofs::Early::fences_once))]
 pub fn fences_are_released_and_signalled_once()
     ensures released { (script : SomeScript) (past : List SomeEntry) → ReleasesOnce script past }
     ensures later { (script : SomeScript) (past : List SomeEntry) → SignalsLater script past }

@@ -24,8 +24,8 @@ use Rattle.cam_types.specs.declared.number.RequestId.{RequestId}
 use Rattle.cam_types.specs.declared.row.RowView.{RowView}
 use Rattle.cam_types.specs.declared.row.SensorPlace.{SensorPlace}
 use Rattle.cam_types.specs.declared.row.TargetView.{TargetView}
-use Rattle.cam_types.specs.declared.row.Verdict.{Verdict}
-use Rattle.cam_types.specs.declared.row.Verdict.TheVariants.{Request, Parts, Nothing}
+use Rattle.cam_types.specs.declared.row.RowVerdict.{RowVerdict}
+use Rattle.cam_types.specs.declared.row.RowVerdict.TheVariants.{Request, Parts, Nothing}
 use Rattle.cam_types.specs.contracts.item.SettingsPartialEq.TheImpl.{eq-value as settings_eq}
 use Rattle.cam_types.specs.contracts.job.FillTargetPartialEq.TheImpl.{eq-value as fill_eq}
 use Rattle.cam_types.specs.contracts.job.JobViewPartialEq.TheImpl.{eq-value as job_eq}
@@ -34,7 +34,7 @@ use Rattle.cam_types.specs.contracts.number.RequestIdPartialEq.TheImpl.{eq-value
 use Rattle.cam_types.specs.contracts.row.RowViewPartialEq.TheImpl.{eq-value as row_eq}
 use Rattle.cam_types.specs.contracts.row.SensorPlacePartialEq.TheImpl.{eq-value as sensor_eq}
 use Rattle.cam_types.specs.contracts.row.TargetViewPartialEq.TheImpl.{eq-value as target_eq}
-use Rattle.cam_types.specs.contracts.row.VerdictPartialEq.TheImpl.{eq-value as verdict_eq}
+use Rattle.cam_types.specs.contracts.row.RowVerdictPartialEq.TheImpl.{eq-value as verdict_eq}
 use Rattle.cam_types.specs.declared.reply.Made.{Made}
 use Rattle.cam_types.specs.declared.reply.Reply.{Reply}
 use Rattle.cam_types.specs.declared.reply.Reply.TheVariants.{Ok, Submitted, Configured, Refused}
@@ -71,7 +71,7 @@ Decides-reply_eq _ _ = (λ h. absurd (false≢true h), λ h. absurd (cc))
 
 -- ---- verdicts
 
-pub Decides-verdict_eq : (a b : Verdict) → Decides (verdict_eq.it a b) (a ≡ b)
+pub Decides-verdict_eq : (a b : RowVerdict) → Decides (verdict_eq.it a b) (a ≡ b)
 Decides-verdict_eq Request Request = (λ _. refl, λ _. refl)
 Decides-verdict_eq (Parts r f) (Parts q g) =
     Decides-like _ (λ h. rw (h.0, h.1) refl) (λ h. (cc, cc)) (Decides-and _ _ (booleans_Decides r q) (Decides-four_eq _ booleans_Decides f g))
@@ -80,26 +80,26 @@ Decides-verdict_eq _ _ = (λ h. absurd (false≢true h), λ h. absurd (cc))
 
 -- ---- jobs
 
-Decides-frame_eq : (a b : FrameNo) → Decides (frame_eq.it a b) (a ≡ b)
+pub Decides-frame_eq : (a b : FrameNo) → Decides (frame_eq.it a b) (a ≡ b)
 Decides-frame_eq a b = search rules
 
-Decides-settings_eq : (a b : Settings) → Decides (settings_eq.it a b) (a ≡ b)
+pub Decides-settings_eq : (a b : Settings) → Decides (settings_eq.it a b) (a ≡ b)
 Decides-settings_eq a b = search rules
 
-Decides-stream_eq : (a b : StreamIx) → Decides (stream_eq.it a b) (a ≡ b)
+pub Decides-stream_eq : (a b : StreamIx) → Decides (stream_eq.it a b) (a ≡ b)
 Decides-stream_eq a b = search rules
 
-Decides-buffer_eq : (a b : BufferId) → Decides (buffer_eq.it a b) (a ≡ b)
+pub Decides-buffer_eq : (a b : BufferId) → Decides (buffer_eq.it a b) (a ≡ b)
 Decides-buffer_eq a b = search rules
 
-Decides-spec_eq : (a b : StreamSpec) → Decides (spec_eq.it a b) (a ≡ b)
+pub Decides-spec_eq : (a b : StreamSpec) → Decides (spec_eq.it a b) (a ≡ b)
 Decides-spec_eq a b = search rules
 
 fill_same : (x y : FillTarget) → x.stream ≡ y.stream → x.buffer ≡ y.buffer → x.spec ≡ y.spec → x ≡ y
 fill_same x y a b c =
     let k : record { stream = x.stream; buffer = x.buffer; spec = x.spec } ≡ record { stream = y.stream; buffer = y.buffer; spec = y.spec } = rw (a, b, c) refl in k
 
-Decides-fill_eq : (a b : FillTarget) → Decides (fill_eq.it a b) (a ≡ b)
+pub Decides-fill_eq : (a b : FillTarget) → Decides (fill_eq.it a b) (a ≡ b)
 Decides-fill_eq a b =
     Decides-like _ (λ h. fill_same a b h.0 h.1.0 h.1.1) (λ h. (ap (λ (z : FillTarget). z.stream) h, (ap (λ (z : FillTarget). z.buffer) h, ap (λ (z : FillTarget). z.spec) h))) (Decides-and _ _ (Decides-stream_eq a.stream b.stream) (Decides-and _ _ (Decides-buffer_eq a.buffer b.buffer) (Decides-spec_eq a.spec b.spec)))
 
@@ -113,24 +113,24 @@ Decides-job_eq a b =
 
 -- ---- rows
 
-Decides-request_eq : (a b : RequestId) → Decides (request_eq.it a b) (a ≡ b)
+pub Decides-request_eq : (a b : RequestId) → Decides (request_eq.it a b) (a ≡ b)
 Decides-request_eq a b = search rules
 
-Decides-fence_eq : (a b : FenceNo) → Decides (fence_eq.it a b) (a ≡ b)
+pub Decides-fence_eq : (a b : FenceNo) → Decides (fence_eq.it a b) (a ≡ b)
 Decides-fence_eq a b = search rules
 
-Decides-state_eq : (a b : TargetState) → Decides (state_eq.it a b) (a ≡ b)
+pub Decides-state_eq : (a b : TargetState) → Decides (state_eq.it a b) (a ≡ b)
 Decides-state_eq a b = search rules
 
 target_same : (x y : TargetView) → x.stream ≡ y.stream → x.buffer ≡ y.buffer → x.fence ≡ y.fence → x.announced ≡ y.announced → x.state ≡ y.state → x ≡ y
 target_same x y a b c d e =
     let k : record { stream = x.stream; buffer = x.buffer; fence = x.fence; announced = x.announced; state = x.state } ≡ record { stream = y.stream; buffer = y.buffer; fence = y.fence; announced = y.announced; state = y.state } = rw (a, b, c, d, e) refl in k
 
-Decides-target_eq : (a b : TargetView) → Decides (target_eq.it a b) (a ≡ b)
+pub Decides-target_eq : (a b : TargetView) → Decides (target_eq.it a b) (a ≡ b)
 Decides-target_eq a b =
     Decides-like _ (λ h. target_same a b h.0 h.1.0 h.1.1.0 h.1.1.1.0 h.1.1.1.1) (λ h. (ap (λ (z : TargetView). z.stream) h, (ap (λ (z : TargetView). z.buffer) h, (ap (λ (z : TargetView). z.fence) h, (ap (λ (z : TargetView). z.announced) h, ap (λ (z : TargetView). z.state) h))))) (Decides-and _ _ (Decides-stream_eq a.stream b.stream) (Decides-and _ _ (Decides-buffer_eq a.buffer b.buffer) (Decides-and _ _ (Decides-option_eq fence_eq.it Decides-fence_eq a.fence b.fence) (Decides-and _ _ (booleans_Decides a.announced b.announced) (Decides-state_eq a.state b.state)))))
 
-Decides-sensor_eq : (a b : SensorPlace) → Decides (sensor_eq.it a b) (a ≡ b)
+pub Decides-sensor_eq : (a b : SensorPlace) → Decides (sensor_eq.it a b) (a ≡ b)
 Decides-sensor_eq a b = search rules
 
 Decides-number : (a b : ℕ) → Decides (eqb a b) (a ≡ b)

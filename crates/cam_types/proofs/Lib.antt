@@ -1,3 +1,4 @@
 pub mod OverLemmas
 pub mod PictureLemmas
 pub mod Decided
+pub mod WrittenLemmas

@@ -1,11 +1,12 @@
--- How many bytes the pictures have.
+-- How many bytes the pictures have, and what they depend on.
 use Rattle.std.proofs.Common.{◌≡◌, ℕ, ◌+◌, ◌*◌, ◌/◌, List, [], ◌∷◌, length, refl, ap, ◌∙◌, arith, length-append}
-use Rattle.std.specs.List.{flat_map}
+use Rattle.std.proofs.Common.{◌%◌, map}
+use Rattle.std.specs.List.{flat_map, range_with_len}
 use Rattle.std.proofs.lemmas.List.FromFn.{length-map-range_with_len}
 use Rattle.cam_types.specs.declared.item.Settings.{Settings}
 use Rattle.cam_types.specs.declared.stream.StreamSpec.{StreamSpec}
 use Rattle.cam_types.specs.declared.stream.Format.TheVariants.{Raw16, Yuv}
-use Rattle.cam_types.specs.Picture.{picture, plane, readout, raw_picture, yuv_picture, two_bytes, sensor_value}
+use Rattle.cam_types.specs.Picture.{picture, picture_of, plane, readout, raw_picture, yuv_picture, two_bytes, sensor_value}
 
 pub length-plane : (value : ℕ → ℕ → ℕ) (width height : ℕ) → length (plane value width height) ≡ width * height
 unfolding plane
@@ -35,3 +36,18 @@ length-picture-Raw16 spec s n is = rw is (length-raw_picture (readout s n) ∙ a
 pub length-picture-Yuv : (spec : StreamSpec) (s : Settings) (n width height : ℕ) → spec.format ≡ Yuv → spec.width ≡ width → spec.height ≡ height → length (picture spec s n) ≡ width * height + ((width / 2) * (height / 2) + (width / 2) * (height / 2))
 unfolding picture
 length-picture-Yuv spec s n width height is w h = rw (is, w, h) (length-yuv_picture width height (readout s n))
+
+-- ---- what they depend on
+
+map-same : {A B : Type 0} (f g : A → B) (xs : List A) → ((x : A) → f x ≡ g x) → map f xs ≡ map g xs
+map-same f g [] h = refl
+map-same f g (x ∷ xs) h = rw (h x, map-same f g xs h) refl
+
+-- planes of equal values are equal
+pub plane-same : (f g : ℕ → ℕ → ℕ) (width height : ℕ) → ((x y : ℕ) → f x y ≡ g x y) → plane f width height ≡ plane g width height
+unfolding plane
+plane-same f g width height h = map-same (λ i. f (i % width) (i / width)) (λ i. g (i % width) (i / width)) (range_with_len 0 (width * height)) (λ i. h (i % width) (i / width))
+
+pub picture-of-readout : (spec : StreamSpec) (s : Settings) (n : ℕ) → picture spec s n ≡ picture_of spec.format spec.width spec.height (readout s n)
+unfolding picture
+picture-of-readout spec s n = refl

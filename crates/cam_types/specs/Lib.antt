@@ -1,4 +1,5 @@
 pub mod Limits
+pub mod Profile
 pub mod Script
 pub mod Four
 pub mod Shown
@@ -7,4 +8,7 @@ pub mod Over
 pub mod Readouts
 pub mod Picture
 pub mod Metadata
+pub mod Refusals
+pub mod Requests
+pub mod Rows
 pub mod Worked

@@ -24,3 +24,36 @@ fault_limit = 64
 
 abbrev pub pick_limit : ℕ
 pick_limit = 8192
+
+-- the most that each number of a device's profile may be
+abbrev pub profile_limit : ℕ
+profile_limit = 16
+
+-- the most items that wait in the queue
+abbrev pub queue_limit : ℕ
+queue_limit = 256
+
+-- the most streams of a configuration, of both formats, of RAW16 and of YUV
+abbrev pub stream_limit : ℕ
+stream_limit = 4
+
+abbrev pub raw_limit : ℕ
+raw_limit = 1
+
+abbrev pub yuv_limit : ℕ
+yuv_limit = 3
+
+-- the buffers that a stream's pool has beside those that may be at the device
+abbrev pub spare_buffers : ℕ
+spare_buffers = 2
+
+-- how many repeating frames may be sent after a call, beside those that an await asks for
+abbrev pub repeating_ahead : ℕ
+repeating_ahead = 64
+
+-- the time of the first shutter, and the least time from one shutter to the next, in nanoseconds
+abbrev pub first_shutter : ℕ
+first_shutter = 1000000000
+
+abbrev pub frame_time : ℕ
+frame_time = 33333333

@@ -10,6 +10,7 @@ use Rattle.cam_types.specs.declared.stream.Format.{Format}
 use Rattle.cam_types.specs.declared.stream.Format.TheVariants.{Raw16, Yuv, Other}
 use Rattle.cam_types.specs.declared.stream.StreamSpec.{StreamSpec}
 use Rattle.cam_types.specs.Limits.{command_limit, burst_limit, repeat_limit, target_limit, spec_limit, awaited_limit, fault_limit, pick_limit}
+use Rattle.cam_types.specs.Profile.{profile_fits}
 
 -- What a script may hold: the ranges of numbers in its text, as far as the types leave them open, and the limits on
 -- how many there are of each. Our own choice. (The ranges of settings in a request that is accepted are narrower.)
@@ -48,18 +49,19 @@ abbrev pub awaited_by : Command → ℕ
 awaited_by (Await k) = k
 awaited_by _ = 0
 
--- the command ends the use of the device
-abbrev pub is_ending : Command → Bool
-is_ending Close = true
-is_ending Disconnect = true
-is_ending _ = false
+-- the command closes the device for good
+abbrev pub is_closing_command : Command → Bool
+is_closing_command Close = true
+is_closing_command Disconnect = true
+is_closing_command _ = false
 
--- a valid script: every command fits, all counts are within their limits, and the client closes or disconnects
+-- a valid script: its profile is one of its version, every command fits, all counts are within their limits, and the client closes or disconnects
 abbrev pub is_valid : Script → Bool
 is_valid s =
-    nat_le (length s.faults) fault_limit
+    profile_fits s.version s.profile
+    && (nat_le (length s.faults) fault_limit
     && (nat_le (length s.picks) pick_limit
     && (nat_le (length s.commands) command_limit
     && (list_all command_fits s.commands
     && (nat_le (sum_by awaited_by s.commands) awaited_limit
-    && list_any is_ending s.commands))))
+    && list_any is_closing_command s.commands)))))

@@ -1,7 +1,7 @@
 //! Comparisons whose answers are equality itself, for the types that the derived `==` leaves to a proof.
 ghost use Rattle.std.specs.Prelude.{◌≡◌, ◌↔◌, IsTrue};
 
-use crate::{Item, JobView, Part, Reply, RowView, StreamSpec, Verdict};
+use crate::{Item, JobView, Part, Reply, RowVerdict, RowView, StreamSpec};
 
 /// Whether two replies are the same.
 pub fn is_same_reply(a: Reply, b: Reply) -> bool
@@ -39,7 +39,7 @@ pub fn is_same_job(a: JobView, b: JobView) -> bool
 }
 
 /// Whether two verdicts are the same.
-pub fn is_same_verdict(a: Verdict, b: Verdict) -> bool
+pub fn is_same_verdict(a: RowVerdict, b: RowVerdict) -> bool
     ensures { IsTrue result ↔ (a ≡ b) }
 {
     a == b

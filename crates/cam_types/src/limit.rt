@@ -31,23 +31,38 @@ pub const QUEUE_LIMIT: u32 = 256;
 /// The most streams of an accepted configuration.
 pub const STREAM_LIMIT: u32 = 4;
 
-/// The most frames that are open at once.
+/// The most that each number of a device's profile may be.
+pub const PROFILE_LIMIT: u32 = 16;
+
+/// The most frames that are open at once, where a script names no profile.
 pub const FRAME_DEPTH: u32 = 6;
 
 /// The number of metadata results that a frame has.
 pub const PART_COUNT: u8 = 3;
 
-/// The most buffers of a RAW16 stream at the device.
+/// The most buffers of a RAW16 stream at the device, where a script names no profile.
 pub const RAW_BUFFERS: u32 = 3;
 
-/// The most buffers of a YUV stream at the device.
+/// The most buffers of a YUV stream at the device, where a script names no profile.
 pub const YUV_BUFFERS: u32 = 4;
+
+/// The most RAW16 streams of a configuration.
+pub const RAW_STREAMS: usize = 1;
+
+/// The most YUV streams of a configuration.
+pub const YUV_STREAMS: usize = 3;
 
 /// The buffers that a stream's pool has beside those that may be at the device.
 pub const SPARE_BUFFERS: u32 = 2;
 
 /// How many repeating frames may be sent after a call, beside those that an `await` asks for.
 pub const REPEATING_AHEAD: u32 = 64;
+
+/// The time of the first shutter, in nanoseconds.
+pub const FIRST_SHUTTER: u64 = 1_000_000_000;
+
+/// The least time from one shutter to the next, in nanoseconds.
+pub const FRAME_TIME: u64 = 33_333_333;
 
 /// The columns of the sensor.
 pub const SENSOR_WIDTH: u32 = 160;

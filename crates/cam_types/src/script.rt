@@ -1,7 +1,7 @@
-ghost use Rattle.std.specs.Prelude.{◌≡◌, nat_le, sum_by};
+ghost use Rattle.std.specs.Prelude.{◌≡◌, ◌&&◌, nat_le, nat_lt, sum_by};
 ghost use Rattle.std.specs.List.{list_all, list_any};
 ghost use Rattle.cam_types.specs.Limits.{awaited_limit};
-ghost use Rattle.cam_types.specs.Script.{awaited_by, command_fits, is_ending, is_valid, item_fits, spec_fits};
+ghost use Rattle.cam_types.specs.Script.{awaited_by, command_fits, is_closing_command, is_valid, item_fits, spec_fits};
 
 use crate::item::{Item, ItemList};
 use crate::limit::{
@@ -10,6 +10,7 @@ use crate::limit::{
 };
 use crate::list::Listing;
 use crate::number::{FrameNo, StreamIx};
+use crate::profile::Profile;
 use crate::stream::{SpecList, StreamSpec};
 
 /// A client's command.
@@ -65,9 +66,13 @@ pub type PickList = Listing<u32>;
 /// The commands of a script.
 pub type CommandList = Listing<Command>;
 
-/// A client script, as read, with the added `close`.
+/// A client script, as read, with the added `close`. `early` says that good buffers may go to the client before they are
+/// filled.
 #[derive(Debug, Drop)]
 pub struct Script {
+    pub version: u8,
+    pub profile: Profile,
+    pub early: bool,
     pub faults: FaultList,
     pub picks: PickList,
     pub commands: CommandList,
@@ -90,9 +95,9 @@ impl Command {
         }
     }
 
-    /// Whether the command ends the use of the device.
-    pub fn is_ending(&self) -> bool
-        ensures { result ≡ is_ending self.now }
+    /// Whether the command closes the device for good.
+    pub fn is_closing(&self) -> bool
+        ensures { result ≡ is_closing_command self.now }
     {
         matches!(self, Command::Close | Command::Disconnect)
     }
@@ -126,10 +131,10 @@ fn all_commands_fit(commands: &[Command]) -> bool
     commands.iter().all(|command| command.fits())
 }
 
-fn has_ending(commands: &[Command]) -> bool
-    ensures { result ≡ list_any is_ending commands.now }
+fn has_closing(commands: &[Command]) -> bool
+    ensures { result ≡ list_any is_closing_command commands.now }
 {
-    commands.iter().any(|command| command.is_ending())
+    commands.iter().any(|command| command.is_closing())
 }
 
 /// Whether the commands wait for no more repeating frames than a script may.
@@ -153,11 +158,12 @@ impl Script {
         ensures { result ≡ is_valid self.now }
     {
         let commands = self.commands.as_slice();
-        self.faults.len() <= FAULT_LIMIT
+        self.profile.fits(self.version)
+            && self.faults.len() <= FAULT_LIMIT
             && self.picks.len() <= PICK_LIMIT
             && self.commands.len() <= COMMAND_LIMIT
             && all_commands_fit(commands)
             && await_within_limit(commands)
-            && has_ending(commands)
+            && has_closing(commands)
     }
 }

@@ -133,6 +133,13 @@ fn limits_of_a_script(rt: HostRuntime) -> Result<(), Fail> {
     let alloc = rt.alloc();
     for (counts, is_valid) in COUNTS {
         let script = Script {
+            version: 1,
+            profile: Profile {
+                depth: 6,
+                raw: 3,
+                yuv: 4,
+            },
+            early: false,
             faults: repeated(alloc, Fault::Request(FrameNo(0)), counts[0])?,
             picks: repeated(alloc, 0, counts[1])?,
             commands: commands_of(alloc, counts)?,
@@ -173,7 +180,7 @@ fn ranges_of_a_script(rt: HostRuntime) {
 fn comparisons(rt: HostRuntime) {
     assert!(rt; is_same_item(ITEM, ITEM));
     assert!(rt; !is_same_reply(Reply::Ok, Reply::Submitted(RequestId(0))));
-    assert!(rt; !is_same_verdict(Verdict::Request, Verdict::Nothing));
+    assert!(rt; !is_same_verdict(RowVerdict::Request, RowVerdict::Nothing));
     assert!(rt; !is_same_part(Part::Time { timestamp: 1 }, Part::Time { timestamp: 2 }));
     assert!(rt; !is_same_spec(spec(Format::Yuv, 40, 30), spec(Format::Raw16, 40, 30)));
     worked_colours();
@@ -206,4 +213,30 @@ fn rows_and_jobs_compare(rt: HostRuntime) {
         stopped: false,
     };
     assert!(rt; is_same_row(row, row));
+}
+
+/// A version, a depth, the buffers of the two formats, and whether a script of the version may have the profile.
+const PROFILES: [(u8, [u32; 3], bool); 9] = [
+    (1, [6, 3, 4], true),
+    (1, [5, 3, 4], false),
+    (1, [6, 4, 4], false),
+    (1, [6, 3, 3], false),
+    (2, [1, 1, 1], true),
+    (2, [16, 16, 16], true),
+    (2, [17, 16, 16], false),
+    (2, [16, 0, 16], false),
+    (3, [6, 3, 4], false),
+];
+
+#[test]
+fn profiles_of_versions(rt: HostRuntime) -> Result<(), Fail> {
+    for (version, [depth, raw, yuv], fits) in PROFILES {
+        let profile = Profile { depth, raw, yuv };
+        assert_eq!(rt;
+            profile.fits(version),
+            fits,
+            "{version} {depth} {raw} {yuv}"
+        );
+    }
+    Ok(())
 }

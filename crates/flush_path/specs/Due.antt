@@ -3,7 +3,7 @@ use Rattle.cam_types.specs.declared.four.Four.{Four}
 use Rattle.cam_types.specs.declared.row.RowFaults.{RowFaults}
 use Rattle.cam_types.specs.declared.row.RowView.{RowView}
 use Rattle.cam_types.specs.declared.row.TargetState.{TargetState}
-use Rattle.cam_types.specs.declared.row.TargetState.TheVariants.{ReturnedOk, ReturnedFailed}
+use Rattle.cam_types.specs.declared.row.TargetState.TheVariants.{ReturnedEarly, EarlyFilled, ReturnedOk, ReturnedFailed}
 use Rattle.cam_types.specs.declared.row.TargetView.{TargetView}
 use Rattle.cam_types.specs.declared.row.Verdict.{Verdict}
 use Rattle.cam_types.specs.declared.row.Verdict.TheVariants.{Request, Parts, Nothing}
@@ -14,8 +14,10 @@ use Rattle.cam_types.specs.declared.row.Verdict.TheVariants.{Request, Parts, Not
 -- disconnect or a device failure that began after the frame was sent. That a stop takes all that hasn't come yet is our
 -- own choice: the header lets a device finish what it can.
 
--- the buffer came back
+-- the buffer came back, filled, failed or early
 abbrev pub is_returned : TargetState → Bool
+is_returned ReturnedEarly = true
+is_returned EarlyFilled = true
 is_returned ReturnedOk = true
 is_returned ReturnedFailed = true
 is_returned _ = false

@@ -26,7 +26,13 @@ pub fn verdict(row: RowView, faults: RowFaults) -> Verdict
 fn is_returned(state: TargetState) -> bool
     ensures { result ≡ is_returned state }
 {
-    matches!(state, TargetState::ReturnedOk | TargetState::ReturnedFailed)
+    matches!(
+        state,
+        TargetState::ReturnedEarly
+            | TargetState::EarlyFilled
+            | TargetState::ReturnedOk
+            | TargetState::ReturnedFailed
+    )
 }
 
 fn is_awaited(target: TargetView) -> bool

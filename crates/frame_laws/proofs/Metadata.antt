@@ -16,7 +16,7 @@ use Rattle.trace_model.specs.Faults.{request_fault, result_fault}
 use Rattle.trace_model.specs.Frames.{each_earlier, frames, has_error, has_error_request, has_shutter, is_sent}
 use Rattle.trace_model.specs.Laws.{ends_metadata}
 use Rattle.trace_model.specs.Legal.{IsLegal}
-use Rattle.trace_model.specs.Open.{all_returned, has_error_result, has_part, has_something, is_metadata_ended, is_open}
+use Rattle.trace_model.specs.Open.{all_settled, has_error_result, has_part, has_something, is_metadata_ended, is_open}
 use Rattle.trace_model.specs.Stopping.{is_stopped}
 use Rattle.frame_laws.proofs.Lists.{all-of-both, any-less, counts-once, neither, or-alone, where-given}
 use Rattle.frame_laws.proofs.Parts.{HaveEnded, part-first, part-is}
@@ -116,7 +116,7 @@ ends-counted script (e ∷ past) n legal =
 -- a sent frame that isn't open has ended its metadata
 quiet_ended : (n : ℕ) (past : List Entry) → is_sent n past ≡ true → not (is_open n past) ≡ true → list_any (ends_metadata n) past ≡ true
 quiet_ended n past sent quiet =
-    ended-by n past ∙ closed (is_sent n past) (is_metadata_ended n past) (all_returned n past) sent quiet
+    ended-by n past ∙ closed (is_sent n past) (is_metadata_ended n past) (all_settled n past) sent quiet
   where
     closed : (sent ended back : Bool) → sent ≡ true → not (sent && not (ended && back)) ≡ true → ended ≡ true
     closed true true back h k = refl

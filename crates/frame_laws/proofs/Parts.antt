@@ -1,5 +1,5 @@
 -- What it says of the past that metadata ends, and the parts of a frame: they are counted up, each once.
-use Rattle.std.proofs.Common.{◌≡◌, ℕ, ◌==◌, ◌+◌, ◌≤◌, Bool, true, false, ◌&&◌, ◌||◌, not, List, [], ◌∷◌, Option, Some, None, refl, sym, ◌∙◌, arith, inl, inr, nat_le, nat_lt, count_by, is_some, if◌then◌else◌}
+use Rattle.std.proofs.Common.{◌≡◌, ℕ, ◌==◌, ◌+◌, ◌<◌, ◌≤◌, Bool, true, false, ◌&&◌, ◌||◌, not, List, [], ◌∷◌, Option, Some, None, refl, sym, ◌∙◌, arith, inl, inr, nat_le, nat_lt, count_by, is_some, if◌then◌else◌}
 use Rattle.std.specs.List.{list_all}
 use Rattle.std.proofs.lemmas.Bool.{and_parts, cases_Bool, eq-eqb, eqb-true, false≢true, leb-true}
 use Rattle.std.proofs.lemmas.Bool.Decides.{nat_tests}
@@ -11,10 +11,11 @@ use Rattle.trace_model.specs.declared.entry.Entry.TheVariants.{Shutter, Partial}
 use Rattle.trace_model.specs.Entry.{is_part, is_partial}
 use Rattle.trace_model.specs.Faults.{request_fault, result_fault}
 use Rattle.trace_model.specs.Frames.{each_earlier, frames, has_error_request, has_shutter, shutter_time}
-use Rattle.trace_model.specs.Laws.{counts_up}
+use Rattle.trace_model.specs.Laws.{counts_up, is_numbered}
 use Rattle.trace_model.specs.Legal.{IsLegal}
 use Rattle.trace_model.specs.Open.{has_error_result, has_part, is_metadata_ended}
 use Rattle.trace_model.specs.Partial.{may_part, part_count, part_of, partial_due}
+use Rattle.trace_model.proofs.LawLemmas.{parts-shape}
 use Rattle.trace_bounds.proofs.Counts.{count-cons}
 use Rattle.frame_laws.proofs.Lists.{all-always, counts-once}
 
@@ -130,12 +131,29 @@ few : (c : ℕ) (b : Bool) → c ≡ (if b then 1 else 0) → nat_lt c 2 ≡ tru
 few c true h = rw h refl
 few c false h = rw h refl
 
+named-part : (n : ℕ) (m : FrameNo) (k : ℕ) → (0 < k) × (k ≤ 3) → (not (m.0 == n) || (nat_lt 0 k && nat_le k 3)) ≡ true
+named-part n m k l =
+    let low = l.0 in
+    let high = l.1 in
+    let low' : nat_lt 0 k ≡ true = grind (arith, nat_tests, low) in
+    let high' : nat_le k 3 ≡ true = grind (arith, nat_tests, high) in
+    rw (low', high') (or-true (not (m.0 == n)))
+  where
+    or-true : (b : Bool) → (b || true) ≡ true
+    or-true true = refl
+    or-true false = refl
+
+pub all-numbered : (script : Script) (past : List Entry) (n : ℕ) → IsLegal script past → list_all (is_numbered n) past ≡ true
+all-numbered script [] n legal = refl
+all-numbered script (Partial j l part ∷ past) n legal = rw (named-part n j l (parts-shape script past j l part legal.0), all-numbered script past n legal.1) refl
+all-numbered script (e ∷ past) n legal = all-numbered script past n legal.1
+
 pub counted-up : (script : Script) (past : List Entry) (n : ℕ) → IsLegal script past → counts_up n past ≡ true
 counted-up script past n legal =
     let one = few (count_by (is_part n 1) past) (has_part n 1 past) (part-counted script past n 1 legal) in
     let two = few (count_by (is_part n 2) past) (has_part n 2 past) (part-counted script past n 2 legal) in
     let three = few (count_by (is_part n 3) past) (has_part n 3 past) (part-counted script past n 3 legal) in
-    rw (part-within script past n 1 legal, part-within script past n 2 legal, part-within script past n 3 legal, one, two, three) (in_turn (part_count n past))
+    rw (all-numbered script past n legal, part-within script past n 1 legal, part-within script past n 2 legal, part-within script past n 3 legal, one, two, three) (in_turn (part_count n past))
   where
     in_turn : (c : ℕ) → ((not (is_within 2 c) || is_within 1 c) && ((not (is_within 3 c) || is_within 2 c) && true)) ≡ true
     in_turn c = grind (arith, nat_tests)

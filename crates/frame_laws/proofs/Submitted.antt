@@ -27,21 +27,21 @@ use Rattle.frame_laws.proofs.Lists.{all-append, all-weaker}
 same_number : (q : RequestId) (n : ℕ) → q ≡ record { 0 = n } → q.0 ≡ n
 same_number q n h = rw h refl
 
-number_given : (past : List Entry) (c : Command) (o : Option Reply) (q : RequestId) → refuses o ≡ true → Submitted q ≡ reply_with o (acceptance past c) → q.0 ≡ request_count past
-number_given past c (Some (Refused code first second)) q no' h = absurd (cc)
-number_given past c (Some Ok) q no' h = absurd (false≢true no')
-number_given past c (Some (Submitted r)) q no' h = absurd (false≢true no')
-number_given past c (Some (Configured made)) q no' h = absurd (false≢true no')
-number_given past (Once item) None q no' h = same_number q (request_count past) (cc)
-number_given past (Burst items) None q no' h = same_number q (request_count past) (cc)
-number_given past (Repeat items) None q no' h = same_number q (request_count past) (cc)
-number_given past c None q no' h = absurd (cc)
+number_given : (script : Script) (past : List Entry) (c : Command) (o : Option Reply) (q : RequestId) → refuses o ≡ true → Submitted q ≡ reply_with o (acceptance script past c) → q.0 ≡ request_count past
+number_given script past c (Some (Refused code first second)) q no' h = absurd (cc)
+number_given script past c (Some Ok) q no' h = absurd (false≢true no')
+number_given script past c (Some (Submitted r)) q no' h = absurd (false≢true no')
+number_given script past c (Some (Configured made)) q no' h = absurd (false≢true no')
+number_given script past (Once item) None q no' h = same_number q (request_count past) (cc)
+number_given script past (Burst items) None q no' h = same_number q (request_count past) (cc)
+number_given script past (Repeat items) None q no' h = same_number q (request_count past) (cc)
+number_given script past c None q no' h = absurd (cc)
 
 -- an accepted request has the next number
 pub request-number : (script : Script) (past : List Entry) (i : ℕ) (w : Word) (q : RequestId) → call_due script past ≡ Some (Call i w (Submitted q)) → q.0 ≡ request_count past
 request-number script past i w q h =
     let c = call-is script past i w (Submitted q) h in
-    number_given past c.0 (refusal script past c.0) q (refusal-refuses script past c.0) c.4
+    number_given script past c.0 (refusal script past c.0) q (refusal-refuses script past c.0) c.4
 
 requests_after : (past : List Entry) (i : ℕ) (w : Word) (q : RequestId) → request_count (Call i w (Submitted q) ∷ past) ≡ request_count past + 1
 requests_after past i w q = let count = count-cons is_submission (Call i w (Submitted q)) past in omega (arith, count)

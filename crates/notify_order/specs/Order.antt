@@ -3,7 +3,7 @@ use Rattle.std.specs.List.{list_all}
 use Rattle.cam_types.specs.declared.number.FrameNo.{FrameNo}
 use Rattle.cam_types.specs.declared.row.RowView.{RowView}
 use Rattle.cam_types.specs.declared.row.TargetState.{TargetState}
-use Rattle.cam_types.specs.declared.row.TargetState.TheVariants.{ReturnedOk, ReturnedFailed}
+use Rattle.cam_types.specs.declared.row.TargetState.TheVariants.{ReturnedEarly, EarlyFilled, ReturnedOk, ReturnedFailed}
 use Rattle.cam_types.specs.declared.row.TargetView.{TargetView}
 
 -- The order of callbacks (camera3.h, process_capture_result): the metadata of frames ends in the order of frames, and so
@@ -11,6 +11,8 @@ use Rattle.cam_types.specs.declared.row.TargetView.{TargetView}
 -- keeps no later one waiting (flush, point 3.6), nor does a frame that failed whole.
 
 abbrev pub is_returned : TargetState → Bool
+is_returned ReturnedEarly = true
+is_returned EarlyFilled = true
 is_returned ReturnedOk = true
 is_returned ReturnedFailed = true
 is_returned _ = false

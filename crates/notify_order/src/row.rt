@@ -6,7 +6,13 @@ use cam_types::{Four, PART_COUNT, RowView, TargetState, TargetView};
 fn is_returned(state: TargetState) -> bool
     ensures { result ≡ is_returned state }
 {
-    matches!(state, TargetState::ReturnedOk | TargetState::ReturnedFailed)
+    matches!(
+        state,
+        TargetState::ReturnedEarly
+            | TargetState::EarlyFilled
+            | TargetState::ReturnedOk
+            | TargetState::ReturnedFailed
+    )
 }
 
 /// Whether the metadata of the frame hasn't ended.

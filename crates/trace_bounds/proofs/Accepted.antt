@@ -93,7 +93,7 @@ submitted_moderate script past i w c r at new before =
       | inr other ↦ rw other before
     ]
 
-call_moderate : (script : Script) (past : List Entry) (i : ℕ) (c : Command) (e : Option Reply) (r : ℕ) → command_at script i ≡ Some c → refuses e ≡ true → refusal script past c ≡ e → AreModerate script past r → AreModerate script (Call i (word_of c) (reply_with e (acceptance past c)) ∷ past) r
+call_moderate : (script : Script) (past : List Entry) (i : ℕ) (c : Command) (e : Option Reply) (r : ℕ) → command_at script i ≡ Some c → refuses e ≡ true → refusal script past c ≡ e → AreModerate script past r → AreModerate script (Call i (word_of c) (reply_with e (acceptance script past c)) ∷ past) r
 call_moderate script past i c (Some (Refused code first second)) r at no' is before = before
 call_moderate script past i c (Some Ok) r at no' is before = absurd (false≢true no')
 call_moderate script past i c (Some (Submitted q)) r at no' is before = absurd (false≢true no')

@@ -7,7 +7,7 @@ use Rattle.cam_types.specs.Four.{four_list}
 use Rattle.cam_types.specs.declared.four.Four.{Four}
 use Rattle.cam_types.specs.declared.script.Script.{Script}
 use Rattle.trace_model.specs.declared.entry.Entry.{Entry}
-use Rattle.trace_model.specs.declared.entry.Entry.TheVariants.{Send, Dropped, Filled, Failed, Release}
+use Rattle.trace_model.specs.declared.entry.Entry.TheVariants.{Send, Dropped, Filled, Failed, Release, Early}
 use Rattle.trace_model.specs.declared.entry.Sent.{Sent}
 use Rattle.trace_model.specs.Entry.{is_numbering, is_release, names}
 use Rattle.trace_model.specs.Legal.{IsLegal}
@@ -16,7 +16,7 @@ use Rattle.trace_model.specs.Place.{Place, Pool, Device, Client, is_at, place, p
 use Rattle.trace_bounds.specs.Bounds.{fence_bound}
 use Rattle.trace_bounds.proofs.Counts.{count-cons, less-without}
 use Rattle.trace_bounds.proofs.FrameLemmas.{frames_bounded}
-use Rattle.trace_bounds.proofs.Shapes.{filled-from-device, release-is}
+use Rattle.trace_bounds.proofs.Shapes.{early-from-device, filled-from-device, release-is}
 
 -- the buffers of targets, before others
 abbrev pub buffers_before : List Sent → List ℕ → List ℕ
@@ -33,7 +33,7 @@ taken (_ ∷ past) = taken past
 abbrev pub has : ℕ → List ℕ → Bool
 has b xs = list_any (λ c. c == b) xs
 
-in_front : (b : ℕ) (targets : List Sent) (others : List ℕ) → list_any (λ t. t.buffer.0 == b) targets ≡ true → has b (buffers_before targets others) ≡ true
+pub in_front : (b : ℕ) (targets : List Sent) (others : List ℕ) → list_any (λ t. t.buffer.0 == b) targets ≡ true → has b (buffers_before targets others) ≡ true
 in_front b [] others h = absurd (false≢true h)
 in_front b (t ∷ targets) others h =
     elim (cases_Bool (t.buffer.0 == b)) [
@@ -41,15 +41,15 @@ in_front b (t ∷ targets) others h =
       | inr no' ↦ (let h' = rw no' at h in rw no' (in_front b targets others h'))
     ]
 
-behind : (b : ℕ) (targets : List Sent) (others : List ℕ) → has b others ≡ true → has b (buffers_before targets others) ≡ true
+pub behind : (b : ℕ) (targets : List Sent) (others : List ℕ) → has b others ≡ true → has b (buffers_before targets others) ≡ true
 behind b [] others h = h
 behind b (t ∷ targets) others h = let ih = behind b targets others h in grind arith
 
-length_before : (targets : List Sent) (others : List ℕ) → length (buffers_before targets others) ≡ length targets + length others
+pub length_before : (targets : List Sent) (others : List ℕ) → length (buffers_before targets others) ≡ length targets + length others
 length_before [] others = omega arith
 length_before (t ∷ targets) others = let ih = length_before targets others in omega (arith, ih)
 
-kept_without : (b c : ℕ) (xs : List ℕ) → (c == b) ≡ false → has b xs ≡ true → has b (filter (λ x. not (x == c)) xs) ≡ true
+pub kept_without : (b c : ℕ) (xs : List ℕ) → (c == b) ≡ false → has b xs ≡ true → has b (filter (λ x. not (x == c)) xs) ≡ true
 kept_without b c [] other h = absurd (false≢true h)
 kept_without b c (x ∷ xs) other h =
     elim (cases_Bool (x == c)) [
@@ -66,10 +66,10 @@ kept_without b c (x ∷ xs) other h =
     ]
 
 -- where a buffer is after an entry that names it, and after one that doesn't
-place_named : (b : ℕ) (e : Entry) (past : List Entry) → names b e ≡ true → place b (e ∷ past) ≡ place_after (Some e)
+pub place_named : (b : ℕ) (e : Entry) (past : List Entry) → names b e ≡ true → place b (e ∷ past) ≡ place_after (Some e)
 place_named b e past h = rw h refl
 
-place_other : (b : ℕ) (e : Entry) (past : List Entry) → names b e ≡ false → place b (e ∷ past) ≡ place b past
+pub place_other : (b : ℕ) (e : Entry) (past : List Entry) → names b e ≡ false → place b (e ∷ past) ≡ place b past
 place_other b e past h = rw h refl
 
 abbrev pub IsOut : ℕ → List Entry → Type 0
@@ -97,6 +97,17 @@ out-taken script (Filled n s c f d ∷ past) b legal h =
           )
       | inr other ↦ (let h' : IsOut b past = rw (place_other b (Filled n s c f d) past other) at h in out-taken script past b legal.1 h')
     ]
+out-taken script (Early n s c d ∷ past) b legal h =
+    elim (cases_Bool (c.0 == b)) [
+      | inl named ↦ (
+          let same : c.0 ≡ b = grind (arith, nat_tests) in
+          let device : place c.0 past ≡ Device = early-from-device script past n s c d legal.0 in
+          let device' : place b past ≡ Device = rw same at device in
+          let out : IsOut b past = rw device' refl in
+          out-taken script past b legal.1 out
+          )
+      | inr other ↦ (let h' : IsOut b past = rw (place_other b (Early n s c d) past other) at h in out-taken script past b legal.1 h')
+    ]
 out-taken script (Failed n s c f ∷ past) b legal h =
     elim (cases_Bool (c.0 == b)) [
       | inl named ↦ (let home = rw (place_named b (Failed n s c f) past named) at h in absurd (false≢true (sym home)))
@@ -117,7 +128,7 @@ at_client Pool h = absurd (false≢true h)
 at_client Device h = absurd (false≢true h)
 at_client Client h = refl
 
-four-few : {T : Type 0} (f : Four T) → length (four_list f) ≤ 4
+pub four-few : {T : Type 0} (f : Four T) → length (four_list f) ≤ 4
 four-few f = grind arith
 
 releases_and_taken : (script : Script) (past : List Entry) → IsLegal script past → next_fence past + length (taken past) ≤ 4 * next_number past

@@ -12,5 +12,6 @@ pub mod TimeLemmas
 pub mod Printed
 pub mod RefusedFits
 pub mod StreamLemmas
+pub mod EarlyLemmas
 pub mod NextFits
 pub mod Printing

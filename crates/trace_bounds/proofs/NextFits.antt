@@ -54,7 +54,7 @@ named_small r i (item ∷ items) h few =
     let place = small i 64 (omega (arith, few)) (omega arith) in
     rw (h, place, named_small r (i + 1) items h (omega (arith, few))) refl
 
-puts_small : (script : Script) (past : List Entry) (i : ℕ) (c : Command) (e : Option Reply) → refuses e ≡ true → command_at script i ≡ Some c → command_fits c ≡ true → is_small (request_count past) ≡ true → list_all is_named (puts script (Call i (word_of c) (reply_with e (acceptance past c)))) ≡ true
+puts_small : (script : Script) (past : List Entry) (i : ℕ) (c : Command) (e : Option Reply) → refuses e ≡ true → command_at script i ≡ Some c → command_fits c ≡ true → is_small (request_count past) ≡ true → list_all is_named (puts script (Call i (word_of c) (reply_with e (acceptance script past c)))) ≡ true
 puts_small script past i c (Some (Refused code first second)) h at fits few = refl
 puts_small script past i c (Some Ok) h at fits few = absurd (false≢true h)
 puts_small script past i c (Some (Submitted r)) h at fits few = absurd (false≢true h)

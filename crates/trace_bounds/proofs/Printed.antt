@@ -6,7 +6,7 @@ use Rattle.std.proofs.lemmas.Bool.{cases_Bool, false≢true}
 use Rattle.std.proofs.lemmas.Bool.Decides.{nat_tests}
 use Rattle.cam_types.specs.Four.{four_list}
 use Rattle.trace_model.specs.declared.entry.Entry.{Entry}
-use Rattle.trace_model.specs.declared.entry.Entry.TheVariants.{Send, Shutter, Filled, Failed, Release}
+use Rattle.trace_model.specs.declared.entry.Entry.TheVariants.{Send, Shutter, Filled, Failed, Release, Early}
 use Rattle.trace_model.specs.declared.entry.Sent.{Sent}
 use Rattle.trace_model.specs.Entry.{is_shutter, names, sends}
 use Rattle.trace_model.specs.Fence.{fence_after, fence_of}
@@ -38,7 +38,7 @@ found-all p q (y ∷ xs) x all h =
       | inr no' ↦ (let h' = rw no' at h in found-all p q xs x parts.1 h')
     ]
 
-small-same : (n m : ℕ) → is_small n ≡ true → (n == m) ≡ true → is_small m ≡ true
+pub small-same : (n m : ℕ) → is_small n ≡ true → (n == m) ≡ true → is_small m ≡ true
 small-same n m h e = let same : n ≡ m = grind (arith, nat_tests) in rw (← same) h
 
 byte-same : (n m : ℕ) → is_byte n ≡ true → (n == m) ≡ true → is_byte m ≡ true
@@ -125,6 +125,11 @@ client-small b past printed client = after (last_naming b past) (λ e h. (found-
     after (Some (Filled n s c f d)) each h =
         let is = each _ refl in
         let numbers = and_parts (is_small n.0 && (is_byte s.0 && is_small c.0)) (not (is_some f) && is_digest d) is.0 in
+        let others = and_parts (is_small n.0) (is_byte s.0 && is_small c.0) numbers.0 in
+        small-same c.0 b (and_parts (is_byte s.0) (is_small c.0) others.1).1 is.1
+    after (Some (Early n s c d)) each h =
+        let is = each _ refl in
+        let numbers = and_parts (is_small n.0 && (is_byte s.0 && is_small c.0)) (is_small d.0) is.0 in
         let others = and_parts (is_small n.0) (is_byte s.0 && is_small c.0) numbers.0 in
         small-same c.0 b (and_parts (is_byte s.0) (is_small c.0) others.1).1 is.1
     after (Some (Send n r i same targets)) each h = absurd (false≢true h)

@@ -27,20 +27,21 @@ use Rattle.cam_types.specs.declared.script.Script.{Script}
 use Rattle.cam_types.specs.declared.script.Word.{Word}
 use Rattle.cam_types.specs.declared.stream.StreamSpec.{StreamSpec}
 use Rattle.trace_model.specs.declared.entry.Entry.{Entry}
-use Rattle.trace_model.specs.declared.entry.Entry.TheVariants.{Begin, Call, Send, Dropped, Shutter, Partial, Filled, Failed, ErrorRequest, ErrorResult, ErrorBuffer, ErrorDevice, Release, Signal}
+use Rattle.trace_model.specs.declared.entry.Entry.TheVariants.{Begin, Call, Send, Dropped, Shutter, Partial, Filled, Failed, ErrorRequest, ErrorResult, ErrorBuffer, ErrorDevice, Release, Signal, Early, Late}
 use Rattle.trace_model.specs.declared.entry.Sent.{Sent}
 use Rattle.trace_model.specs.Allowed.{IsAllowed}
 use Rattle.trace_model.specs.Calls.{next_command, request_count, word_of}
 use Rattle.trace_model.specs.Configuration.{buffers_of, made_count, streams}
 use Rattle.trace_model.specs.Drop.{drop_of}
+use Rattle.trace_model.specs.Entry.{is_early_with}
 use Rattle.trace_model.specs.Errors.{error_buffer_due, error_request_due, error_result_due, failed_due, fence_left, is_cut_short, may_fail_buffer, may_fail_in_part, may_fail_request, may_fail_result}
 use Rattle.trace_model.specs.Faults.{buffer_fault, request_fault, result_fault}
 use Rattle.trace_model.specs.Fence.{fence_of, is_passed, is_same_fence}
-use Rattle.trace_model.specs.Filled.{filled_due, is_sound, lets_pass}
+use Rattle.trace_model.specs.Filled.{early_due, filled_due, late_due, is_sound, lets_pass}
 use Rattle.trace_model.specs.Frames.{each_earlier, frames, has_error_request, has_shutter, has_target, is_sent, settings_of, shutter_time, target_of, targets_of}
 use Rattle.trace_model.specs.Legal.{IsLegal}
-use Rattle.trace_model.specs.Numbers.{call_count, next_fence, next_number}
-use Rattle.trace_model.specs.Open.{all_returned, has_error_buffer, has_something, is_metadata_ended, is_open, is_returned}
+use Rattle.trace_model.specs.Numbers.{call_count, next_early, next_fence, next_number}
+use Rattle.trace_model.specs.Open.{all_settled, has_error_buffer, has_something, is_metadata_ended, is_open, is_returned}
 use Rattle.trace_model.specs.Partial.{may_part, part_count, part_of, partial_due}
 use Rattle.trace_model.specs.Picture.{digest, digest_of, digest_on}
 use Rattle.trace_model.specs.Place.{Pool, is_at, is_at_device_by, place}
@@ -58,13 +59,15 @@ use Rattle.trace_bounds.specs.Laws.{is_until}
 use Rattle.trace_bounds.specs.Typed.{command_typed, is_typed}
 use Rattle.trace_bounds.proofs.Accepted.{frame-moderate, is_moderate}
 use Rattle.trace_bounds.proofs.Calls.{by-call, calls_bounded}
+use Rattle.trace_bounds.proofs.BufferLemmas.{most}
+use Rattle.trace_bounds.proofs.EarlyLemmas.{earlies_bounded, pending}
 use Rattle.trace_bounds.proofs.FenceLemmas.{fences_bounded}
 use Rattle.trace_bounds.proofs.FrameLemmas.{frames_bounded}
 use Rattle.trace_bounds.proofs.NextFits.{all-kept, at-all, next-small, queued-small, request-small}
-use Rattle.trace_bounds.proofs.Printed.{client-small, exposed-small, fence-fits, found-all, frames-small, sent-small, stream-byte, target-fits, target-small}
+use Rattle.trace_bounds.proofs.Printed.{client-small, small-same, exposed-small, fence-fits, found-all, frames-small, sent-small, stream-byte, target-fits, target-small}
 use Rattle.trace_bounds.proofs.RefusedFits.{fits_if_any, refusal-fits, small}
-use Rattle.trace_bounds.proofs.Shapes.{failed-is, filled-is, release-is, shutter-is, signal-is}
-use Rattle.trace_bounds.proofs.StreamLemmas.{buffer-small, few-made, low-fits, made-all-low, made-low, stream-there}
+use Rattle.trace_bounds.proofs.Shapes.{early-is, failed-is, filled-is, found-passes, late-is, release-is, shutter-is, signal-is}
+use Rattle.trace_bounds.proofs.StreamLemmas.{buffer-small, few-made, low-fits, made-all-low, made-low, own-stream, stream-there}
 use Rattle.trace_bounds.proofs.TimeLemmas.{next-time-bounded, times_bounded}
 use Rattle.trace_bounds.proofs.ValidLemmas.{Valid, at-most, few-frames, valid}
 
@@ -98,18 +101,18 @@ four_filled (a ∷ b ∷ []) = refl
 four_filled (a ∷ b ∷ c ∷ []) = refl
 four_filled (a ∷ b ∷ c ∷ d ∷ xs) = refl
 
-reply_prints : (past : List Entry) (c : Command) (e : Option Reply) → fits_if_any e ≡ true → made_count past ≤ 12288 → is_small (request_count past) ≡ true → reply_fits (word_of c) (reply_with e (acceptance past c)) ≡ true
-reply_prints past c (Some (Refused code first second)) h made' few = h
-reply_prints past c (Some Ok) h made' few = absurd (false≢true h)
-reply_prints past c (Some (Submitted r)) h made' few = absurd (false≢true h)
-reply_prints past c (Some (Configured each)) h made' few = absurd (false≢true h)
-reply_prints past (Configure specs) None h made' few =
-    let fits = low-fits (four_list (four_of (made_for (made_count past) specs))) (made-low (made_count past) specs made') in
-    rw (four_filled (made_for (made_count past) specs), fits) refl
-reply_prints past (Once item) None h made' few = few
-reply_prints past (Burst items) None h made' few = few
-reply_prints past (Repeat items) None h made' few = few
-reply_prints past c None h made' few = refl
+reply_prints : (script : Script) (past : List Entry) (c : Command) (e : Option Reply) → fits_if_any e ≡ true → most script.profile ≤ 16 → made_count past ≤ 36864 → is_small (request_count past) ≡ true → reply_fits (word_of c) (reply_with e (acceptance script past c)) ≡ true
+reply_prints script past c (Some (Refused code first second)) h profile made' few = h
+reply_prints script past c (Some Ok) h profile made' few = absurd (false≢true h)
+reply_prints script past c (Some (Submitted r)) h profile made' few = absurd (false≢true h)
+reply_prints script past c (Some (Configured each)) h profile made' few = absurd (false≢true h)
+reply_prints script past (Configure specs) None h profile made' few =
+    let fits = low-fits (four_list (four_of (made_for script.profile (made_count past) specs))) (made-low script.profile (made_count past) specs profile made') in
+    rw (four_filled (made_for script.profile (made_count past) specs), fits) refl
+reply_prints script past (Once item) None h profile made' few = few
+reply_prints script past (Burst items) None h profile made' few = few
+reply_prints script past (Repeat items) None h profile made' few = few
+reply_prints script past c None h profile made' few = refl
 
 call-prints : (script : Script) (past : List Entry) (i : ℕ) (w : Word) (r : Reply) → Valid script → is_typed script ≡ true → IsLegal script past → IsAllowed script past (Call i w r) → is_printable (Call i w r) ≡ true
 call-prints script past i w r v typed legal may =
@@ -118,7 +121,7 @@ call-prints script past i w r v typed legal may =
     let few = calls_bounded script past legal in
     let fits = refusal-fits script past c (at-all command_fits script.commands (call_count past) c v.fit at) (at-all command_typed script.commands (call_count past) c typed at) in
     let place = small (call_count past) 512 (omega (arith, few, v.commands)) (omega arith) in
-    and_from (is_small (call_count past)) (reply_fits (word_of c) (reply script past c)) place (reply_prints past c (refusal script past c) fits (few-made script past v legal) (request-small script past v legal)))
+    and_from (is_small (call_count past)) (reply_fits (word_of c) (reply script past c)) place (reply_prints script past c (refusal script past c) fits v.profile (few-made script past v legal) (request-small script past v legal)))
 
 -- ---- sends and drops
 
@@ -292,6 +295,40 @@ filled-prints script past n s b f d legal printed h =
     filled_line : (n : FrameNo) (s : StreamIx) (b : BufferId) (f : Option FenceNo) (d e : List ℕ) → is_small n.0 ≡ true → is_byte s.0 ≡ true → is_small b.0 ≡ true → f ≡ None → d ≡ e → is_digest e ≡ true → is_printable (Filled n s b f d) ≡ true
     filled_line n s b f d e one two three none same fits = rw (one, two, three, none, same, fits) refl
 
+early-prints : (script : Script) (past : List Entry) (n : FrameNo) (s : StreamIx) (b : BufferId) (d : FenceNo) → Valid script → IsLegal script past → list_all is_printable past ≡ true → early_due script past n.0 s.0 ≡ Some (Early n s b d) → is_printable (Early n s b d) ≡ true
+early-prints script past n s b d v legal printed h =
+    let is = early-is script past n s b d h in
+    let t : Sent = is.0 in
+    let by = by_device (is_at_device_by n.0 s.0 t.buffer.0 past) (has_shutter n.0 past) (is_sound script past n.0 s.0) (is_passed t.fence past) (each_earlier n.0 (lets_pass past s.0) past) is.2 in
+    let fits = target-fits n.0 s.0 past t printed is.1 in
+    let own = (and_parts (is_small t.buffer.0) (fence_fits t.fence) (and_parts (is_byte t.stream.0) (is_small t.buffer.0 && fence_fits t.fence) fits.0).1).0 in
+    let buffer : is_small b.0 ≡ true = rw (is.3) at own in
+    let number = exposed-small n.0 past printed by.1 in
+    let fence = same-small d.0 (next_early past) is.4 (fence-small script (next_early past) v (earlies_bounded script past legal)) in
+    early_line n s b d number fits.1 buffer fence
+  where
+    early_line : (n : FrameNo) (s : StreamIx) (b : BufferId) (d : FenceNo) → is_small n.0 ≡ true → is_byte s.0 ≡ true → is_small b.0 ≡ true → is_small d.0 ≡ true → is_printable (Early n s b d) ≡ true
+    early_line n s b d one two three four = rw (one, two, three, four) refl
+
+late-prints : (script : Script) (past : List Entry) (d : FenceNo) (x : List ℕ) → IsLegal script past → list_all is_printable past ≡ true → late_due script past d.0 ≡ Some (Late d x) → is_printable (Late d x) ≡ true
+late-prints script past d x legal printed h =
+    let is = late-is script past d x h in
+    let n : FrameNo = is.0 in
+    let s : StreamIx = is.1 in
+    let b : BufferId = is.2 in
+    let f : FenceNo = is.3 in
+    let found : find (is_early_with d.0) past ≡ Some (Early n s b f) = is.4 in
+    let p = pending script past d.0 n s b f legal found is.5 in
+    let there = own-stream script past s.0 b.0 legal (p.own) in
+    let digest' : is_digest (digest_of script past n.0 s.0) ≡ true = digest-on-fits (slice_get (streams script past) s.0) (settings_of script past n.0) n.0 there in
+    let fits = found-all is_printable (is_early_with d.0) past (Early n s b f) printed found in
+    let own : is_small f.0 ≡ true = (and_parts (is_small n.0 && (is_byte s.0 && is_small b.0)) (is_small f.0) fits).1 in
+    let fence = small-same f.0 d.0 own (found-passes (is_early_with d.0) past (Early n s b f) found) in
+    late_line d x (digest_of script past n.0 s.0) fence is.6 digest'
+  where
+    late_line : (d : FenceNo) (x e : List ℕ) → is_small d.0 ≡ true → x ≡ e → is_digest e ≡ true → is_printable (Late d x) ≡ true
+    late_line d x e one same fits = rw (one, same, fits) refl
+
 left-fits : (fence : Option FenceNo) (past : List Entry) → fence_fits fence ≡ true → fence_fits (fence_left fence past) ≡ true
 left-fits fence past h =
     elim (cases_Bool (is_passed fence past)) [
@@ -334,7 +371,7 @@ request-prints script past n printed h =
     let may = where_some (may_fail_request script past n.0) (ErrorRequest (record { 0 = n.0 })) (ErrorRequest n) h in
     let first = and_parts (is_open n.0 past && not (has_something n.0 past)) ((request_fault script n.0 && has_shutter n.0 past) || is_stopped n.0 past) may in
     let open' = and_parts (is_open n.0 past) (not (has_something n.0 past)) first.0 in
-    let sent = and_parts (is_sent n.0 past) (not (is_metadata_ended n.0 past && all_returned n.0 past)) open'.0 in
+    let sent = and_parts (is_sent n.0 past) (not (is_metadata_ended n.0 past && all_settled n.0 past)) open'.0 in
     sent-small n.0 past printed sent.0
 
 result-prints : (script : Script) (past : List Entry) (n : FrameNo) → list_all is_printable past ≡ true → error_result_due script past n.0 ≡ Some (ErrorResult n) → is_printable (ErrorResult n) ≡ true
@@ -383,6 +420,8 @@ entry-prints script past (ErrorBuffer n s) v typed legal printed may = buffer-pr
 entry-prints script past ErrorDevice v typed legal printed may = refl
 entry-prints script past (Release b f) v typed legal printed may = release-prints script past b f v legal printed may
 entry-prints script past (Signal f) v typed legal printed may = signal-prints script past f v legal may
+entry-prints script past (Early n s b d) v typed legal printed may = early-prints script past n s b d v legal printed may
+entry-prints script past (Late d x) v typed legal printed may = late-prints script past d x legal printed may
 
 all_print : (script : Script) (past : List Entry) → Valid script → is_typed script ≡ true → IsLegal script past → list_all is_printable past ≡ true
 all_print script [] v typed legal = refl

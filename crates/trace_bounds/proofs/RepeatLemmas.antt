@@ -44,7 +44,7 @@ other_stands script past i w q stands = (
   omega (arith, stands.1, count-cons is_submission (Call i w (Submitted (record { 0 = request_count past }))) past),
 )
 
-call_stands : (script : Script) (past : List Entry) (i : ℕ) (c : Command) (e : Option Reply) (q : Repeating) → command_at script i ≡ Some c → refuses e ≡ true → (repeating script past ≡ Some q → Stands script past q) → repeating script (Call i (word_of c) (reply_with e (acceptance past c)) ∷ past) ≡ Some q → Stands script (Call i (word_of c) (reply_with e (acceptance past c)) ∷ past) q
+call_stands : (script : Script) (past : List Entry) (i : ℕ) (c : Command) (e : Option Reply) (q : Repeating) → command_at script i ≡ Some c → refuses e ≡ true → (repeating script past ≡ Some q → Stands script past q) → repeating script (Call i (word_of c) (reply_with e (acceptance script past c)) ∷ past) ≡ Some q → Stands script (Call i (word_of c) (reply_with e (acceptance script past c)) ∷ past) q
 call_stands script past i c (Some (Refused code first second)) q at no' before h = before h
 call_stands script past i c (Some Ok) q at no' before h = absurd (false≢true no')
 call_stands script past i c (Some (Submitted r)) q at no' before h = absurd (false≢true no')

@@ -1,7 +1,8 @@
 -- The buffers of a configuration, and that a buffer at the device is one of its stream's.
-use Rattle.std.proofs.Common.{◌≡◌, ℕ, zero, suc, ◌==◌, ◌+◌, ◌<◌, ◌≤◌, Bool, true, false, ◌&&◌, ◌||◌, not, List, [], ◌∷◌, Option, Some, None, refl, arith, inl, inr, length, slice_get, nat_le}
+use Rattle.std.proofs.Common.{◌≡◌, ℕ, zero, suc, ◌==◌, ◌+◌, ◌*◌, ◌<◌, ◌≤◌, Bool, true, false, ◌&&◌, ◌||◌, not, List, [], ◌∷◌, Option, Some, None, refl, sym, ◌∙◌, arith, inl, inr, length, slice_get, nat_le}
 use Rattle.std.specs.Prelude.{is_some}
 use Rattle.std.specs.List.{list_all, list_any, range_with_len}
+use Rattle.std.proofs.lemmas.Nat.{mul-le}
 use Rattle.std.proofs.lemmas.Bool.{cases_Bool, false≢true}
 use Rattle.std.proofs.lemmas.Bool.Decides.{nat_tests}
 use Rattle.cam_types.specs.Four.{four_list}
@@ -10,14 +11,17 @@ use Rattle.cam_types.specs.declared.reply.Reply.{Reply}
 use Rattle.cam_types.specs.declared.reply.Reply.TheVariants.{Ok, Submitted, Configured, Refused}
 use Rattle.cam_types.specs.declared.script.Command.{Command}
 use Rattle.cam_types.specs.declared.script.Command.TheVariants.{Configure}
+use Rattle.cam_types.specs.declared.script.Profile.{Profile}
 use Rattle.cam_types.specs.declared.script.Script.{Script}
+use Rattle.cam_types.specs.declared.script.Word.{Word}
+use Rattle.cam_types.specs.declared.stream.Format.{Format}
 use Rattle.cam_types.specs.declared.stream.StreamSpec.{StreamSpec}
 use Rattle.trace_model.specs.declared.entry.Entry.{Entry}
-use Rattle.trace_model.specs.declared.entry.Entry.TheVariants.{Call, Send, Filled, Failed, Release}
+use Rattle.trace_model.specs.declared.entry.Entry.TheVariants.{Call, Send, Filled, Failed, Release, Early}
 use Rattle.trace_model.specs.declared.entry.Sent.{Sent}
 use Rattle.trace_model.specs.Calls.{begun, command_at, is_waiting, word_of}
-use Rattle.trace_model.specs.Client.{is_idle, is_over, may_answer}
-use Rattle.trace_model.specs.Configuration.{buffers_of, made, made_count, numbers_of, streams}
+use Rattle.trace_model.specs.Client.{call_due, is_idle, is_over, may_answer}
+use Rattle.trace_model.specs.Configuration.{buffers_of, max_buffers, made, made_count, numbers_of, streams}
 use Rattle.trace_model.specs.Entry.{is_refusal, names}
 use Rattle.trace_model.specs.Fence.{fence_of, is_same_fence}
 use Rattle.trace_model.specs.Legal.{IsLegal}
@@ -28,7 +32,8 @@ use Rattle.trace_model.specs.Reply.{acceptance, made_for, refusal, reply, reply_
 use Rattle.trace_model.specs.Send.{four_of, takes_from_pool}
 use Rattle.trace_model.proofs.Basics.{and_parts}
 use Rattle.trace_model.proofs.LawLemmas.{at-device, sends-from-pool}
-use Rattle.trace_bounds.proofs.BufferLemmas.{few-at-device, made-by-calls}
+use Rattle.trace_bounds.specs.Bounds.{configuration_bound}
+use Rattle.trace_bounds.proofs.BufferLemmas.{few-at-device, made-by-calls, most}
 use Rattle.trace_bounds.proofs.Calls.{by-answer, by-call, calls_bounded}
 use Rattle.trace_bounds.proofs.Counts.{place-within}
 use Rattle.trace_bounds.proofs.Printed.{one-of-all}
@@ -40,45 +45,56 @@ use Rattle.trace_bounds.proofs.ValidLemmas.{Valid, at-most}
 
 -- the buffers end below a number that any field holds
 abbrev pub is_low : Made → Bool
-is_low m = nat_le (m.first.0 + m.count) 20000
+is_low m = nat_le (m.first.0 + m.count) 40000
 
 le-true : (n m : ℕ) → n ≤ m → nat_le n m ≡ true
 le-true n m l = grind (arith, nat_tests)
 
-pub made-low : (m : ℕ) (specs : List StreamSpec) → m ≤ 12288 → list_all is_low (four_list (four_of (made_for m specs))) ≡ true
-made-low m [] l = refl
-made-low m (a ∷ []) l =
-    let fa = few-at-device a.format in
+few-on : (p : Profile) (f : Format) → most p ≤ 16 → max_buffers p f ≤ 16
+few-on p f few = let l = few-at-device p f in steps _ _ l few
+  where
+    steps : (a b : ℕ) → a ≤ b → b ≤ 16 → a ≤ 16
+    steps a b one two = omega (arith, one, two)
+
+pub made-low : (p : Profile) (m : ℕ) (specs : List StreamSpec) → most p ≤ 16 → m ≤ 36864 → list_all is_low (four_list (four_of (made_for p m specs))) ≡ true
+made-low p m [] few l = refl
+made-low p m (a ∷ []) few l =
+    let fa = few-on p a.format few in
     grind (arith, nat_tests)
-made-low m (a ∷ b ∷ []) l =
-    let fa = few-at-device a.format in
-    let fb = few-at-device b.format in
+made-low p m (a ∷ b ∷ []) few l =
+    let fa = few-on p a.format few in
+    let fb = few-on p b.format few in
     grind (arith, nat_tests)
-made-low m (a ∷ b ∷ c ∷ []) l =
-    let fa = few-at-device a.format in
-    let fb = few-at-device b.format in
-    let fc = few-at-device c.format in
+made-low p m (a ∷ b ∷ c ∷ []) few l =
+    let fa = few-on p a.format few in
+    let fb = few-on p b.format few in
+    let fc = few-on p c.format few in
     grind (arith, nat_tests)
-made-low m (a ∷ b ∷ c ∷ d ∷ specs) l =
-    let fa = few-at-device a.format in
-    let fb = few-at-device b.format in
-    let fc = few-at-device c.format in
-    let fd = few-at-device d.format in
+made-low p m (a ∷ b ∷ c ∷ d ∷ specs) few l =
+    let fa = few-on p a.format few in
+    let fb = few-on p b.format few in
+    let fc = few-on p c.format few in
+    let fd = few-on p d.format few in
     grind (arith, nat_tests)
 
-call_low : (past : List Entry) (i : ℕ) (c : Command) (e : Option Reply) → refuses e ≡ true → made_count past ≤ 12288 → list_all is_low (made past) ≡ true → list_all is_low (made (Call i (word_of c) (reply_with e (acceptance past c)) ∷ past)) ≡ true
-call_low past i c (Some (Refused code first second)) h l before = before
-call_low past i c (Some Ok) h l before = absurd (false≢true h)
-call_low past i c (Some (Submitted r)) h l before = absurd (false≢true h)
-call_low past i c (Some (Configured each)) h l before = absurd (false≢true h)
-call_low past i (Configure specs) None h l before = made-low (made_count past) specs l
-call_low past i c None h l before = before
+call_low : (script : Script) (past : List Entry) (i : ℕ) (c : Command) (e : Option Reply) → refuses e ≡ true → most script.profile ≤ 16 → made_count past ≤ 36864 → list_all is_low (made past) ≡ true → list_all is_low (made (Call i (word_of c) (reply_with e (acceptance script past c)) ∷ past)) ≡ true
+call_low script past i c (Some (Refused code first second)) h few l before = before
+call_low script past i c (Some Ok) h few l before = absurd (false≢true h)
+call_low script past i c (Some (Submitted r)) h few l before = absurd (false≢true h)
+call_low script past i c (Some (Configured each)) h few l before = absurd (false≢true h)
+call_low script past i (Configure specs) None h few l before = made-low script.profile (made_count past) specs few l
+call_low script past i c None h few l before = before
 
-pub few-made : (script : Script) (past : List Entry) → Valid script → IsLegal script past → made_count past ≤ 12288
+pub few-made : (script : Script) (past : List Entry) → Valid script → IsLegal script past → made_count past ≤ 36864
 few-made script past v legal =
     let made' = made-by-calls script past legal in
     let few = calls_bounded script past legal in
-    omega (arith, made', few, v.commands)
+    let each = v.profile in
+    let all = mul-le (configuration_bound script) (call_count past) 72 512 (omega (arith, each)) (omega (arith, few, v.commands)) in
+    steps _ _ made' all
+  where
+    steps : (a b : ℕ) → a ≤ b → b ≤ 72 * 512 → a ≤ 36864
+    steps a b one two = omega (arith, one, two)
 
 -- the buffers of a configuration have numbers that fit
 pub made-all-low : (script : Script) (past : List Entry) → Valid script → IsLegal script past → list_all is_low (made past) ≡ true
@@ -86,16 +102,16 @@ made-all-low script [] v legal = refl
 made-all-low script (Call i w r ∷ past) v legal =
     let ih = made-all-low script past v legal.1 in
     by-call (λ e. list_all is_low (made (e ∷ past)) ≡ true) script past i w r legal.0
-    (λ c at. call_low past (call_count past) c (refusal script past c) (refusal-refuses script past c) (few-made script past v legal.1) ih)
+    (λ c at. call_low script past (call_count past) c (refusal script past c) (refusal-refuses script past c) v.profile (few-made script past v legal.1) ih)
 made-all-low script (e ∷ past) v legal = made-all-low script past v legal.1
 
 pub low-fits : (ms : List Made) → list_all is_low ms ≡ true → list_all made_fits ms ≡ true
 low-fits [] h = refl
 low-fits (m ∷ ms) h =
     let parts = and_parts (is_low m) (list_all is_low ms) h in
-    let l = at-most (m.first.0 + m.count) 20000 parts.0 in
-    let first = small m.first.0 20000 (omega (arith, l)) (omega arith) in
-    let count = small m.count 20000 (omega (arith, l)) (omega arith) in
+    let l = at-most (m.first.0 + m.count) 40000 parts.0 in
+    let first = small m.first.0 40000 (omega (arith, l)) (omega arith) in
+    let count = small m.count 40000 (omega (arith, l)) (omega arith) in
     rw (first, count, low-fits ms parts.1) refl
 
 in_range : (a n b : ℕ) → list_any (λ c. c == b) (range_with_len a n) ≡ true → b < a + n
@@ -112,9 +128,9 @@ place_low [] s (Some m) b at all h = absurd (cc)
 place_low (x ∷ ms) zero (Some m) b at all h =
     let same : x ≡ m = cc in
     let low : is_low m ≡ true = rw same at (and_parts (is_low x) (list_all is_low ms) all).0 in
-    let l = at-most (m.first.0 + m.count) 20000 low in
+    let l = at-most (m.first.0 + m.count) 40000 low in
     let within = in_range m.first.0 m.count b h in
-    small b 20000 (omega (arith, l, within)) (omega arith)
+    small b 40000 (omega (arith, l, within)) (omega arith)
 place_low (x ∷ ms) (suc s) (Some m) b at all h = place_low ms s (Some m) b at (and_parts (is_low x) (list_all is_low ms) all).1 h
 
 -- a buffer of a stream has a number that fits
@@ -151,13 +167,11 @@ made_home b past (x ∷ ms) zero (Some m) at all h =
 made_home b past (x ∷ ms) (suc s) (Some m) at all h =
     made_home b past ms s (Some m) at (and_parts (list_all (λ c. is_at (place c past) Pool) (numbers_of (Some x))) (list_all (λ m'. list_all (λ c. is_at (place c past) Pool) (numbers_of (Some m'))) ms) all).1 h
 
--- where all are in the pool none is at the device
-none_out : (past : List Entry) (n s b : ℕ) → all_in_pool past ≡ true → is_at_device_by n s b past ≡ true → list_any (λ c. c == b) (buffers_of past s) ≡ true → ⊥
-none_out past n s b home out own =
+-- where all are in the pool none is out of it
+pub none_out : (past : List Entry) (s b : ℕ) → all_in_pool past ≡ true → is_at (place b past) Pool ≡ false → list_any (λ c. c == b) (buffers_of past s) ≡ true → ⊥
+none_out past s b home out own =
     let pool : is_at (place b past) Pool ≡ true = made_home b past (made past) s (slice_get (made past) s) refl home own in
-    let device : place b past ≡ Device = at-device n s b past out in
-    let pool' : is_at Device Pool ≡ true = rw device at pool in
-    absurd (false≢true pool')
+    absurd (false≢true (sym out ∙ pool))
 
 waits-for-pool : (script : Script) (past : List Entry) (specs : List StreamSpec) → may_answer script past (Configure specs) ≡ true → is_refusal (reply script past (Configure specs)) ≡ false → all_in_pool past ≡ true
 waits-for-pool script past specs may accepted =
@@ -169,20 +183,26 @@ waits-for-pool script past specs may accepted =
 abbrev pub IsOwn : List Entry → ℕ → ℕ → Type 0
 IsOwn past s b = list_any (λ c. c == b) (buffers_of past s) ≡ true
 
-call_own : (script : Script) (past : List Entry) (i : ℕ) (c : Command) (e : Option Reply) (n s b : ℕ) → refuses e ≡ true → (is_refusal (reply_with e (acceptance past c)) ≡ false → (specs : List StreamSpec) → c ≡ Configure specs → all_in_pool past ≡ true) → is_at_device_by n s b past ≡ true → IsOwn past s b → IsOwn (Call i (word_of c) (reply_with e (acceptance past c)) ∷ past) s b
-call_own script past i c (Some (Refused code first second)) n s b h home out before = before
-call_own script past i c (Some Ok) n s b h home out before = absurd (false≢true h)
-call_own script past i c (Some (Submitted r)) n s b h home out before = absurd (false≢true h)
-call_own script past i c (Some (Configured each)) n s b h home out before = absurd (false≢true h)
-call_own script past i (Configure specs) None n s b h home out before = absurd (none_out past n s b (home refl specs refl) out before)
-call_own script past i c None n s b h home out before = before
+call_own : (script : Script) (past : List Entry) (i : ℕ) (c : Command) (e : Option Reply) (s b : ℕ) → refuses e ≡ true → (is_refusal (reply_with e (acceptance script past c)) ≡ false → (specs : List StreamSpec) → c ≡ Configure specs → all_in_pool past ≡ true) → is_at (place b past) Pool ≡ false → IsOwn past s b → IsOwn (Call i (word_of c) (reply_with e (acceptance script past c)) ∷ past) s b
+call_own script past i c (Some (Refused code first second)) s b h home out before = before
+call_own script past i c (Some Ok) s b h home out before = absurd (false≢true h)
+call_own script past i c (Some (Submitted r)) s b h home out before = absurd (false≢true h)
+call_own script past i c (Some (Configured each)) s b h home out before = absurd (false≢true h)
+call_own script past i (Configure specs) None s b h home out before = absurd (none_out past s b (home refl specs refl) out before)
+call_own script past i c None s b h home out before = before
+
+-- a buffer that isn't in the pool stays one of the configuration's
+pub kept-own : (script : Script) (past : List Entry) (i : ℕ) (w : Word) (r : Reply) (s b : ℕ) → call_due script past ≡ Some (Call i w r) → is_at (place b past) Pool ≡ false → IsOwn past s b → IsOwn (Call i w r ∷ past) s b
+kept-own script past i w r s b may out own =
+    by-answer (λ e. IsOwn (e ∷ past) s b) script past i w r may
+    (λ c at may'. call_own script past (call_count past) c (refusal script past c) s b (refusal-refuses script past c) (λ accepted specs is. waits-for-pool script past specs (rw is at may') (rw is at accepted)) out own)
 
 pub at-device-own : (script : Script) (past : List Entry) (n s b : ℕ) → IsLegal script past → is_at_device_by n s b past ≡ true → IsOwn past s b
 at-device-own script [] n s b legal h = absurd (false≢true h)
 at-device-own script (Call i w r ∷ past) n s b legal h =
     let ih = at-device-own script past n s b legal.1 h in
-    by-answer (λ e. IsOwn (e ∷ past) s b) script past i w r legal.0
-    (λ c at may. call_own script past (call_count past) c (refusal script past c) n s b (refusal-refuses script past c) (λ accepted specs is. waits-for-pool script past specs (rw is at may) (rw is at accepted)) h ih)
+    let device : place b past ≡ Device = at-device n s b past h in
+    kept-own script past i w r s b legal.0 (rw device refl) ih
 at-device-own script (Send m r i same targets ∷ past) n s b legal h =
     elim (cases_Bool (names b (Send m r i same targets))) [
       | inl named ↦ (
@@ -203,6 +223,11 @@ at-device-own script (Failed m u c f ∷ past) n s b legal h =
       | inl named ↦ (let h' = rw named at h in absurd (false≢true h'))
       | inr other ↦ at-device-own script past n s b legal.1 (by_naming past (Failed m u c f) n s b other h)
     ]
+at-device-own script (Early m u c d ∷ past) n s b legal h =
+    elim (cases_Bool (c.0 == b)) [
+      | inl named ↦ (let h' = rw named at h in absurd (false≢true h'))
+      | inr other ↦ at-device-own script past n s b legal.1 (by_naming past (Early m u c d) n s b other h)
+    ]
 at-device-own script (Release c f ∷ past) n s b legal h =
     elim (cases_Bool (c.0 == b)) [
       | inl named ↦ (let h' = rw named at h in absurd (false≢true h'))
@@ -212,22 +237,22 @@ at-device-own script (e ∷ past) n s b legal h = at-device-own script past n s 
 
 -- ---- a stream with buffers is one of the configuration's
 
-four_made_few : (m : ℕ) (specs : List StreamSpec) → length (four_list (four_of (made_for m specs))) ≤ length specs
-four_made_few m [] = omega arith
-four_made_few m (a ∷ []) = omega arith
-four_made_few m (a ∷ b ∷ []) = omega arith
-four_made_few m (a ∷ b ∷ c ∷ []) = omega arith
-four_made_few m (a ∷ b ∷ c ∷ d ∷ specs) = omega arith
+four_made_few : (p : Profile) (m : ℕ) (specs : List StreamSpec) → length (four_list (four_of (made_for p m specs))) ≤ length specs
+four_made_few p m [] = omega arith
+four_made_few p m (a ∷ []) = omega arith
+four_made_few p m (a ∷ b ∷ []) = omega arith
+four_made_few p m (a ∷ b ∷ c ∷ []) = omega arith
+four_made_few p m (a ∷ b ∷ c ∷ d ∷ specs) = omega arith
 
 abbrev pub IsMadeFor : Script → List Entry → Type 0
 IsMadeFor script past = length (made past) ≤ length (streams script past)
 
-call_made : (script : Script) (past : List Entry) (i : ℕ) (c : Command) (e : Option Reply) → refuses e ≡ true → command_at script i ≡ Some c → IsMadeFor script past → IsMadeFor script (Call i (word_of c) (reply_with e (acceptance past c)) ∷ past)
+call_made : (script : Script) (past : List Entry) (i : ℕ) (c : Command) (e : Option Reply) → refuses e ≡ true → command_at script i ≡ Some c → IsMadeFor script past → IsMadeFor script (Call i (word_of c) (reply_with e (acceptance script past c)) ∷ past)
 call_made script past i c (Some (Refused code first second)) h at before = before
 call_made script past i c (Some Ok) h at before = absurd (false≢true h)
 call_made script past i c (Some (Submitted r)) h at before = absurd (false≢true h)
 call_made script past i c (Some (Configured each)) h at before = absurd (false≢true h)
-call_made script past i (Configure specs) None h at before = rw at (four_made_few (made_count past) specs)
+call_made script past i (Configure specs) None h at before = rw at (four_made_few script.profile (made_count past) specs)
 call_made script past i c None h at before = before
 
 made-for-streams : (script : Script) (past : List Entry) → IsLegal script past → IsMadeFor script past
@@ -246,6 +271,10 @@ some-within (x ∷ xs) (suc i) l = some-within xs i (omega (arith, l))
 by_made : (ms : List Made) (specs : List StreamSpec) (s b : ℕ) (o : Option Made) → slice_get ms s ≡ o → length ms ≤ length specs → list_any (λ c. c == b) (numbers_of o) ≡ true → is_some (slice_get specs s) ≡ true
 by_made ms specs s b None at few h = absurd (false≢true h)
 by_made ms specs s b (Some m) at few h = let within = place-within ms s m at in some-within specs s (omega (arith, few, within))
+
+-- a stream with buffers is one of the configuration's
+pub own-stream : (script : Script) (past : List Entry) (s b : ℕ) → IsLegal script past → IsOwn past s b → is_some (slice_get (streams script past) s) ≡ true
+own-stream script past s b legal own = by_made (made past) (streams script past) s b (slice_get (made past) s) refl (made-for-streams script past legal) own
 
 -- a buffer at the device is for a stream of the configuration
 pub stream-there : (script : Script) (past : List Entry) (n s b : ℕ) → IsLegal script past → is_at_device_by n s b past ≡ true → is_some (slice_get (streams script past) s) ≡ true

@@ -1,4 +1,4 @@
-use Rattle.std.specs.Prelude.{ℕ, ◌+◌, ◌*◌, Some, length, sum_by}
+use Rattle.std.specs.Prelude.{ℕ, ◌+◌, ◌*◌, Some, length, max, sum_by}
 use Rattle.cam_types.specs.Script.{awaited_by}
 use Rattle.cam_types.specs.declared.script.Command.{Command}
 use Rattle.cam_types.specs.declared.script.Script.{Script}
@@ -22,6 +22,13 @@ fence_bound script = 4 * frame_bound script
 abbrev pub time_bound : Script → ℕ
 time_bound script = 1000000000 + 100000000 * frame_bound script
 
--- the bound on buffers: a configuration makes at most six for each of at most four streams
+-- the bound on device fences: each is of an early return of a buffer of a frame
+abbrev pub early_bound : Script → ℕ
+early_bound script = 4 * frame_bound script
+
+-- the bound on buffers: a configuration makes at most two more than may be at the device, for each of at most four streams
+abbrev pub configuration_bound : Script → ℕ
+configuration_bound script = 4 * (max script.profile.raw script.profile.yuv + 2)
+
 abbrev pub buffer_bound : Script → ℕ
-buffer_bound script = 24 * length script.commands
+buffer_bound script = configuration_bound script * length script.commands

@@ -8,10 +8,10 @@ use Rattle.trace_model.specs.Calls.{request_count}
 use Rattle.trace_model.specs.Configuration.{made_count}
 use Rattle.trace_model.specs.Frames.{frames}
 use Rattle.trace_model.specs.Legal.{IsLegal}
-use Rattle.trace_model.specs.Numbers.{call_count, next_fence, next_number}
+use Rattle.trace_model.specs.Numbers.{call_count, next_early, next_fence, next_number}
 use Rattle.trace_model.specs.Printable.{is_printable}
 use Rattle.trace_bounds.specs.Typed.{is_typed}
-use Rattle.trace_bounds.specs.Bounds.{buffer_bound, fence_bound, frame_bound, time_bound}
+use Rattle.trace_bounds.specs.Bounds.{buffer_bound, early_bound, fence_bound, frame_bound, time_bound}
 
 -- What a legal run of a script holds at most. The bounds hold of every script, valid or not; those of a valid one fit the
 -- fields of the entries.
@@ -35,6 +35,10 @@ BoundsRequests script past = IsLegal script past → request_count past ≤ leng
 abbrev pub BoundsFences : Script → List Entry → Type 0
 BoundsFences script past = IsLegal script past → next_fence past ≤ fence_bound script
 
+-- early returns give away no more device fences than the bound on them
+abbrev pub BoundsEarlies : Script → List Entry → Type 0
+BoundsEarlies script past = IsLegal script past → next_early past ≤ early_bound script
+
 -- configurations make no more buffers than the bound on buffers
 abbrev pub BoundsBuffers : Script → List Entry → Type 0
 BoundsBuffers script past = IsLegal script past → made_count past ≤ buffer_bound script
@@ -51,12 +55,12 @@ BoundsTimes script past = IsLegal script past → IsTrue (list_all (is_until (ti
 -- the bounds of a valid script are at most these
 abbrev pub BoundsMost : Script → Type 0
 BoundsMost script =
-    IsTrue (is_valid script) → (frame_bound script ≤ 65664) × (fence_bound script ≤ 262656) × (buffer_bound script ≤ 12288) × (time_bound script ≤ 6567400000000)
+    IsTrue (is_valid script) → (frame_bound script ≤ 65664) × (fence_bound script ≤ 262656) × (early_bound script ≤ 262656) × (buffer_bound script ≤ 36864) × (time_bound script ≤ 6567400000000)
 
 -- so they fit the fields of the entries
 abbrev pub BoundsFit : Script → Type 0
 BoundsFit script =
-    IsTrue (is_valid script) → (frame_bound script < 2 ^ 32) × (fence_bound script < 2 ^ 32) × (buffer_bound script < 2 ^ 32) × (time_bound script < 2 ^ 63)
+    IsTrue (is_valid script) → (frame_bound script < 2 ^ 32) × (fence_bound script < 2 ^ 32) × (early_bound script < 2 ^ 32) × (buffer_bound script < 2 ^ 32) × (time_bound script < 2 ^ 63)
 
 -- ---- every entry has a line
 

@@ -2,7 +2,7 @@
 ghost use Rattle.std.specs.Prelude.{List};
 ghost use Rattle.cam_types.specs.declared.script.Script.{Script as SomeScript};
 ghost use Rattle.trace_model.specs.declared.entry.Entry.{Entry as SomeEntry};
-ghost use Rattle.trace_bounds.specs.Laws.{BoundsBuffers, BoundsCalls, BoundsFences, BoundsFit, BoundsFrames, BoundsMost, BoundsRequests, BoundsSends, BoundsTimes, PrintsTyped};
+ghost use Rattle.trace_bounds.specs.Laws.{BoundsBuffers, BoundsCalls, BoundsEarlies, BoundsFences, BoundsFit, BoundsFrames, BoundsMost, BoundsRequests, BoundsSends, BoundsTimes, PrintsTyped};
 
 /// A legal run gives away no more frame numbers than the bound on frames, and so sends no more frames.
 #[tactic(auto, using(crate::proofs::FrameLemmas::frames_bounded, crate::proofs::FrameLemmas::sends_bounded))]
@@ -22,6 +22,12 @@ pub fn calls_are_bounded()
 #[tactic(auto, using(crate::proofs::FenceLemmas::fences_bounded))]
 pub fn fences_are_bounded()
     ensures { (script : SomeScript) (past : List SomeEntry) → BoundsFences script past }
+{}
+
+/// A legal run gives away no more device fences than the bound on them.
+#[tactic(auto, using(crate::proofs::EarlyLemmas::earlies_bounded))]
+pub fn device_fences_are_bounded()
+    ensures { (script : SomeScript) (past : List SomeEntry) → BoundsEarlies script past }
 {}
 
 /// A legal run makes no more buffers than the bound on buffers.

@@ -1,7 +1,7 @@
 use super::{every_script_is_typed, legal_traces_print};
 use cam_types::{
-    Command, CommandList, Format, Item, ItemList, Listing, NoMemory, Script, Settings, SpecList,
-    StreamSpec, Targets,
+    Command, CommandList, Format, Item, ItemList, Listing, NoMemory, Profile, Script, Settings,
+    SpecList, StreamSpec, Targets,
 };
 use std::alloc::Global;
 use std::test::*;
@@ -63,6 +63,13 @@ fn commands(alloc: Global) -> Result<CommandList, NoMemory> {
 fn a_script_with_the_greatest_numbers(rt: HostRuntime) -> Result<(), Fail> {
     let alloc = rt.alloc();
     let script = Script {
+        version: 1,
+        profile: Profile {
+            depth: 6,
+            raw: 3,
+            yuv: 4,
+        },
+        early: true,
         faults: Listing::new(alloc),
         picks: Listing::new(alloc),
         commands: commands(alloc)?,

@@ -1,5 +1,5 @@
 -- Lemmas for the laws in `src/laws.rt`.
-use Rattle.std.proofs.Common.{◌≡◌, ℕ, ◌==◌, ◌+◌, ◌<◌, ◌≤◌, Bool, true, false, ◌&&◌, ◌||◌, not, List, Option, Some, None, refl, sym, ap, ◌∙◌, arith, find, inl, inr, nat_le, nat_lt}
+use Rattle.std.proofs.Common.{◌≡◌, ℕ, ◌==◌, ◌+◌, ◌<◌, ◌≤◌, Bool, true, false, ◌&&◌, ◌||◌, not, List, Option, Some, None, refl, sym, ap, ◌∙◌, arith, find, inl, inr, nat_le}
 use Rattle.std.specs.List.{list_any, list_all}
 use Rattle.std.proofs.lemmas.Bool.{cases_Bool, false≢true}
 use Rattle.std.proofs.lemmas.Bool.Decides.{nat_tests}
@@ -15,7 +15,7 @@ use Rattle.cam_types.specs.declared.script.Command.TheVariants.{Configure, Once,
 use Rattle.cam_types.specs.declared.script.Word.{Word}
 use Rattle.cam_types.specs.declared.script.Script.{Script}
 use Rattle.trace_model.specs.declared.entry.Entry.{Entry}
-use Rattle.trace_model.specs.declared.entry.Entry.TheVariants.{Begin, Send, Partial, Filled, Failed, Release}
+use Rattle.trace_model.specs.declared.entry.Entry.TheVariants.{Begin, Send, Partial, Filled, Failed, Release, Early}
 use Rattle.trace_model.specs.declared.entry.Sent.{Sent}
 use Rattle.trace_model.specs.Allowed.{IsAllowed}
 use Rattle.trace_model.specs.Entry.{names}
@@ -145,6 +145,7 @@ until-returned script past (Send m r i same targets) n s b at may named =
     absurd (false≢true (sym (any-never {X = Sent} (λ _. false) (four_list targets) (λ _. refl)) ∙ both))
 until-returned script past (Filled m t c f d) n s b at may named = named
 until-returned script past (Failed m t c f) n s b at may named = named
+until-returned script past (Early m t c d) n s b at may named = named
 until-returned script past (Release c f) n s b at may named =
     let device = at-device n s b past at in
     let same : c.0 ≡ b = grind (arith, nat_tests) in

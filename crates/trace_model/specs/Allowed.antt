@@ -1,11 +1,11 @@
 use Rattle.std.specs.Prelude.{◌≡◌, List, Some, IsTrue}
 use Rattle.cam_types.specs.declared.script.Script.{Script}
 use Rattle.trace_model.specs.declared.entry.Entry.{Entry}
-use Rattle.trace_model.specs.declared.entry.Entry.TheVariants.{Begin, Call, Send, Dropped, Shutter, Partial, Filled, Failed, ErrorRequest, ErrorResult, ErrorBuffer, ErrorDevice, Release, Signal}
+use Rattle.trace_model.specs.declared.entry.Entry.TheVariants.{Begin, Call, Send, Dropped, Shutter, Partial, Filled, Failed, ErrorRequest, ErrorResult, ErrorBuffer, ErrorDevice, Release, Signal, Early, Late}
 use Rattle.trace_model.specs.Client.{begin_due, call_due}
 use Rattle.trace_model.specs.Drop.{drop_due}
 use Rattle.trace_model.specs.Errors.{error_request_due, error_result_due, error_buffer_due, error_device_due, failed_due}
-use Rattle.trace_model.specs.Filled.{filled_due}
+use Rattle.trace_model.specs.Filled.{early_due, filled_due, late_due}
 use Rattle.trace_model.specs.Partial.{partial_due}
 use Rattle.trace_model.specs.Release.{release_due, signal_due}
 use Rattle.trace_model.specs.Send.{may_send}
@@ -27,3 +27,5 @@ IsAllowed script past (ErrorBuffer n s) = error_buffer_due script past n.0 s.0 �
 IsAllowed script past ErrorDevice = error_device_due script past ≡ Some ErrorDevice
 IsAllowed script past (Release b f) = release_due past b.0 ≡ Some (Release b f)
 IsAllowed script past (Signal f) = signal_due past f.0 ≡ Some (Signal f)
+IsAllowed script past (Early n s b d) = early_due script past n.0 s.0 ≡ Some (Early n s b d)
+IsAllowed script past (Late d digest) = late_due script past d.0 ≡ Some (Late d digest)

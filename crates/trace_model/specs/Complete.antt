@@ -2,7 +2,7 @@ use Rattle.std.specs.Prelude.{ℕ, ◌==◌, Bool, List, [], ◌∷◌, length, 
 use Rattle.std.specs.List.{list_all}
 use Rattle.cam_types.specs.declared.script.Script.{Script}
 use Rattle.trace_model.specs.declared.entry.Entry.{Entry}
-use Rattle.trace_model.specs.declared.entry.Entry.TheVariants.{Release}
+use Rattle.trace_model.specs.declared.entry.Entry.TheVariants.{Release, Early}
 use Rattle.trace_model.specs.Client.{is_empty}
 use Rattle.trace_model.specs.Fence.{is_signalled}
 use Rattle.trace_model.specs.Legal.{IsLegal}
@@ -25,6 +25,12 @@ abbrev pub released : List Entry → List ℕ
 released [] = []
 released (Release _ f ∷ past) = f.0 ∷ released past
 released (_ ∷ past) = released past
+
+-- the device fences of early returns, the newest first
+abbrev pub device_fences : List Entry → List ℕ
+device_fences [] = []
+device_fences (Early _ _ _ d ∷ past) = d.0 ∷ device_fences past
+device_fences (_ ∷ past) = device_fences past
 
 abbrev pub is_all_signalled : List Entry → Bool
 is_all_signalled past = list_all (λ f. is_signalled f past) (released past)

@@ -6,7 +6,7 @@ use Rattle.cam_types.specs.declared.reply.Reply.TheVariants.{Refused}
 use Rattle.cam_types.specs.declared.script.Word.{Word}
 use Rattle.cam_types.specs.declared.script.Word.TheVariants.{Flush as WordFlush, Disconnect as WordDisconnect}
 use Rattle.trace_model.specs.declared.entry.Entry.{Entry}
-use Rattle.trace_model.specs.declared.entry.Entry.TheVariants.{Begin, Call, Send, Dropped, Shutter, Partial, Filled, Failed, ErrorRequest, ErrorResult, ErrorBuffer, ErrorDevice, Release, Signal}
+use Rattle.trace_model.specs.declared.entry.Entry.TheVariants.{Begin, Call, Send, Dropped, Shutter, Partial, Filled, Failed, ErrorRequest, ErrorResult, ErrorBuffer, ErrorDevice, Release, Signal, Early, Late}
 
 -- What one entry says. Everything that this project means by a legal trace is said by these tests over the past.
 -- A past is a list of entries, the newest first.
@@ -47,15 +47,23 @@ is_part n k (Partial m j _) = (m.0 == n) && (j == k)
 is_part n k _ = false
 
 -- the entry gives back the buffer of frame n for stream s, filled or failed
+abbrev pub brings : ℕ → ℕ → Entry → Bool
+brings n s (Filled m t _ _ _) = (m.0 == n) && (t.0 == s)
+brings n s (Failed m t _ _) = (m.0 == n) && (t.0 == s)
+brings n s _ = false
+
+-- the entry gives it back, filled, failed or early
 abbrev pub returns : ℕ → ℕ → Entry → Bool
 returns n s (Filled m t _ _ _) = (m.0 == n) && (t.0 == s)
 returns n s (Failed m t _ _) = (m.0 == n) && (t.0 == s)
+returns n s (Early m t _ _) = (m.0 == n) && (t.0 == s)
 returns n s _ = false
 
 -- the entry gives back some buffer of frame n
 abbrev pub returns_any : ℕ → Entry → Bool
 returns_any n (Filled m _ _ _ _) = m.0 == n
 returns_any n (Failed m _ _ _) = m.0 == n
+returns_any n (Early m _ _ _) = m.0 == n
 returns_any n _ = false
 
 abbrev pub is_error_request : ℕ → Entry → Bool
@@ -93,12 +101,27 @@ abbrev pub signals : ℕ → Entry → Bool
 signals f (Signal g) = g.0 == f
 signals f _ = false
 
+abbrev pub is_early : Entry → Bool
+is_early (Early _ _ _ _) = true
+is_early _ = false
+
+-- the entry gives a buffer back early, with device fence d
+abbrev pub is_early_with : ℕ → Entry → Bool
+is_early_with d (Early _ _ _ f) = f.0 == d
+is_early_with d _ = false
+
+-- the entry signals device fence d
+abbrev pub is_late_with : ℕ → Entry → Bool
+is_late_with d (Late f _) = f.0 == d
+is_late_with d _ = false
+
 -- the entry names buffer b
 abbrev pub names : ℕ → Entry → Bool
 names b (Send _ _ _ _ targets) = list_any (λ t. t.buffer.0 == b) (four_list targets)
 names b (Filled _ _ c _ _) = c.0 == b
 names b (Failed _ _ c _) = c.0 == b
 names b (Release c _) = c.0 == b
+names b (Early _ _ c _) = c.0 == b
 names b _ = false
 
 abbrev pub is_refusal : Reply → Bool

@@ -3,9 +3,9 @@ use Rattle.std.specs.List.{list_any}
 use Rattle.cam_types.specs.Four.{four_list}
 use Rattle.cam_types.specs.declared.number.FenceNo.{FenceNo}
 use Rattle.trace_model.specs.declared.entry.Entry.{Entry}
-use Rattle.trace_model.specs.declared.entry.Entry.TheVariants.{Send, Failed, Release}
+use Rattle.trace_model.specs.declared.entry.Entry.TheVariants.{Send, Failed, Release, Early}
 use Rattle.trace_model.specs.declared.entry.Sent.{Sent}
-use Rattle.trace_model.specs.Entry.{signals}
+use Rattle.trace_model.specs.Entry.{signals, is_late_with}
 use Rattle.trace_model.specs.Place.{last_naming}
 
 -- Fences: who uses a buffer next waits for the fence that came with it (camera3.h, camera3_stream_buffer).
@@ -26,6 +26,23 @@ is_signalled f past = list_any (signals f) past
 abbrev pub is_passed : Option FenceNo → List Entry → Bool
 is_passed None past = true
 is_passed (Some f) past = is_signalled f.0 past
+
+-- device fence d is signalled: the picture of its early return is there
+abbrev pub is_late : ℕ → List Entry → Bool
+is_late d past = list_any (is_late_with d) past
+
+abbrev pub early_fence_after : Option Entry → Option FenceNo
+early_fence_after (Some (Early _ _ _ d)) = Some d
+early_fence_after _ = None
+
+-- the device fence of a buffer that went to the client early
+abbrev pub early_fence_of : ℕ → List Entry → Option FenceNo
+early_fence_of b past = early_fence_after (last_naming b past)
+
+-- there is no device fence to wait for, or it is signalled
+abbrev pub is_there : Option FenceNo → List Entry → Bool
+is_there None past = true
+is_there (Some d) past = is_late d.0 past
 
 abbrev pub fence_in : Option Sent → Option FenceNo
 fence_in (Some t) = t.fence

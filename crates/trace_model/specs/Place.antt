@@ -2,7 +2,7 @@ use Rattle.std.specs.Prelude.{ℕ, ◌==◌, Bool, true, false, ◌&&◌, List, 
 use Rattle.std.specs.List.{list_any, list_all}
 use Rattle.cam_types.specs.Four.{four_list}
 use Rattle.trace_model.specs.declared.entry.Entry.{Entry}
-use Rattle.trace_model.specs.declared.entry.Entry.TheVariants.{Send, Filled}
+use Rattle.trace_model.specs.declared.entry.Entry.TheVariants.{Send, Filled, Early}
 use Rattle.trace_model.specs.Configuration.{made, numbers_of}
 use Rattle.trace_model.specs.Entry.{names}
 
@@ -21,6 +21,7 @@ last_naming b past = find (names b) past
 abbrev pub place_after : Option Entry → Place
 place_after (Some (Send _ _ _ _ _)) = Device
 place_after (Some (Filled _ _ _ _ _)) = Client
+place_after (Some (Early _ _ _ _)) = Client
 place_after _ = Pool
 
 abbrev pub place : ℕ → List Entry → Place

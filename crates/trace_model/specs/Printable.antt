@@ -11,7 +11,7 @@ use Rattle.cam_types.specs.declared.reply.Reply.TheVariants.{Ok, Submitted, Conf
 use Rattle.cam_types.specs.declared.script.Word.{Word}
 use Rattle.cam_types.specs.declared.script.Word.TheVariants.{Configure, Once, Burst, Repeat, Wait, Await, Flush, Close, Disconnect}
 use Rattle.trace_model.specs.declared.entry.Entry.{Entry}
-use Rattle.trace_model.specs.declared.entry.Entry.TheVariants.{Begin, Call, Send, Dropped, Shutter, Partial, Filled, Failed, ErrorRequest, ErrorResult, ErrorBuffer, ErrorDevice, Release, Signal}
+use Rattle.trace_model.specs.declared.entry.Entry.TheVariants.{Begin, Call, Send, Dropped, Shutter, Partial, Filled, Failed, ErrorRequest, ErrorResult, ErrorBuffer, ErrorDevice, Release, Signal, Early, Late}
 use Rattle.trace_model.specs.declared.entry.Sent.{Sent}
 
 -- The entry has a line in the trace's text: its numbers fit their fields, and its parts go together. (docs/FORMATS.md)
@@ -91,3 +91,5 @@ is_printable (ErrorBuffer n s) = is_small n.0 && is_byte s.0
 is_printable ErrorDevice = true
 is_printable (Release b f) = is_small b.0 && is_small f.0
 is_printable (Signal f) = is_small f.0
+is_printable (Early n s b f) = (is_small n.0 && (is_byte s.0 && is_small b.0)) && is_small f.0
+is_printable (Late f digest) = is_small f.0 && is_digest digest

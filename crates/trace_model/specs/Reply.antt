@@ -8,6 +8,7 @@ use Rattle.cam_types.specs.declared.reply.Reply.{Reply}
 use Rattle.cam_types.specs.declared.reply.Reply.TheVariants.{Ok, Submitted, Configured, Refused}
 use Rattle.cam_types.specs.declared.script.Command.{Command}
 use Rattle.cam_types.specs.declared.script.Command.TheVariants.{Configure, Once, Burst, Repeat, Stop, Wait, Await}
+use Rattle.cam_types.specs.declared.script.Profile.{Profile}
 use Rattle.cam_types.specs.declared.script.Script.{Script}
 use Rattle.cam_types.specs.declared.stream.Format.{Format}
 use Rattle.cam_types.specs.declared.stream.Format.TheVariants.{Raw16, Yuv}
@@ -136,17 +137,17 @@ refusal script past c = or_else (state_refusal past c) (own_refusal script past 
 -- ---- accepted
 
 -- the buffers of each stream, numbered on from the next unused number: two more than may be at the device
-abbrev pub made_for : ℕ → List StreamSpec → List Made
-made_for next [] = []
-made_for next (spec ∷ specs) =
-    record { first = record { 0 = next }; count = max_buffers spec.format + 2 } ∷ made_for (next + (max_buffers spec.format + 2)) specs
+abbrev pub made_for : Profile → ℕ → List StreamSpec → List Made
+made_for p next [] = []
+made_for p next (spec ∷ specs) =
+    record { first = record { 0 = next }; count = max_buffers p spec.format + 2 } ∷ made_for p (next + (max_buffers p spec.format + 2)) specs
 
-abbrev pub acceptance : List Entry → Command → Reply
-acceptance past (Configure specs) = Configured (four_of (made_for (made_count past) specs))
-acceptance past (Once _) = Submitted (record { 0 = request_count past })
-acceptance past (Burst _) = Submitted (record { 0 = request_count past })
-acceptance past (Repeat _) = Submitted (record { 0 = request_count past })
-acceptance past _ = Ok
+abbrev pub acceptance : Script → List Entry → Command → Reply
+acceptance script past (Configure specs) = Configured (four_of (made_for script.profile (made_count past) specs))
+acceptance script past (Once _) = Submitted (record { 0 = request_count past })
+acceptance script past (Burst _) = Submitted (record { 0 = request_count past })
+acceptance script past (Repeat _) = Submitted (record { 0 = request_count past })
+acceptance script past _ = Ok
 
 abbrev pub reply_with : Option Reply → Reply → Reply
 reply_with (Some r) accepted = r
@@ -154,4 +155,4 @@ reply_with None accepted = accepted
 
 -- the reply to a command
 abbrev pub reply : Script → List Entry → Command → Reply
-reply script past c = reply_with (refusal script past c) (acceptance past c)
+reply script past c = reply_with (refusal script past c) (acceptance script past c)

@@ -48,7 +48,7 @@ at_device_count past s = length (filter (λ b. is_at (place b past) Device) (buf
 
 -- the device takes a further buffer of stream s
 abbrev pub has_room : Script → List Entry → ℕ → Bool
-has_room script past s = nat_lt (at_device_count past s) (max_buffers_of (slice_get (streams script past) s))
+has_room script past s = nat_lt (at_device_count past s) (max_buffers_of script.profile (slice_get (streams script past) s))
 
 -- a configure or a close has begun: no repeating item is sent while it waits for the device to be quiet
 abbrev pub holds_back : Option Word → Bool
@@ -75,9 +75,9 @@ awaited script past = awaited_in (begun past) (next_command script past)
 abbrev pub may_repeat : Script → List Entry → Bool
 may_repeat script past = not (holds_back (begun past)) && nat_lt (repeated_since_call script past) (64 + awaited script past)
 
--- the device takes a further frame for these streams: six may be open (our own choice)
+-- the device takes a further frame for these streams: no more are open than the profile's depth (our own choice)
 abbrev pub has_capacity : Script → List Entry → List ℕ → Bool
-has_capacity script past targets = nat_lt (open_count past) 6 && list_all (has_room script past) targets
+has_capacity script past targets = nat_lt (open_count past) script.profile.depth && list_all (has_room script past) targets
 
 -- the settings of the last frame that was sent after the last accepted configuration
 abbrev pub last_settings : Script → List Entry → Option Settings

@@ -87,6 +87,18 @@ pub enum Entry {
     Signal {
         fence: FenceNo,
     },
+    /// A buffer comes back before it is filled, with a device fence that the device will signal.
+    Early {
+        frame: FrameNo,
+        stream: StreamIx,
+        buffer: BufferId,
+        fence: FenceNo,
+    },
+    /// The device signals a device fence: the buffer has its picture, whose SHA-256 is the digest.
+    Late {
+        fence: FenceNo,
+        digest: [u8; 32],
+    },
 }
 
 /// The entries of a trace, in order.

@@ -15,3 +15,7 @@ pub mod FlushWhileAFillIsOut
 pub mod FailedBufferKeepsItsFence
 pub mod ReconfigurationMarksNew
 pub mod DisconnectCancelsAll
+pub mod EarlyReturn
+pub mod EarlyInFlush
+pub mod DeeperPipeline
+pub mod JobsOfOneFrame

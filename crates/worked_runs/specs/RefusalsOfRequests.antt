@@ -1,22 +1,20 @@
 -- Requests and calls that are refused, each by its number. The worked row `refusals_of_requests` of tests/rows.
-use Rattle.std.specs.Prelude.{ℕ, Bool, true, false, List, [], ◌∷◌, Option, Some, None}
+use Rattle.std.specs.Prelude.{false, List, [], ◌∷◌, Some, None}
 use Rattle.cam_types.specs.Worked.{shot}
-use Rattle.cam_types.specs.declared.part.Part.TheVariants.{Look, Light, Time}
-use Rattle.cam_types.specs.declared.reply.Reply.TheVariants.{Ok as Accepted, Submitted, Configured, Refused}
-use Rattle.cam_types.specs.declared.script.Command.{Command}
-use Rattle.cam_types.specs.declared.script.Command.TheVariants.{Configure, Once, Burst, Repeat, Stop, Wait, Await, Flush, Close, Disconnect}
-use Rattle.cam_types.specs.declared.script.Fault.{Fault}
-use Rattle.cam_types.specs.declared.script.Fault.TheVariants.{Request, Result, Buffer, Device}
+use Rattle.cam_types.specs.declared.reply.Reply.TheVariants.{Ok as Accepted, Configured, Refused}
+use Rattle.cam_types.specs.declared.script.Command.TheVariants.{Configure, Once, Burst, Stop, Close}
 use Rattle.cam_types.specs.declared.script.Script.{Script}
-use Rattle.cam_types.specs.declared.script.Word.TheVariants.{Configure as WConfigure, Once as WOnce, Burst as WBurst, Repeat as WRepeat, Stop as WStop, Wait as WWait, Await as WAwait, Flush as WFlush, Close as WClose, Disconnect as WDisconnect}
-use Rattle.cam_types.specs.declared.stream.Format.TheVariants.{Raw16, Yuv, Other}
-use Rattle.trace_model.specs.Picture.{digest}
+use Rattle.cam_types.specs.declared.script.Word.TheVariants.{Configure as WConfigure, Once as WOnce, Burst as WBurst, Stop as WStop, Close as WClose}
+use Rattle.cam_types.specs.declared.stream.Format.TheVariants.{Raw16, Yuv}
 use Rattle.trace_model.specs.declared.entry.Entry.{Entry}
-use Rattle.trace_model.specs.declared.entry.Entry.TheVariants.{Begin, Call, Send, Dropped, Shutter, Partial, Filled, Failed, ErrorRequest, ErrorResult, ErrorBuffer, ErrorDevice, Release, Signal}
-use Rattle.worked_runs.specs.Words.{frame, buffer, fence, stream, request, preview, still, item, input, output, made, with, none, one, two, three, four}
+use Rattle.trace_model.specs.declared.entry.Entry.TheVariants.{Begin, Call}
+use Rattle.worked_runs.specs.Words.{preview, item, output, made, two}
 
 abbrev pub refusals_of_requests_script : Script
 refusals_of_requests_script = record {
+  version = 1;
+  profile = record { depth = 6; raw = 3; yuv = 4 };
+  early = false;
   faults = [];
   picks = [];
   commands =

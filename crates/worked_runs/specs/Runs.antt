@@ -4,9 +4,9 @@ use Rattle.trace_model.specs.declared.entry.Entry.{Entry}
 use Rattle.trace_model.specs.Complete.{IsComplete, is_all_called, is_queue_empty, is_all_signalled}
 use Rattle.trace_model.specs.Open.{is_quiet}
 use Rattle.trace_model.specs.Place.{all_in_pool}
-use Rattle.service_core.specs.declared.step.Move.{Move}
-use Rattle.service_core.specs.History.{trace_of}
-use Rattle.service_core.specs.Played.{chosen, move_at}
+use Rattle.run_model.specs.declared.step.Move.{Move}
+use Rattle.run_model.specs.History.{trace_of}
+use Rattle.run_model.specs.Played.{chosen, move_at}
 
 -- The definitions of ready steps, candidates and picks, run.
 

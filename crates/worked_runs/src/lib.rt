@@ -9,6 +9,7 @@ ghost use Rattle.worked_runs.specs.FailedBufferKeepsItsFence.{failed_buffer_keep
 ghost use Rattle.worked_runs.specs.FifthRequestWaitsForAReturn.{fifth_request_waits_for_a_return_script, fifth_request_waits_for_a_return_trace};
 ghost use Rattle.worked_runs.specs.FlushCancelsThreeStages.{flush_cancels_three_stages_script, flush_cancels_three_stages_trace};
 ghost use Rattle.worked_runs.specs.FlushWhileAFillIsOut.{flush_while_a_fill_is_out_script, flush_while_a_fill_is_out_trace};
+ghost use Rattle.worked_runs.specs.JobsOfOneFrame.{JobsOfOneFrame};
 ghost use Rattle.worked_runs.specs.OneFrame.{one_frame_script, one_frame_trace};
 ghost use Rattle.worked_runs.specs.PipelineDepthOfSix.{pipeline_depth_of_six_script, pipeline_depth_of_six_trace};
 ghost use Rattle.worked_runs.specs.PreviewWithStills.{preview_with_stills_script, preview_with_stills_trace};
@@ -18,10 +19,33 @@ ghost use Rattle.worked_runs.specs.RefusalsOfConfigurations.{refusals_of_configu
 ghost use Rattle.worked_runs.specs.RefusalsOfRequests.{refusals_of_requests_script, refusals_of_requests_trace};
 ghost use Rattle.worked_runs.specs.RequestFault.{request_fault_script, request_fault_trace};
 ghost use Rattle.worked_runs.specs.ResultAndBufferFaultAfterTwoPartials.{result_and_buffer_fault_after_two_partials_script, result_and_buffer_fault_after_two_partials_trace};
+ghost use Rattle.worked_runs.specs.DeeperPipeline.{deeper_pipeline_script, deeper_pipeline_trace};
+ghost use Rattle.worked_runs.specs.EarlyInFlush.{early_in_flush_script, early_in_flush_trace};
+ghost use Rattle.worked_runs.specs.EarlyReturn.{early_return_script, early_return_trace};
+
+/// A device of eight open frames and seven buffers of a stream.
+pub fn deeper_pipeline()
+    ensures { Plays deeper_pipeline_script deeper_pipeline_trace }
+{}
+
+/// A buffer comes back before it is filled.
+pub fn early_return()
+    ensures { Plays early_return_script early_return_trace }
+{}
+
+/// A flush after an early return.
+pub fn early_in_flush()
+    ensures { Plays early_in_flush_script early_in_flush_trace }
+{}
 
 /// A RAW16 stream and one request.
 pub fn one_frame()
     ensures { Plays one_frame_script one_frame_trace }
+{}
+
+/// Which jobs are out in the run of one frame, and when.
+pub fn jobs_of_one_frame()
+    ensures { JobsOfOneFrame }
 {}
 
 /// One request with a picture of each of two streams.
