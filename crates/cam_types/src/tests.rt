@@ -172,7 +172,7 @@ fn ranges_of_a_script(rt: HostRuntime) {
         assert_eq!(rt; spec(format, width, height).fits(), fits);
     }
     let (wait, close) = (Command::Await(7), Command::Close);
-    assert!(rt; close.is_ending() && !wait.is_ending());
+    assert!(rt; close.is_closing() && !wait.is_ending());
     assert!(rt; wait.awaited() == 7 && close.awaited() == 0);
 }
 
@@ -239,4 +239,32 @@ fn profiles_of_versions(rt: HostRuntime) -> Result<(), Fail> {
         );
     }
     Ok(())
+}
+
+/// How far a target is, whether it is returned, and whether the device is done with it.
+const STATES: &[(TargetState, bool, bool)] = &[
+    (TargetState::Waiting, false, false),
+    (TargetState::Out, false, false),
+    (TargetState::Filled, false, false),
+    (TargetState::ReturnedEarly, true, false),
+    (TargetState::EarlyFilled, true, false),
+    (TargetState::ReturnedOk, true, true),
+    (TargetState::ReturnedFailed, true, true),
+];
+
+#[test]
+fn states_and_profiles(rt: HostRuntime) {
+    for (state, is_returned, is_settled) in STATES {
+        assert_eq!(rt; state.is_returned(), *is_returned);
+        assert_eq!(rt; state.is_settled(), *is_settled);
+    }
+    let deep = Profile {
+        depth: 8,
+        raw: 3,
+        yuv: 7,
+    };
+    assert!(rt; deep.is_valid());
+    assert_eq!(rt; deep.max_buffers(Format::Yuv), 7);
+    assert_eq!(rt; deep.pool_size(Format::Yuv), 9);
+    assert_eq!(rt; deep.pool_size(Format::Raw16), 5);
 }
