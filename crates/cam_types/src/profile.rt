@@ -41,8 +41,7 @@ impl Profile {
         ensures { result ≡ profile_fits version self }
     {
         match version {
-            1 => self.depth == FRAME_DEPTH
-                && (self.raw == RAW_BUFFERS && self.yuv == YUV_BUFFERS),
+            1 => self.depth == FRAME_DEPTH && (self.raw == RAW_BUFFERS && self.yuv == YUV_BUFFERS),
             2 => self.is_valid(),
             _ => false,
         }

@@ -172,7 +172,7 @@ fn ranges_of_a_script(rt: HostRuntime) {
         assert_eq!(rt; spec(format, width, height).fits(), fits);
     }
     let (wait, close) = (Command::Await(7), Command::Close);
-    assert!(rt; close.is_closing() && !wait.is_ending());
+    assert!(rt; close.is_closing() && !wait.is_closing());
     assert!(rt; wait.awaited() == 7 && close.awaited() == 0);
 }
 
