@@ -1,6 +1,6 @@
 use Rattle.std.specs.Prelude.{ℕ, ◌==◌, Bool, true, false, List, length, count_by}
 use Rattle.trace_model.specs.declared.entry.Entry.{Entry}
-use Rattle.trace_model.specs.declared.entry.Entry.TheVariants.{Call, Send, Dropped, Partial, Filled, Failed, ErrorRequest, ErrorResult}
+use Rattle.trace_model.specs.declared.entry.Entry.TheVariants.{Send, Dropped, Partial, Filled, Failed, ErrorRequest, ErrorResult}
 use Rattle.trace_model.specs.Entry.{is_call}
 
 -- How much of each a trace has (our own choice).
