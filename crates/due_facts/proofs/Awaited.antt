@@ -43,8 +43,8 @@ queue_settled script past n r i same targets legal any =
   where
     by : (w : WaitingItem) → is_settled script past w ≡ true → takes_it (Send n r i same targets) w ≡ true → is_repeating script past r.0 ≡ false
     by w h taken =
-        let not' = not-true (is_repeating script past w.request) (and_parts _ (not (is_repeating script past w.request)) h).1 in
-        let at = eqb-true r.0 w.request (and_parts (r.0 == w.request) (i == w.index) taken).0 in
+        let not' = not-true (is_repeating script past w.request.0) (and_parts _ (not (is_repeating script past w.request.0)) h).1 in
+        let at = eqb-true r.0 w.request.0 (and_parts (r.0 == w.request.0) (i == w.index) taken).0 in
         rw at not'
 
 send_counts : (script : Script) (past : List Entry) (n : FrameNo) (r : RequestId) (i : ℕ) (same : Bool) (targets : Four Sent) → IsLegal script past → may_send script past n.0 r.0 i same targets ≡ true → (is_repeating script past r.0 ≡ false) ⊎ (repeated_since_call script past < 64 + awaited script past)
