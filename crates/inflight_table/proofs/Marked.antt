@@ -1,4 +1,5 @@
 use Rattle.std.proofs.Common.{◌≡◌, ℕ, ◌+◌, ◌<◌, true, nat_lt, List, [], ◌∷◌, ◌++◌, length, map, take, drop, slice_set, get_or, refl, sym, ◌∙◌, ap}
+use Rattle.std.proofs.lemmas.Bool.{and_parts}
 use Rattle.std.specs.List.{list_all}
 use Rattle.std.proofs.lemmas.List.{length-map}
 use Rattle.cam_types.specs.declared.four.Four.{Four}
@@ -11,7 +12,7 @@ use Rattle.inflight_table.specs.Marks.{marked}
 use Rattle.inflight_table.specs.Kept.{IsKept}
 use Rattle.inflight_table.specs.Rows.{are_in_order, frame_of, is_sound, with_mark, with_row}
 use Rattle.inflight_table.proofs.General.{get_or-mapped, set-mapped, written-back}
-use Rattle.inflight_table.proofs.Reach.{and-parts, sound-marked}
+use Rattle.inflight_table.proofs.Reach.{sound-marked}
 use Rattle.inflight_table.proofs.Places.{Present}
 
 abbrev mk : {B : Type 0} → RowView → Four B → Row B
@@ -62,7 +63,7 @@ order-all mark (r ∷ rs) = rw (frame-with mark r, above-all mark (frame_of r) r
 sound-all : {B : Type 0} (mark : Mark) (rows : List (Row B)) → list_all is_sound rows ≡ true → list_all is_sound (map (with_mark mark) rows) ≡ true
 sound-all mark [] h = refl
 sound-all mark (r ∷ rs) h =
-    let parts = and-parts (is_sound r) (list_all is_sound rs) h in
+    let parts = and_parts (is_sound r) (list_all is_sound rs) h in
     rw (sound-marked mark r.view (marked mark r.view) r.parked parts.0 refl, sound-all mark rs parts.1) refl
 
 all-kept : {B : Type 0} (mark : Mark) (rows : List (Row B)) (capacity memory : ℕ) → IsKept rows capacity memory → IsKept (map (with_mark mark) rows) capacity memory
