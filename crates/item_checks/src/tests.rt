@@ -5,7 +5,7 @@ use std::alloc::Global;
 use std::test::Fail;
 
 /// The pattern, the level, the exposure, the sensitivity, the number of targets and the first three.
-type Asked = (u32, u32, u32, u32, u8, [u8; 3]);
+type Asked = (u8, u32, u64, u32, u8, [u8; 3]);
 
 const GOOD: Asked = (0, 100, 10_000_000, 100, 2, [1, 0, 0]);
 
