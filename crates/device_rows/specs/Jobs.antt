@@ -1,4 +1,5 @@
-use Rattle.std.specs.Prelude.{if◌then◌else◌, ◌≡◌, Bool, true, false, ◌||◌, List, Some, None, slice_get}
+use Rattle.std.specs.Prelude.{◌≡◌, ℕ, Bool, true, false, ◌||◌, List, Option, Some, None, if◌then◌else◌, slice_get}
+use Rattle.cam_types.specs.declared.job.FillTarget.{FillTarget}
 use Rattle.std.specs.List.{list_any}
 use Rattle.cam_types.specs.Four.{four_list}
 use Rattle.cam_types.specs.declared.job.JobView.{JobView}
