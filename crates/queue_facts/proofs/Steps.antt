@@ -2,6 +2,7 @@
 use Rattle.std.proofs.Common.{◌≡◌, ℕ, ◌+◌, Bool, true, false, if◌then◌else◌, List, ◌∷◌, ◌++◌, Option, Some, None, refl, arith, length, append-nil}
 use Rattle.std.proofs.Math.Nat.{zero-mod}
 use Rattle.std.proofs.lemmas.Bool.{both_ways, false≢true}
+use Rattle.cam_types.specs.declared.number.RequestId.{RequestId}
 use Rattle.cam_types.specs.declared.reply.Reply.{Reply}
 use Rattle.cam_types.specs.declared.reply.Reply.TheVariants.{Submitted}
 use Rattle.cam_types.specs.declared.script.Command.{Command}
@@ -31,7 +32,7 @@ same-turns a b p q n m r s w x y z = rw (w, x, y, z) refl
 
 -- ---- what a call does to the turn
 
-new-turn : (past : List Entry) (e : Entry) (o : Option Command) (r : ℕ) → sent_for r (e ∷ past) ≡ 0 → placed (e ∷ past) (repeating_of o r) ≡ turn_of o r
+new-turn : (past : List Entry) (e : Entry) (o : Option Command) (r : RequestId) → sent_for r.0 (e ∷ past) ≡ 0 → placed (e ∷ past) (repeating_of o r) ≡ turn_of o r
 new-turn past e (Some (Repeat items)) r none = rw (none, zero-mod (length items)) refl
 new-turn past e _ r none = refl
 
@@ -41,7 +42,7 @@ same-turn past i word reply (Some q) = refl
 
 -- an accepted repeat has a new number
 abbrev pub IsNewRepeat : List Entry → Entry → Type 0
-IsNewRepeat past (Call i word reply) = is_refusal reply ≡ false → is_repeat_word word ≡ true → request_in reply ≡ request_count past
+IsNewRepeat past (Call i word reply) = is_refusal reply ≡ false → is_repeat_word word ≡ true → (request_in reply).0 ≡ request_count past
 IsNewRepeat past _ = Unit {0}
 
 new-repeat : (script : Script) (past : List Entry) (i : ℕ) (c : Command) (o : Option Reply) → refuses o ≡ true → IsNewRepeat past (Call i (word_of c) (reply_with o (acceptance script past c)))
@@ -67,7 +68,7 @@ called-turn : (script : Script) (past : List Entry) (i : ℕ) (word : Word) (rep
 called-turn script past i word reply legal may =
     let is-new = by-call (IsNewRepeat past) script past i word reply may (λ c at. new-repeat script past (call_count past) c (refusal script past c) (refusal-refuses script past c)) in
     by-tests past (Call i word reply) (is_refusal reply) (is_repeat_word word) (is_clearing_word word) (repeating_of (command_at script i) (request_in reply)) (repeating script past) (turn_of (command_at script i) (request_in reply))
-    (λ accepted repeats. new-turn past (Call i word reply) (command_at script i) (request_in reply) (unsent script past (request_in reply) legal (omega (arith, is-new accepted repeats))))
+    (λ accepted repeats. new-turn past (Call i word reply) (command_at script i) (request_in reply) (unsent script past (request_in reply).0 legal (omega (arith, is-new accepted repeats))))
     (same-turn past i word reply (repeating script past))
 
 -- ---- what a call does to the queue and to the count of requests

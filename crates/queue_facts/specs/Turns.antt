@@ -1,5 +1,6 @@
 use Rattle.std.specs.Prelude.{ℕ, ◌+◌, ◌%◌, List, [], ◌∷◌, ◌++◌, Option, Some, None, length, slice_get, if◌then◌else◌}
 use Rattle.cam_types.specs.declared.item.Item.{Item}
+use Rattle.cam_types.specs.declared.number.RequestId.{RequestId}
 use Rattle.cam_types.specs.declared.reply.Reply.{Reply}
 use Rattle.cam_types.specs.declared.reply.Reply.TheVariants.{Submitted}
 use Rattle.cam_types.specs.declared.script.Command.{Command}
@@ -20,7 +21,7 @@ use Rattle.cam_types.specs.declared.request.WaitingItem.{WaitingItem}
 
 -- a list that repeats, and the place in it of the item whose turn it is
 pub record Turn : Type 0 where
-  pub request : ℕ
+  pub request : RequestId
   pub items : List Item
   pub place : ℕ
 
@@ -36,7 +37,7 @@ no_turns = record { waiting = []; turn = None; numbers = 0; requests = 0 }
 -- ---- the state that a past leaves
 
 abbrev pub placed : List Entry → Option Repeating → Option Turn
-placed past (Some r) = Some (record { request = r.request; items = r.items; place = sent_for r.request past % length r.items })
+placed past (Some r) = Some (record { request = r.request; items = r.items; place = sent_for r.request.0 past % length r.items })
 placed past None = None
 
 abbrev pub turns : Script → List Entry → Turns
@@ -62,7 +63,7 @@ abbrev pub turn_sent : List WaitingItem → Option Turn → Option Turn
 turn_sent [] q = moved q
 turn_sent (_ ∷ _) q = q
 
-abbrev pub turn_of : Option Command → ℕ → Option Turn
+abbrev pub turn_of : Option Command → RequestId → Option Turn
 turn_of (Some (Repeat items)) r = Some (record { request = r; items = items; place = 0 })
 turn_of _ r = None
 
