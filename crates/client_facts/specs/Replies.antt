@@ -11,6 +11,7 @@ use Rattle.trace_model.specs.Calls.{command_at, is_closing_word, is_waiting_comm
 use Rattle.trace_model.specs.Client.{is_empty}
 use Rattle.trace_model.specs.Entry.{is_refusal}
 use Rattle.trace_model.specs.Reply.{is_configure_command, made_for, reply_with}
+use Rattle.cam_types.specs.Limits.{queue_limit, repeating_ahead}
 use Rattle.cam_types.specs.Refusals.{refused, or_else, where_true, items_refusal, list_refusal, specs_refusal}
 use Rattle.trace_model.specs.Send.{awaited_in, holds_back}
 use Rattle.cam_types.specs.Four.{four_of}
@@ -42,7 +43,7 @@ state_refusal_in t c =
     else where_true (not (is_configure_command c) && not t.configured) (refused 1)))
 
 abbrev pub queue_refusal_in : Turns → List Item → Option Reply
-queue_refusal_in q items = where_true (nat_lt 256 (length q.waiting + length items)) (refused 11)
+queue_refusal_in q items = where_true (nat_lt queue_limit (length q.waiting + length items)) (refused 11)
 
 abbrev pub own_refusal_in : Clients → Turns → Command → Option Reply
 own_refusal_in t q (Configure specs) = specs_refusal specs
@@ -91,4 +92,4 @@ call_in script quiet t q h = call_with script quiet t q h (command_at script t.c
 -- ---- what holds repeating items back
 
 abbrev pub may_repeat_in : Script → Clients → Bool
-may_repeat_in script t = not (holds_back t.begun) && nat_lt t.repeated (64 + awaited_in t.begun (command_at script t.calls))
+may_repeat_in script t = not (holds_back t.begun) && nat_lt t.repeated (repeating_ahead + awaited_in t.begun (command_at script t.calls))
