@@ -6,6 +6,7 @@ use Rattle.cam_types.specs.declared.item.Settings.{Settings}
 use Rattle.cam_types.specs.declared.number.FrameNo.{FrameNo}
 use Rattle.cam_types.specs.declared.number.RequestId.{RequestId}
 use Rattle.cam_types.specs.declared.reply.Reply.TheVariants.{Configured}
+use Rattle.cam_types.specs.Limits.{frame_time}
 use Rattle.cam_types.specs.declared.script.Script.{Script}
 use Rattle.trace_model.specs.declared.entry.Entry.{Entry}
 use Rattle.trace_model.specs.declared.entry.Entry.TheVariants.{Call, Send, Shutter, Partial, ErrorResult}
@@ -105,7 +106,7 @@ clock-after script past (Shutter n time) legal =
     let is = exposed script past n time legal.0 in
     let open_ = exposed-open script past n.0 legal.1 is.0 is.1 is.2 in
     let found : find_row n.0 (rows script past) ≡ Some (row script past n.0) = found_is script past n.0 ∙ rw open_ refl in
-    ap (λ (o : Option Row). time + max 33333333 (settings_row o).exposure) (sym found)
+    ap (λ (o : Option Row). time + max frame_time (settings_row o).exposure) (sym found)
 clock-after script past _ legal = refl
 
 -- ---- all of it

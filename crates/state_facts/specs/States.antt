@@ -8,6 +8,7 @@ use Rattle.cam_types.specs.declared.script.Script.{Script}
 use Rattle.trace_model.specs.declared.entry.Entry.{Entry}
 use Rattle.trace_model.specs.declared.entry.Entry.TheVariants.{Call, Send, Dropped, Shutter}
 use Rattle.trace_model.specs.declared.entry.Sent.{Sent}
+use Rattle.cam_types.specs.Limits.{frame_time}
 use Rattle.cam_types.specs.Profile.{max_buffers_of}
 use Rattle.trace_model.specs.Fence.{is_same_fence}
 use Rattle.trace_model.specs.Frames.{no_settings}
@@ -67,7 +68,7 @@ last_after settings (Send _ _ _ _ _) old = Some settings
 last_after settings _ old = old
 
 abbrev pub clock_after : List Row → Entry → ℕ → ℕ
-clock_after rs (Shutter n time) old = time + max 33333333 (settings_row (find_row n.0 rs)).exposure
+clock_after rs (Shutter n time) old = time + max frame_time (settings_row (find_row n.0 rs)).exposure
 clock_after rs _ old = old
 
 -- the state after an entry, from the state before it alone
@@ -101,7 +102,7 @@ may_go_in script s next =
 abbrev pub fits_in : Script → State → Option Queued → ℕ → ℕ → ℕ → Bool → Four Sent → Bool
 fits_in script s None n r i same targets = false
 fits_in script s (Some next) n r i same targets =
-    ((n == s.queue.numbers) && ((r == next.request) && (i == next.index)))
+    ((n == s.queue.numbers) && ((r == next.request.0) && (i == next.index)))
     && (may_go_in script s next
     && ((are_streams (four_list targets) (targets_in_order next.item) && (is_filled targets && list_all (takes_in s) (four_list targets)))
     && is_same_bool same (are_last s.last next.item.settings)))
@@ -121,7 +122,7 @@ targets_in s (t ∷ streams) = with_target (target_in s t (least_in s.buffers t)
 abbrev pub send_of : State → Queued → Option (List Sent) → Option Entry
 send_of s next None = None
 send_of s next (Some targets) =
-    Some (Send (record { 0 = s.queue.numbers }) (record { 0 = next.request }) next.index (are_last s.last next.item.settings) (four_of targets))
+    Some (Send (record { 0 = s.queue.numbers }) (next.request) next.index (are_last s.last next.item.settings) (four_of targets))
 
 abbrev pub send_next_in : Script → State → Option Queued → Option Entry
 send_next_in script s None = None
