@@ -59,7 +59,7 @@ one_if b = if b then 1 else 0
 abbrev pub noted : Script → Bool → Bool → Entry → Clients → Clients
 noted script repeats finishes (Begin word) t = record t { begun = Some word; done = 0 }
 noted script repeats finishes (Call i word reply) t = record t {
-  calls = 1 + t.calls;
+  calls = i + 1;
   begun = None;
   configured = configures (Call i word reply) || t.configured;
   closed = accepts is_closing_word (Call i word reply) || t.closed;

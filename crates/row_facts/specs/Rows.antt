@@ -94,10 +94,15 @@ abbrev pub note_time : Entry → ℕ → Option ℕ → Option ℕ
 note_time (Shutter m time) n old = if m.0 == n then Some time else old
 note_time _ n old = old
 
+-- the number of a part is how many there are
+abbrev pub note_parts : Entry → ℕ → ℕ → ℕ
+note_parts (Partial m k _) n old = if m.0 == n then k else old
+note_parts _ n old = old
+
 abbrev pub note_row : Entry → Row → Row
 note_row e r = record r {
   time = note_time e r.frame r.time;
-  parts = (if is_partial r.frame e then 1 else 0) + r.parts;
+  parts = note_parts e r.frame r.parts;
   ended = ends_metadata r.frame e || r.ended;
   request_failed = is_error_request r.frame e || r.request_failed;
   result_failed = is_error_result r.frame e || r.result_failed;
