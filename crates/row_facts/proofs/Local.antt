@@ -15,12 +15,12 @@ use Rattle.trace_model.specs.Frames.{frames, is_sent}
 use Rattle.trace_model.specs.Legal.{IsLegal}
 use Rattle.trace_model.specs.Open.{is_open}
 use Rattle.frame_laws.proofs.Sends.{all-sent}
-use Rattle.client_facts.proofs.Counts.{falls}
-use Rattle.client_facts.proofs.Done.{frames-fall}
-use Rattle.row_facts.specs.Rows.{Row, Slot, gives, has_early, settles, note_parts, note_row, note_slot, note_time, put_row, row, row_open, rows}
+use Rattle.past_facts.proofs.Frames.{falls, frames-fall}
+use Rattle.past_facts.proofs.Told.{tells, partial-tells, return-tells, some-return-tells, error-tells, request-tells, result-tells, buffer-tells, part-tells}
+use Rattle.past_facts.specs.Settled.{gives, settles}
+use Rattle.row_facts.specs.Rows.{Row, Slot, has_early, note_parts, note_row, note_slot, note_time, put_row, row, row_open, rows}
 use Rattle.row_facts.proofs.Readings.{has-early-is}
 use Rattle.row_facts.proofs.Steps.{open-is, same-row}
-use Rattle.row_facts.proofs.Unsent.{buffer-tells, error-tells, part-tells, partial-tells, request-tells, result-tells, return-tells, some-return-tells, tells}
 use Rattle.basic_lemmas.proofs.Tests.{not-by}
 
 abbrev pub signals_late : Entry → Bool

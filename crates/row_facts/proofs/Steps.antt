@@ -30,12 +30,14 @@ use Rattle.frame_laws.proofs.Metadata.{ended-by}
 use Rattle.frame_laws.proofs.Parts.{part-is}
 use Rattle.frame_laws.proofs.Sends.{all-sent, send-number, sent-below}
 use Rattle.frame_laws.proofs.Submitted.{request-number}
+use Rattle.past_facts.proofs.Done.{closed-stays}
+use Rattle.past_facts.proofs.Frames.{sent-once, unsent-next}
+use Rattle.past_facts.proofs.Settled.{given-noted, settled-noted}
+use Rattle.past_facts.proofs.Told.{untold, none-of, no-time, not-stopped, partial-tells, return-tells, some-return-tells, error-tells, request-tells, result-tells, buffer-tells, part-tells}
 use Rattle.queue_facts.proofs.Names.{names_request, unnamed}
 use Rattle.client_facts.specs.Clients.{repeats}
-use Rattle.client_facts.proofs.Done.{done-stays, found-some, sent-once}
-use Rattle.client_facts.proofs.Settled.{settled-early, settled-signalled}
-use Rattle.row_facts.specs.Rows.{Row, Slot, new_row, new_slot, note_row, gives, note_parts, note_slot, note_time, noted, settles, row, row_open, rows, sent_settings, slot}
-use Rattle.row_facts.proofs.Unsent.{buffer-tells, error-tells, no-time, none-of, not-stopped, part-tells, partial-tells, request-tells, result-tells, return-tells, some-return-tells, untold}
+use Rattle.client_facts.proofs.Done.{found-some}
+use Rattle.row_facts.specs.Rows.{Row, Slot, new_row, new_slot, note_row, note_parts, note_slot, note_time, noted, row, row_open, rows, sent_settings, slot}
 use Rattle.basic_lemmas.proofs.Counts.{count-one, count-over, none-counted}
 use Rattle.basic_lemmas.proofs.Lists.{any-behind}
 use Rattle.basic_lemmas.proofs.Tests.{or-again, or-crossed-three}
@@ -91,17 +93,6 @@ parts-noted script past (Partial m k part) n may =
     ]
 parts-noted script past e n may = count-over (is_partial n) e past refl
 
-given-noted : (e : Entry) (past : List Entry) (n s : ℕ) → early_fences n s (e ∷ past) ≡ gives n s e (early_fences n s past)
-given-noted (Early m t b d) past n s = refl
-given-noted _ past n s = refl
-
-settled-noted : (script : Script) (past : List Entry) (e : Entry) (n s : ℕ) → IsLegal script (e ∷ past) → is_settled n s (e ∷ past) ≡ (settles n s e (early_fences n s past) || is_settled n s past)
-settled-noted script past (Early m t b d) n s legal = settled-early script past m t b d n s legal.1 legal.0
-settled-noted script past (Late d x) n s legal = settled-signalled d x past n s
-settled-noted script past (Filled m t b f d) n s legal = or-again (brings n s (Filled m t b f d)) (list_any (brings n s) past) (list_any (λ d. is_late d past) (early_fences n s past))
-settled-noted script past (Failed m t b f) n s legal = or-again (brings n s (Failed m t b f)) (list_any (brings n s) past) (list_any (λ d. is_late d past) (early_fences n s past))
-settled-noted script past _ n s legal = refl
-
 same-slot : (t : Sent) (a b : Bool) (g h : List ℕ) (c d : Bool) → g ≡ h → c ≡ d → ◌≡◌ {A = Slot} (record { target = t; returned = a; failed = b; given = g; settled = c }) (record { target = t; returned = a; failed = b; given = h; settled = d })
 same-slot t a b g h c d x y = rw (x, y) refl
 
@@ -153,21 +144,6 @@ rows-by f g p q ok k t step open_ stays (x ∷ xs) all =
       | inr was ↦ rw (was, stays x parts.0 was) ih
     ]
 
-closed-stays : (script : Script) (past : List Entry) (e : Entry) (n : ℕ) → IsLegal script (e ∷ past) → is_sent n past ≡ true → is_open n past ≡ false → is_open n (e ∷ past) ≡ false
-closed-stays script past e n legal sent closed =
-    let done' = done-stays script past e n legal.1 legal.0 (closed-done (is_sent n past) (is_metadata_ended n past && all_settled n past) sent closed) in
-    done-closed (is_sent n (e ∷ past)) (is_metadata_ended n (e ∷ past) && all_settled n (e ∷ past)) done'
-  where
-    closed-done : (s d : Bool) → s ≡ true → (s && not d) ≡ false → (s && d) ≡ true
-    closed-done true true h k = refl
-    closed-done true false h k = absurd (false≢true (sym k))
-    closed-done false d h k = absurd (false≢true h)
-
-    done-closed : (s d : Bool) → (s && d) ≡ true → (s && not d) ≡ false
-    done-closed true true h = refl
-    done-closed true false h = absurd (false≢true h)
-    done-closed false d h = refl
-
 old-rows : (script : Script) (past : List Entry) (e : Entry) → IsLegal script (e ∷ past) → map (row script (e ∷ past)) (filter (λ n. is_open n (e ∷ past)) (frames past)) ≡ filter row_open (map (note_row e) (rows script past))
 old-rows script past e legal =
     rows-by (row script (e ∷ past)) (row script past) (λ n. is_open n past) (λ n. is_open n (e ∷ past)) (λ n. is_sent n past) (note_row e) row_open
@@ -206,12 +182,6 @@ row-sent script past n r i same targets legal unsent =
     (rw (partial_, returned, error) refl)
     (not-stopped n.0 past unsent)
     (rw own (new-slots script past e n.0 (four_list targets) (λ s. none-of script past n.0 (returns_target n.0 s) legal unsent (return-tells n.0 s)) (λ s. none-of script past n.0 (is_error_buffer n.0 s) legal unsent (buffer-tells n.0 s))))
-
-unsent-next : (script : Script) (past : List Entry) (n r i : ℕ) (same : Bool) (targets : Four Sent) → IsLegal script past → may_send script past n r i same targets ≡ true → is_sent n past ≡ false
-unsent-next script past n r i same targets legal may = elim (cases_Bool (is_sent n past)) [
-  | inl sent ↦ absurd (let number = send-number script past n r i same targets may in let below = sent-below script past n legal sent in omega (arith, number, below))
-  | inr no' ↦ no'
-]
 
 -- ---- each entry
 

@@ -13,6 +13,7 @@ use Rattle.trace_model.specs.Laws.{ends_metadata}
 use Rattle.trace_model.specs.Open.{early_fences, has_error_buffer, has_error_result, has_something, is_metadata_ended, is_open, is_returned, is_settled}
 use Rattle.trace_model.specs.Partial.{part_count}
 use Rattle.trace_model.specs.Stopping.{is_stopped}
+use Rattle.past_facts.specs.Settled.{has_fence, gives, settles}
 
 -- The frames that are open, as a row for each, the newest first.
 
@@ -76,21 +77,6 @@ abbrev pub rows : Script → List Entry → List Row
 rows script past = map (row script past) (filter (λ n. is_open n past) (frames past))
 
 -- ---- what each entry does to a row
-
--- the device fence is one of these
-abbrev pub has_fence : ℕ → List ℕ → Bool
-has_fence d fences = list_any (λ f. d == f) fences
-
--- an early return gives the frame and stream that it names a device fence
-abbrev pub gives : ℕ → ℕ → Entry → List ℕ → List ℕ
-gives n s (Early m t _ d) fences = if (m.0 == n) && (t.0 == s) then d.0 ∷ fences else fences
-gives n s _ fences = fences
-
--- the device is done with a buffer where it comes back with its picture or failed, or where its device fence is
--- signalled
-abbrev pub settles : ℕ → ℕ → Entry → List ℕ → Bool
-settles n s (Late d _) fences = has_fence d.0 fences
-settles n s e fences = brings n s e
 
 -- what an entry makes of a buffer of frame n
 abbrev pub note_slot : Entry → ℕ → Slot → Slot
