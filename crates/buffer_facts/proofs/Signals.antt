@@ -21,6 +21,7 @@ use Rattle.trace_model.specs.Legal.{IsLegal}
 use Rattle.trace_model.specs.Numbers.{next_early, next_fence}
 use Rattle.trace_bounds.proofs.Shapes.{late-is, release-is, signal-is}
 use Rattle.buffer_laws.proofs.Early.{given-below}
+use Rattle.past_facts.proofs.Settled.{not-late}
 use Rattle.buffer_facts.proofs.Ranges.{set-from}
 use Rattle.basic_lemmas.proofs.Counts.{count-one, some-counted}
 use Rattle.basic_lemmas.proofs.Lists.{found-any, map-same}
@@ -66,26 +67,6 @@ marks-signalled past g =
 -- which device fences so far are signalled
 abbrev pub late_marks : List Entry → List Bool
 late_marks past = map (λ d. is_late d past) (range_with_len 0 (next_early past))
-
-one-below : (k d n : ℕ) → 1 ≤ k → k ≡ (if nat_lt d n then 1 else 0) → d < n
-one-below k d n some h = grind (arith, nat_tests, some, h)
-
-late-low : (script : Script) (past : List Entry) (d : FenceNo) (x : List ℕ) → IsLegal script past → late_due script past d.0 ≡ Some (Late d x) → d.0 < next_early past
-late-low script past d x legal may =
-    let is = late-is script past d x may in
-    let any = found-any (is_early_with d.0) past (Early is.0 is.1 is.2 is.3) is.4 in
-    one-below (count_by (is_early_with d.0) past) d.0 (next_early past) (some-counted (is_early_with d.0) past any) (given-below script past d.0 legal)
-
--- a device fence that wasn't given isn't signalled
-pub not-late : (script : Script) (past : List Entry) (d : ℕ) → IsLegal script past → next_early past ≤ d → is_late d past ≡ false
-not-late script [] d legal above = refl
-not-late script (Early n s b g ∷ past) d legal above =
-    let more = count-one is_early (Early n s b g) past refl in
-    not-late script past d legal.1 (omega (arith, above, more))
-not-late script (Late g x ∷ past) d legal above =
-    let low = late-low script past g x legal.1 legal.0 in
-    rw (ne_eqb g.0 d (λ at. absurd (omega (arith, low, above, at)))) (not-late script past d legal.1 above)
-not-late script (e ∷ past) d legal above = not-late script past d legal.1 above
 
 -- an early return adds a device fence that isn't signalled
 pub marks-given : (script : Script) (past : List Entry) (n : FrameNo) (s : StreamIx) (b : BufferId) (d : FenceNo) → IsLegal script past → late_marks (Early n s b d ∷ past) ≡ late_marks past ++ false ∷ []

@@ -2,17 +2,13 @@
 use Rattle.std.proofs.Common.{◌≡◌, ℕ, ◌==◌, ◌+◌, Bool, true, false, ◌&&◌, not, List, [], ◌∷◌, refl, arith, inl, inr, filter, length, nat_lt, if◌then◌else◌}
 use Rattle.std.specs.List.{list_any, list_all}
 use Rattle.std.proofs.lemmas.Bool.{and_parts, both_ways, cases_Bool, eqb-true, false≢true, ltb-true, ne_eqb}
+use Rattle.past_facts.proofs.Frames.{falls}
 
 pub filter-agree : {X : Type 0} (ok p q : X → Bool) (xs : List X) → list_all ok xs ≡ true → ((x : X) → ok x ≡ true → p x ≡ q x) → filter p xs ≡ filter q xs
 filter-agree ok p q [] all h = refl
 filter-agree ok p q (x ∷ xs) all h =
     let parts = and_parts (ok x) (list_all ok xs) all in
     rw (h x parts.0, filter-agree ok p q xs parts.1 h) refl
-
--- each is greater than all behind it
-abbrev pub falls : List ℕ → Bool
-falls [] = true
-falls (x ∷ xs) = list_all (λ m. nat_lt m x) xs && falls xs
 
 -- where a test changes at n alone, and from false to true, one more is kept
 others-same : (p q : ℕ → Bool) (n : ℕ) (xs : List ℕ) → list_all (λ m. nat_lt m n) xs ≡ true → ((m : ℕ) → (n == m) ≡ false → q m ≡ p m) → filter q xs ≡ filter p xs

@@ -32,72 +32,14 @@ use Rattle.frame_laws.proofs.Parts.{part-is}
 use Rattle.frame_laws.proofs.Sends.{all-sent, send-number, sent-below}
 use Rattle.frame_laws.proofs.Shutters.{shutter-sent}
 use Rattle.frame_laws.proofs.Submitted.{request-number}
+use Rattle.past_facts.proofs.Done.{done-more, done-before}
+use Rattle.past_facts.proofs.Frames.{below-next, frames-fall, sent-listed}
+use Rattle.past_facts.proofs.Settled.{settled-early, settled-signalled, not-its}
 use Rattle.queue_facts.proofs.Names.{names_request, unnamed}
 use Rattle.client_facts.specs.Clients.{ends_early, ends_frame, finishes, one_if}
-use Rattle.client_facts.proofs.Settled.{not-its, settled-early, settled-signalled, settled-stays}
-use Rattle.client_facts.proofs.Counts.{falls, filter-agree, one-more}
+use Rattle.client_facts.proofs.Counts.{filter-agree, one-more}
 use Rattle.basic_lemmas.proofs.Tests.{or-alone, passed-where}
 use Rattle.basic_lemmas.proofs.Lists.{any-behind, all-where, all-agree}
-
--- ---- frames
-
-below-next : (script : Script) (past : List Entry) → IsLegal script past → list_all (λ m. nat_lt m (next_number past)) (frames past) ≡ true
-below-next script past legal =
-    all-where (λ m. is_sent m past) (λ m. nat_lt m (next_number past)) (frames past) (λ m sent. lt-ltb m (next_number past) (sent-below script past m legal sent)) (all-sent past)
-
-pub frames-fall : (script : Script) (past : List Entry) → IsLegal script past → falls (frames past) ≡ true
-frames-fall script [] legal = refl
-frames-fall script (Send n r i same targets ∷ past) legal =
-    let number = send-number script past n.0 r.0 i same targets legal.0 in
-    let below = below-next script past legal.1 in
-    and_from _ _ (rw number below) (frames-fall script past legal.1)
-frames-fall script (e ∷ past) legal = frames-fall script past legal.1
-
-sent-listed : (past : List Entry) (n : ℕ) → is_sent n past ≡ true → list_any (λ m. m == n) (frames past) ≡ true
-sent-listed [] n h = h
-sent-listed (Send m r i same targets ∷ past) n h =
-    elim (cases_Bool (m.0 == n)) [ inl here ↦ rw here refl | inr other ↦ (let h' = rw other at h in rw other (sent-listed past n h')) ]
-sent-listed (e ∷ past) n h = sent-listed past n h
-
--- a frame that was sent isn't sent again
-pub sent-once : (script : Script) (past : List Entry) (e : Entry) (n : ℕ) → IsLegal script past → IsAllowed script past e → is_sent n past ≡ true → sends n e ≡ false
-sent-once script past (Send m r i same targets) n legal may sent =
-    let number = send-number script past m.0 r.0 i same targets may in
-    let below = sent-below script past n legal sent in
-    ne_eqb m.0 n (λ at. absurd (omega (arith, number, below, at)))
-sent-once script past _ n legal may sent = refl
-
--- ---- what is done stays done
-
-ended-stays : (n : ℕ) (e : Entry) (past : List Entry) → is_metadata_ended n past ≡ true → is_metadata_ended n (e ∷ past) ≡ true
-ended-stays n e past h = ended-more (is_part n 3 e) (has_part n 3 past) (is_error_result n e) (has_error_result n past) (is_error_request n e) (has_error_request n past) h
-  where
-    ended-more : (x a y b z c : Bool) → (a || (b || c)) ≡ true → ((x || a) || ((y || b) || (z || c))) ≡ true
-    ended-more true a y b z c h = refl
-    ended-more false true y b z c h = refl
-    ended-more false false true b z c h = refl
-    ended-more false false false true z c h = refl
-    ended-more false false false false true c h = refl
-    ended-more false false false false false c h = h
-
-done-more : (n : ℕ) (e : Entry) (past : List Entry) → sends n e ≡ false → is_done n past ≡ true → is_done n (e ∷ past) ≡ true
-done-more n e past other h =
-    let parts = and_parts (is_sent n past) (is_metadata_ended n past && all_settled n past) h in
-    let both = and_parts (is_metadata_ended n past) (all_settled n past) parts.1 in
-    let settled : list_all (λ t. is_settled n t.stream.0 (e ∷ past)) (targets_of n past) ≡ true = all-where (λ t. is_settled n t.stream.0 past) (λ t. is_settled n t.stream.0 (e ∷ past)) (targets_of n past) (λ t r. settled-stays n t.stream.0 e past r) both.1 in
-    let targets : targets_of n (e ∷ past) ≡ targets_of n past = rw other refl in
-    let settled' : all_settled n (e ∷ past) ≡ true = rw targets settled in
-    and_from _ _ (any-behind (sends n) e past parts.0) (and_from _ _ (ended-stays n e past both.0) settled')
-
-pub done-stays : (script : Script) (past : List Entry) (e : Entry) (n : ℕ) → IsLegal script past → IsAllowed script past e → is_done n past ≡ true → is_done n (e ∷ past) ≡ true
-done-stays script past e n legal may h =
-    done-more n e past (sent-once script past e n legal may (and_parts (is_sent n past) (is_metadata_ended n past && all_settled n past) h).0) h
-
--- what was done when the last command began is done
-done-before : (script : Script) (past : List Entry) (n : ℕ) → IsLegal script past → is_done n (before_begin past) ≡ true → is_done n past ≡ true
-done-before script [] n legal h = h
-done-before script (Begin word ∷ past) n legal h = h
-done-before script (e ∷ past) n legal h = done-stays script past e n legal.1 legal.0 (done-before script past n legal.1 h)
 
 -- ---- an entry of frame n, which changes nothing of the others
 

@@ -1,5 +1,5 @@
 -- The state after an entry is what the entry makes of the state before it.
-use Rattle.std.proofs.Common.{◌≡◌, ℕ, Bool, true, false, ◌&&◌, not, List, ◌∷◌, Option, Some, refl, ap, length}
+use Rattle.std.proofs.Common.{◌≡◌, ℕ, ◌+◌, Bool, true, false, ◌&&◌, not, List, ◌∷◌, Option, Some, refl, ap, arith, length}
 use Rattle.cam_types.specs.declared.reply.Reply.{Reply}
 use Rattle.cam_types.specs.declared.reply.Reply.TheVariants.{Submitted, Configured}
 use Rattle.cam_types.specs.declared.script.Script.{Script}
@@ -12,7 +12,9 @@ use Rattle.trace_model.specs.Configuration.{streams}
 use Rattle.trace_model.specs.Entry.{is_call}
 use Rattle.trace_model.specs.Frames.{frames, is_repeating_frame}
 use Rattle.trace_model.specs.Legal.{IsLegal}
+use Rattle.trace_model.specs.Numbers.{call_count}
 use Rattle.trace_model.specs.Open.{is_done}
+use Rattle.trace_bounds.proofs.Calls.{call-is}
 use Rattle.client_facts.specs.Clients.{Clients, clients, finishes, noted, repeats, streams_called}
 use Rattle.client_facts.proofs.Done.{done-given, done-sent, done-signalled, done-submitted, one-finished}
 use Rattle.basic_lemmas.proofs.Counts.{count-one}
@@ -34,6 +36,12 @@ done-called : (script : Script) (past : List Entry) (i : ℕ) (word : Word) (rep
 done-called script past i word (Submitted q) legal may = done-submitted script past i word q legal may
 done-called script past i word _ legal may = refl
 
+calls-counted : (script : Script) (past : List Entry) (i : ℕ) (word : Word) (reply : Reply) → call_due script past ≡ Some (Call i word reply) → call_count (Call i word reply ∷ past) ≡ i + 1
+calls-counted script past i word reply may =
+    let at = (call-is script past i word reply may).2 in
+    let one = count-one is_call (Call i word reply) past refl in
+    omega (arith, at, one)
+
 streams-called : (script : Script) (past : List Entry) (i : ℕ) (word : Word) (reply : Reply) → streams script (Call i word reply ∷ past) ≡ streams_called script i reply (streams script past)
 streams-called script past i word (Configured each) = refl
 streams-called script past i word _ = refl
@@ -41,7 +49,7 @@ streams-called script past i word _ = refl
 pub noted_is : (script : Script) (past : List Entry) (e : Entry) → IsLegal script (e ∷ past) → clients script (e ∷ past) ≡ noted script (repeats script past e) (finishes script past e) e (clients script past)
 noted_is script past (Begin word) legal = same-clients _ _ _ _ _ _ _ _ _ _ _ refl refl (done-begun script past word)
 noted_is script past (Call i word reply) legal =
-    same-clients _ _ _ _ _ _ _ _ _ _ _ (count-one is_call (Call i word reply) past refl) (streams-called script past i word reply) (done-called script past i word reply legal.1 legal.0)
+    same-clients _ _ _ _ _ _ _ _ _ _ _ (calls-counted script past i word reply legal.0) (streams-called script past i word reply) (done-called script past i word reply legal.1 legal.0)
 noted_is script past (Send n r i same targets) legal =
     same-clients _ _ _ _ _ _ _ _ _ _ _ refl refl (done-sent script past n r i same targets legal.1 legal.0)
 noted_is script past (Partial n k part) legal =

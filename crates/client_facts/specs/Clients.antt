@@ -18,6 +18,9 @@ use Rattle.trace_model.specs.Stopping.{has_failed}
 
 -- What the client has called, as a small state.
 
+-- how many commands were called, the word of the one that has begun, whether an accepted configuration, an accepted
+-- close and a failure of the device stand, the streams, how many repeating frames were sent since the last call, and
+-- with how many the device was done since the last begin
 pub record Clients : Type 0 where
   pub calls : ℕ
   pub begun : Option Word
@@ -28,11 +31,13 @@ pub record Clients : Type 0 where
   pub repeated : ℕ
   pub done : ℕ
 
+-- before the first command
 abbrev pub no_clients : Clients
 no_clients = record { calls = 0; begun = None; configured = false; closed = false; failed = false; streams = []; repeated = 0; done = 0 }
 
 -- ---- the state that a past leaves
 
+-- what the client has called, as a past leaves it
 abbrev pub clients : Script → List Entry → Clients
 clients script past = record {
   calls = call_count past;
@@ -47,10 +52,12 @@ clients script past = record {
 
 -- ---- what each entry does to the state
 
+-- an accepted configuration has its own streams
 abbrev pub streams_called : Script → ℕ → Reply → List StreamSpec → List StreamSpec
 streams_called script i (Configured _) old = streams_of (command_at script i)
 streams_called script i _ old = old
 
+-- one more where the test passes
 abbrev pub one_if : Bool → ℕ
 one_if b = if b then 1 else 0
 
@@ -59,7 +66,7 @@ one_if b = if b then 1 else 0
 abbrev pub noted : Script → Bool → Bool → Entry → Clients → Clients
 noted script repeats finishes (Begin word) t = record t { begun = Some word; done = 0 }
 noted script repeats finishes (Call i word reply) t = record t {
-  calls = 1 + t.calls;
+  calls = i + 1;
   begun = None;
   configured = configures (Call i word reply) || t.configured;
   closed = accepts is_closing_word (Call i word reply) || t.closed;
@@ -76,6 +83,7 @@ noted script repeats finishes (Late _ _) t = record t { done = one_if finishes +
 noted script repeats finishes ErrorDevice t = record t { failed = true }
 noted script repeats finishes _ t = t
 
+-- the entry sends an item of a repeating request
 abbrev pub repeats : Script → List Entry → Entry → Bool
 repeats script past (Send _ r _ _ _) = is_repeating script past r.0
 repeats script past _ = false
@@ -89,6 +97,7 @@ abbrev pub ends_early : Script → List Entry → Entry → Option Entry → Boo
 ends_early script past e (Some (Early n _ _ _)) = ends_frame script past n.0 e
 ends_early script past e _ = false
 
+-- the entry is the last of a frame of a repeating request
 abbrev pub finishes : Script → List Entry → Entry → Bool
 finishes script past (Partial n k part) = ends_frame script past n.0 (Partial n k part)
 finishes script past (Filled n s b f d) = ends_frame script past n.0 (Filled n s b f d)

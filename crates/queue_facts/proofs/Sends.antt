@@ -34,7 +34,7 @@ use Rattle.basic_lemmas.proofs.Lists.{filter-none-left, first-passes}
 
 -- ---- the queue
 
-by-name : (past : List Entry) (w : WaitingItem) (r i : ℕ) (xs rest : List WaitingItem) → r ≡ w.request.0 → i ≡ w.index → filter (λ x. not (is_named w.request w.index x || is_taken past x)) xs ≡ rest → filter (λ x. not (is_named r i x || is_taken past x)) xs ≡ rest
+by-name : (past : List Entry) (w : WaitingItem) (r i : ℕ) (xs rest : List WaitingItem) → r ≡ w.request.0 → i ≡ w.index → filter (λ x. not (is_named w.request.0 w.index x || is_taken past x)) xs ≡ rest → filter (λ x. not (is_named r i x || is_taken past x)) xs ≡ rest
 by-name past w r i xs rest a b h = rw (a, b) h
 
 -- what takes the first by its name leaves the rest
@@ -50,15 +50,15 @@ pub queue-empty : (script : Script) (past : List Entry) (e : Entry) → puts scr
 queue-empty script past e none at =
     rw (none, append-nil (submitted script past)) (filter-none-left (λ w. not (is_taken past w)) (λ w. not (is_taken (e ∷ past) w)) (λ w h. grind arith) (submitted script past) at)
 
-named-kept : (p : WaitingItem → Bool) (r k : ℕ) (items : List Item) → ((w : WaitingItem) → w.request.0 ≡ r → p w ≡ true) → filter p (named r k items) ≡ named r k items
+named-kept : (p : WaitingItem → Bool) (r : RequestId) (k : ℕ) (items : List Item) → ((w : WaitingItem) → w.request.0 ≡ r.0 → p w ≡ true) → filter p (named r k items) ≡ named r k items
 named-kept p r k [] each = refl
 named-kept p r k (item ∷ items) each = rw (each (record { request = r; index = k; item = item }) refl, named-kept p r (k + 1) items each) refl
 
 pub queue-submitted : (script : Script) (past : List Entry) (i : ℕ) (word : Word) (q : RequestId) → IsLegal script past → call_due script past ≡ Some (Call i word (Submitted q)) → queued script (Call i word (Submitted q) ∷ past) ≡ queued script past ++ puts script (Call i word (Submitted q))
 queue-submitted script past i word q legal may =
     let number = request-number script past i word q may in
-    let new = named-kept (λ w. not (is_taken past w)) q.0 0 (queued_items (command_at script i)) (λ w at. rw (untaken script past w legal (omega (arith, number, at))) refl) in
-    filter-append (λ w. not (is_taken past w)) (submitted script past) (named q.0 0 (queued_items (command_at script i))) ∙ ap (λ ws. queued script past ++ ws) new
+    let new = named-kept (λ w. not (is_taken past w)) q 0 (queued_items (command_at script i)) (λ w at. rw (untaken script past w legal (omega (arith, number, at))) refl) in
+    filter-append (λ w. not (is_taken past w)) (submitted script past) (named q 0 (queued_items (command_at script i))) ∙ ap (λ ws. queued script past ++ ws) new
 
 -- ---- the turn
 

@@ -9,18 +9,18 @@ use Rattle.cam_types.specs.declared.number.FrameNo.{FrameNo}
 use Rattle.cam_types.specs.declared.number.StreamIx.{StreamIx}
 use Rattle.cam_types.specs.declared.script.Script.{Script}
 use Rattle.trace_model.specs.declared.entry.Entry.{Entry}
-use Rattle.trace_model.specs.declared.entry.Entry.TheVariants.{Shutter, Filled, Failed, Early, Late}
+use Rattle.trace_model.specs.declared.entry.Entry.TheVariants.{Shutter, Partial, Filled, Failed, Early, Late}
 use Rattle.trace_model.specs.Entry.{is_early_with, is_error_buffer, is_error_of, is_error_request, is_error_result, is_part, is_partial, is_stop, returns_target, returns_of_frame}
 use Rattle.trace_model.specs.Frames.{frames, is_sent}
 use Rattle.trace_model.specs.Legal.{IsLegal}
 use Rattle.trace_model.specs.Open.{is_open}
 use Rattle.frame_laws.proofs.Sends.{all-sent}
-use Rattle.client_facts.proofs.Counts.{falls}
-use Rattle.client_facts.proofs.Done.{frames-fall}
-use Rattle.row_facts.specs.Rows.{Row, Slot, gives, has_early, settles, note_row, note_slot, note_time, put_row, row, row_open, rows}
+use Rattle.past_facts.proofs.Frames.{falls, frames-fall}
+use Rattle.past_facts.proofs.Told.{tells, partial-tells, return-tells, some-return-tells, error-tells, request-tells, result-tells, buffer-tells, part-tells}
+use Rattle.past_facts.specs.Settled.{gives, settles}
+use Rattle.row_facts.specs.Rows.{Row, Slot, has_early, note_parts, note_row, note_slot, note_time, put_row, row, row_open, rows}
 use Rattle.row_facts.proofs.Readings.{has-early-is}
 use Rattle.row_facts.proofs.Steps.{open-is, same-row}
-use Rattle.row_facts.proofs.Unsent.{buffer-tells, error-tells, part-tells, partial-tells, request-tells, result-tells, return-tells, some-return-tells, tells}
 use Rattle.basic_lemmas.proofs.Tests.{not-by}
 
 abbrev pub signals_late : Entry → Bool
@@ -30,6 +30,10 @@ signals_late _ = false
 time-other : (e : Entry) (n : ℕ) (old : Option ℕ) → tells n e ≡ false → note_time e n old ≡ old
 time-other (Shutter m time) n old none = rw none refl
 time-other _ n old none = refl
+
+parts-other : (e : Entry) (n old : ℕ) → tells n e ≡ false → note_parts e n old ≡ old
+parts-other (Partial m k part) n old none = rw none refl
+parts-other _ n old none = refl
 
 given-other : (e : Entry) (n s : ℕ) (fences : List ℕ) → tells n e ≡ false → gives n s e fences ≡ fences
 given-other (Early m t b d) n s fences none = rw none refl
@@ -60,7 +64,7 @@ other-row e r none free going =
     let error = not-by (is_error_of n e) (tells n e) (error-tells n e) none in
     let returned = not-by (returns_of_frame n e) (tells n e) (some-return-tells n e) none in
     same-row n _ _ _ _ _ _ _ _ _ _ _ _ _ _ _ _ _ _ _ _ _ _
-    refl refl (time-other e n r.time none) (rw partial_ (omega arith))
+    refl refl (time-other e n r.time none) (parts-other e n r.parts none)
     (rw (part, result, request) refl) (rw request refl) (rw result refl) (rw error refl)
     (rw (partial_, returned, error) refl) (rw going refl) (slots-other e n r.slots none free)
 

@@ -17,11 +17,13 @@ use Rattle.trace_model.specs.Legal.{IsLegal}
 use Rattle.trace_model.specs.Open.{all_settled, early_fences, is_done, is_metadata_ended, is_open, is_quiet, open_count}
 use Rattle.trace_bounds.proofs.Shapes.{found-passes, late-is}
 use Rattle.buffer_laws.proofs.Early.{given}
-use Rattle.client_facts.proofs.Settled.{not-its}
+use Rattle.past_facts.proofs.Done.{done-stays}
+use Rattle.past_facts.proofs.Frames.{sent-listed}
+use Rattle.past_facts.proofs.Settled.{not-its}
+use Rattle.past_facts.specs.Settled.{has_fence}
 use Rattle.client_facts.specs.Clients.{ends_early, ends_frame, finishes}
-use Rattle.client_facts.proofs.Done.{done-stays}
 use Rattle.frame_laws.proofs.Sends.{all-sent}
-use Rattle.row_facts.specs.Rows.{Row, Slot, each_before, early_row, ends_row, find_row, has_early, has_fence, slot, finishes_in, no_rows, note_row, row, row_open, rows}
+use Rattle.row_facts.specs.Rows.{Row, Slot, each_before, early_row, ends_row, find_row, has_early, slot, finishes_in, no_rows, note_row, row, row_open, rows}
 use Rattle.row_facts.proofs.Steps.{open-is, row-noted}
 use Rattle.basic_lemmas.proofs.Lists.{any-behind}
 
@@ -68,12 +70,6 @@ earlier-in f p ok t q n (x ∷ xs) own closed same all =
     or-true-and false b = refl
 
 -- ---- readings
-
-sent-listed : (past : List Entry) (n : ℕ) → is_sent n past ≡ true → list_any (λ m. m == n) (frames past) ≡ true
-sent-listed [] n h = h
-sent-listed (Send m r i same targets ∷ past) n h =
-    elim (cases_Bool (m.0 == n)) [ inl here ↦ rw here refl | inr other ↦ (let h' = rw other at h in rw other (sent-listed past n h')) ]
-sent-listed (e ∷ past) n h = sent-listed past n h
 
 pub quiet_is : (script : Script) (past : List Entry) → is_quiet past ≡ no_rows (rows script past)
 quiet_is script past = none-open (row script past) (λ n. is_open n past) (frames past)

@@ -1,7 +1,7 @@
 -- The rows after an entry are what the entry makes of the rows before it.
-use Rattle.std.proofs.Common.{◌≡◌, ℕ, ◌==◌, ◌<◌, Bool, true, false, ◌&&◌, ◌||◌, not, List, [], ◌∷◌, Option, Some, refl, sym, ap, ◌∙◌, arith, inl, inr, filter, map, slice_get}
+use Rattle.std.proofs.Common.{◌≡◌, ℕ, ◌==◌, ◌+◌, ◌<◌, Bool, true, false, ◌&&◌, ◌||◌, not, List, [], ◌∷◌, Option, Some, refl, sym, ap, ◌∙◌, arith, inl, inr, filter, map, slice_get}
 use Rattle.std.specs.List.{list_any, list_all}
-use Rattle.std.proofs.lemmas.Bool.{and_parts, cases_Bool, cases_lt, false≢true, ne_eqb}
+use Rattle.std.proofs.lemmas.Bool.{and_parts, cases_Bool, cases_lt, eqb-true, false≢true, ne_eqb}
 use Rattle.std.proofs.lemmas.List.Folds.{list_all-map}
 use Rattle.cam_types.specs.Four.{four_list}
 use Rattle.cam_types.specs.declared.four.Four.{Four}
@@ -12,28 +12,33 @@ use Rattle.cam_types.specs.declared.reply.Reply.TheVariants.{Submitted}
 use Rattle.cam_types.specs.declared.script.Command.{Command}
 use Rattle.cam_types.specs.declared.script.Script.{Script}
 use Rattle.trace_model.specs.declared.entry.Entry.{Entry}
-use Rattle.trace_model.specs.declared.entry.Entry.TheVariants.{Call, Send, Shutter, Filled, Failed, Early, Late}
+use Rattle.trace_model.specs.declared.entry.Entry.TheVariants.{Call, Send, Shutter, Partial, Filled, Failed, Early, Late}
 use Rattle.trace_model.specs.declared.entry.Sent.{Sent}
+use Rattle.trace_model.specs.Allowed.{IsAllowed}
 use Rattle.trace_model.specs.Calls.{command_of, is_repeat, items_of, request_count}
 use Rattle.trace_model.specs.Entry.{brings, is_error_buffer, is_error_of, is_error_request, is_error_result, is_part, is_partial, is_stop, returns_target, returns_of_frame, sends}
 use Rattle.trace_model.specs.Frames.{frames, has_error, is_sent, item_in, repeats_in, send_of, settings_in, shutter_time, targets_of}
 use Rattle.trace_model.specs.Laws.{ends_metadata}
 use Rattle.trace_model.specs.Legal.{IsLegal}
 use Rattle.trace_model.specs.Open.{all_settled, early_fences, has_error_buffer, is_metadata_ended, is_open, is_returned, is_settled}
+use Rattle.trace_model.specs.Partial.{part_count}
 use Rattle.trace_model.specs.Send.{may_send}
 use Rattle.trace_model.specs.Stopping.{is_stopped}
 use Rattle.trace_model.specs.Fence.{is_late}
 use Rattle.buffer_laws.proofs.Early.{not-brought, not-given}
 use Rattle.frame_laws.proofs.Metadata.{ended-by}
+use Rattle.frame_laws.proofs.Parts.{part-is}
 use Rattle.frame_laws.proofs.Sends.{all-sent, send-number, sent-below}
 use Rattle.frame_laws.proofs.Submitted.{request-number}
+use Rattle.past_facts.proofs.Done.{closed-stays}
+use Rattle.past_facts.proofs.Frames.{sent-once, unsent-next}
+use Rattle.past_facts.proofs.Settled.{given-noted, settled-noted}
+use Rattle.past_facts.proofs.Told.{untold, none-of, no-time, not-stopped, partial-tells, return-tells, some-return-tells, error-tells, request-tells, result-tells, buffer-tells, part-tells}
 use Rattle.queue_facts.proofs.Names.{names_request, unnamed}
 use Rattle.client_facts.specs.Clients.{repeats}
-use Rattle.client_facts.proofs.Done.{done-stays, found-some, sent-once}
-use Rattle.client_facts.proofs.Settled.{settled-early, settled-signalled}
-use Rattle.row_facts.specs.Rows.{Row, Slot, new_row, new_slot, note_row, gives, note_slot, note_time, noted, settles, row, row_open, rows, sent_settings, slot}
-use Rattle.row_facts.proofs.Unsent.{buffer-tells, error-tells, no-time, none-of, not-stopped, part-tells, partial-tells, request-tells, result-tells, return-tells, some-return-tells, untold}
-use Rattle.basic_lemmas.proofs.Counts.{none-counted, count-cons}
+use Rattle.client_facts.proofs.Done.{found-some}
+use Rattle.row_facts.specs.Rows.{Row, Slot, new_row, new_slot, note_row, note_parts, note_slot, note_time, noted, row, row_open, rows, sent_settings, slot}
+use Rattle.basic_lemmas.proofs.Counts.{count-one, count-over, none-counted}
 use Rattle.basic_lemmas.proofs.Lists.{any-behind}
 use Rattle.basic_lemmas.proofs.Tests.{or-again, or-crossed-three}
 
@@ -69,16 +74,24 @@ time-noted : (e : Entry) (past : List Entry) (n : ℕ) → shutter_time n (e ∷
 time-noted (Shutter m time) past n = refl
 time-noted _ past n = refl
 
-given-noted : (e : Entry) (past : List Entry) (n s : ℕ) → early_fences n s (e ∷ past) ≡ gives n s e (early_fences n s past)
-given-noted (Early m t b d) past n s = refl
-given-noted _ past n s = refl
-
-settled-noted : (script : Script) (past : List Entry) (e : Entry) (n s : ℕ) → IsLegal script (e ∷ past) → is_settled n s (e ∷ past) ≡ (settles n s e (early_fences n s past) || is_settled n s past)
-settled-noted script past (Early m t b d) n s legal = settled-early script past m t b d n s legal.1 legal.0
-settled-noted script past (Late d x) n s legal = settled-signalled d x past n s
-settled-noted script past (Filled m t b f d) n s legal = or-again (brings n s (Filled m t b f d)) (list_any (brings n s) past) (list_any (λ d. is_late d past) (early_fences n s past))
-settled-noted script past (Failed m t b f) n s legal = or-again (brings n s (Failed m t b f)) (list_any (brings n s) past) (list_any (λ d. is_late d past) (early_fences n s past))
-settled-noted script past _ n s legal = refl
+-- a part is the next of its frame
+parts-noted : (script : Script) (past : List Entry) (e : Entry) (n : ℕ) → IsAllowed script past e → part_count n (e ∷ past) ≡ note_parts e n (part_count n past)
+parts-noted script past (Partial m k part) n may =
+    elim (cases_Bool (m.0 == n)) [
+      | inl here ↦ (
+          let number = (part-is script past m k part may).number in
+          let number' : k ≡ part_count n past + 1 = rw (eqb-true m.0 n here) at number in
+          let one = count-one (is_partial n) (Partial m k part) past here in
+          let count : part_count n (Partial m k part ∷ past) ≡ k = omega (arith, number', one) in
+          let note : k ≡ note_parts (Partial m k part) n (part_count n past) = rw here refl in
+          count ∙ note
+          )
+      | inr other ↦ (
+          let note : part_count n past ≡ note_parts (Partial m k part) n (part_count n past) = rw other refl in
+          count-over (is_partial n) (Partial m k part) past other ∙ note
+          )
+    ]
+parts-noted script past e n may = count-over (is_partial n) e past refl
 
 same-slot : (t : Sent) (a b : Bool) (g h : List ℕ) (c d : Bool) → g ≡ h → c ≡ d → ◌≡◌ {A = Slot} (record { target = t; returned = a; failed = b; given = g; settled = c }) (record { target = t; returned = a; failed = b; given = h; settled = d })
 same-slot t a b g h c d x y = rw (x, y) refl
@@ -102,7 +115,7 @@ row-noted script past e n legal sent =
     (ap (λ (o : Option Entry). settings_in (item_in script (e ∷ past) o)) at ∙ ap settings_in item.0)
     (ap (λ (o : Option Entry). repeats_in script (e ∷ past) o) at ∙ item.1)
     (time-noted e past n)
-    (count-cons (is_partial n) e past)
+    (parts-noted script past e n legal.0)
     (sym (ended-by n (e ∷ past)) ∙ ap (λ b. ends_metadata n e || b) (ended-by n past))
     refl refl refl
     (or-crossed-three (is_partial n e) (list_any (is_partial n) past) (returns_of_frame n e) (list_any (returns_of_frame n) past) (is_error_of n e) (has_error n past))
@@ -130,21 +143,6 @@ rows-by f g p q ok k t step open_ stays (x ∷ xs) all =
       ]
       | inr was ↦ rw (was, stays x parts.0 was) ih
     ]
-
-closed-stays : (script : Script) (past : List Entry) (e : Entry) (n : ℕ) → IsLegal script (e ∷ past) → is_sent n past ≡ true → is_open n past ≡ false → is_open n (e ∷ past) ≡ false
-closed-stays script past e n legal sent closed =
-    let done' = done-stays script past e n legal.1 legal.0 (closed-done (is_sent n past) (is_metadata_ended n past && all_settled n past) sent closed) in
-    done-closed (is_sent n (e ∷ past)) (is_metadata_ended n (e ∷ past) && all_settled n (e ∷ past)) done'
-  where
-    closed-done : (s d : Bool) → s ≡ true → (s && not d) ≡ false → (s && d) ≡ true
-    closed-done true true h k = refl
-    closed-done true false h k = absurd (false≢true (sym k))
-    closed-done false d h k = absurd (false≢true h)
-
-    done-closed : (s d : Bool) → (s && d) ≡ true → (s && not d) ≡ false
-    done-closed true true h = refl
-    done-closed true false h = absurd (false≢true h)
-    done-closed false d h = refl
 
 old-rows : (script : Script) (past : List Entry) (e : Entry) → IsLegal script (e ∷ past) → map (row script (e ∷ past)) (filter (λ n. is_open n (e ∷ past)) (frames past)) ≡ filter row_open (map (note_row e) (rows script past))
 old-rows script past e legal =
@@ -184,12 +182,6 @@ row-sent script past n r i same targets legal unsent =
     (rw (partial_, returned, error) refl)
     (not-stopped n.0 past unsent)
     (rw own (new-slots script past e n.0 (four_list targets) (λ s. none-of script past n.0 (returns_target n.0 s) legal unsent (return-tells n.0 s)) (λ s. none-of script past n.0 (is_error_buffer n.0 s) legal unsent (buffer-tells n.0 s))))
-
-unsent-next : (script : Script) (past : List Entry) (n r i : ℕ) (same : Bool) (targets : Four Sent) → IsLegal script past → may_send script past n r i same targets ≡ true → is_sent n past ≡ false
-unsent-next script past n r i same targets legal may = elim (cases_Bool (is_sent n past)) [
-  | inl sent ↦ absurd (let number = send-number script past n r i same targets may in let below = sent-below script past n legal sent in omega (arith, number, below))
-  | inr no' ↦ no'
-]
 
 -- ---- each entry
 

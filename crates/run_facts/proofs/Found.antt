@@ -19,6 +19,7 @@ use Rattle.trace_bounds.proofs.Shapes.{found-passes}
 use Rattle.frame_laws.proofs.Shutters.{shutter-sent}
 use Rattle.bounded_runs.proofs.Entries.{open-sent, target-has}
 use Rattle.bounded_runs.proofs.Legal.{runs_legally}
+use Rattle.past_facts.proofs.Frames.{sent-listed}
 use Rattle.row_facts.specs.Rows.{Row, Slot, find_row, row, rows, slot}
 use Rattle.row_facts.proofs.Readings.{found_is}
 use Rattle.state_facts.specs.Dues.{slot_for}
@@ -46,12 +47,6 @@ jobs-in f p n (x ∷ xs) own listed =
           elim (cases_Bool (p x)) [ inl yes' ↦ rw (yes', own x, other) ih | inr no' ↦ rw no' ih ]
           )
     ]
-
-sent-listed : (past : List Entry) (n : ℕ) → is_sent n past ≡ true → list_any (λ m. m == n) (frames past) ≡ true
-sent-listed [] n h = h
-sent-listed (Send m r i same targets ∷ past) n h =
-    elim (cases_Bool (m.0 == n)) [ inl here ↦ rw here refl | inr other ↦ (let h' = rw other at h in rw other (sent-listed past n h')) ]
-sent-listed (e ∷ past) n h = sent-listed past n h
 
 none-busy : (script : Script) (h : List Move) (n : ℕ) (targets : List Sent) → IsRun script h → has_shutter n (trace_of h) ≡ false → list_any is_fill_busy (map (fill h n) targets) ≡ false
 none-busy script h n [] run dark = refl

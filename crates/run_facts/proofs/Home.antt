@@ -30,10 +30,10 @@ use Rattle.run_model.specs.Jobs.{is_fill_out, is_filled_in, is_sensor_out, is_ta
 use Rattle.run_model.specs.Ready.{adding, failure_at, finish_due, first_buffer_error, late_with, least_buffer_error, may_take_fill, move_of, or_entry}
 use Rattle.run_model.specs.Run.{IsRun}
 use Rattle.buffer_laws.proofs.Once.{settled-returned}
-use Rattle.client_facts.proofs.Settled.{fence-frame, has_fence, settled-early, settled-signalled}
 use Rattle.bounded_runs.proofs.Legal.{adds, adds-none, begin_shape, by_failing, by_test, call_shape, drop_shape, early_shape, failed_shape, filled_shape, part_shape, runs_legally, shutter_shape, where-entry}
-use Rattle.row_facts.specs.Rows.{settles}
 use Rattle.frame_laws.proofs.Shutters.{shutter-sent}
+use Rattle.past_facts.proofs.Settled.{fence-frame, settled-noted}
+use Rattle.past_facts.specs.Settled.{has_fence, settles}
 use Rattle.state_facts.proofs.Dues.{closed-is}
 use Rattle.run_facts.proofs.Found.{taken-target}
 use Rattle.run_facts.proofs.Steps.{not-out}
@@ -169,13 +169,6 @@ move-ends script h (Finish f t) m n s legal k =
     finish-ends script h n s f.0 t.0 (early_fences f.0 t.0 (trace_of h)) e legal refl (filled-out h f.0 t.0 both.0) both.1)
 
 -- ---- so none is out of a buffer with which the device is done
-
-settled-noted : (script : Script) (past : List Entry) (e : Entry) (n s : ℕ) → IsLegal script (e ∷ past) → is_settled n s (e ∷ past) ≡ (settles n s e (early_fences n s past) || is_settled n s past)
-settled-noted script past (EarlyEntry m t b d) n s legal = settled-early script past m t b d n s legal.1 legal.0
-settled-noted script past (LateEntry d x) n s legal = settled-signalled d x past n s
-settled-noted script past (Filled m t b f d) n s legal = or-again (brings n s (Filled m t b f d)) (list_any (brings n s) past) (list_any (λ d. is_late d past) (early_fences n s past))
-settled-noted script past (Failed m t b f) n s legal = or-again (brings n s (Failed m t b f)) (list_any (brings n s) past) (list_any (λ d. is_late d past) (early_fences n s past))
-settled-noted script past _ n s legal = refl
 
 or-case : (a b c : Bool) → (a || b) ≡ true → (a ≡ true → c ≡ false) → (b ≡ true → c ≡ false) → c ≡ false
 or-case true b c h first second = first refl

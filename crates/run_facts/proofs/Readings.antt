@@ -27,8 +27,9 @@ use Rattle.run_model.specs.Ready.{adding, error_due, failure_at, finish_due, fir
 use Rattle.run_model.specs.Run.{IsRun}
 use Rattle.trace_bounds.proofs.Shapes.{found-passes}
 use Rattle.buffer_laws.proofs.Early.{given, open-until-late}
-use Rattle.client_facts.proofs.Settled.{fence-frame, has_fence}
 use Rattle.bounded_runs.proofs.Legal.{runs_legally}
+use Rattle.past_facts.proofs.Settled.{fence-frame}
+use Rattle.past_facts.specs.Settled.{has_fence}
 use Rattle.buffer_facts.specs.Homes.{homes}
 use Rattle.buffer_facts.proofs.Readings.{release_is, signal_is}
 use Rattle.client_facts.specs.Clients.{clients}

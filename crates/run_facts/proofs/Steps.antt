@@ -22,13 +22,14 @@ use Rattle.run_model.specs.Jobs.{is_filled_in, is_sensor_done_in, is_taken_in}
 use Rattle.run_model.specs.Rows.{is_failed_return, is_ok_return, request_of}
 use Rattle.run_model.specs.Run.{IsRun}
 use Rattle.bounded_runs.proofs.Legal.{runs_legally}
-use Rattle.client_facts.proofs.Done.{done-stays, sent-once}
 use Rattle.frame_laws.proofs.Sends.{all-sent, send-number, sent-below}
 use Rattle.frame_laws.proofs.Shutters.{exposed, shutter-sent}
+use Rattle.past_facts.proofs.Done.{done-stays}
+use Rattle.past_facts.proofs.Frames.{sent-once, unsent-next}
+use Rattle.past_facts.proofs.Told.{tells, none-of}
 use Rattle.row_facts.specs.Rows.{Row, find_row, row, rows}
 use Rattle.row_facts.proofs.Readings.{found_is}
 use Rattle.row_facts.proofs.Steps.{noted_is as rows_are}
-use Rattle.row_facts.proofs.Unsent.{none-of, tells}
 use Rattle.state_facts.specs.States.{State, state}
 use Rattle.state_facts.proofs.Steps.{exposed-open, noted_is}
 use Rattle.run_facts.specs.States.{Fill, Jobs, RunState, all_jobs, base_after, by_entry, fill, is_busy, is_fill_busy, is_kept, is_live, jobs_after, jobs_of, moved, new_fill, note_fill, note_jobs, run_state}
@@ -181,12 +182,6 @@ ok-tells n s _ h = absurd (false≢true h)
 bad-tells : (n s : ℕ) (e : Entry) → is_failed_return n s e ≡ true → tells n e ≡ true
 bad-tells n s (Failed m t b f) h = (and_parts (m.0 == n) (t.0 == s) h).0
 bad-tells n s _ h = absurd (false≢true h)
-
-unsent-next : (script : Script) (past : List Entry) (n r i : ℕ) (same : Bool) (targets : Four Sent) → IsLegal script past → may_send script past n r i same targets ≡ true → is_sent n past ≡ false
-unsent-next script past n r i same targets legal may = elim (cases_Bool (is_sent n past)) [
-  | inl sent ↦ absurd (let number = send-number script past n r i same targets may in let below = sent-below script past n legal sent in omega (arith, number, below))
-  | inr no' ↦ no'
-]
 
 pub dark-next : (script : Script) (past : List Entry) (n : ℕ) → IsLegal script past → is_sent n past ≡ false → has_shutter n past ≡ false
 dark-next script past n legal unsent = elim (cases_Bool (has_shutter n past)) [

@@ -26,19 +26,20 @@ use Rattle.trace_model.specs.Picture.{digest_of}
 use Rattle.trace_model.specs.Place.{is_at_device_by}
 use Rattle.trace_model.specs.Stopping.{is_stopped}
 use Rattle.trace_bounds.proofs.Shapes.{found-passes}
-use Rattle.client_facts.proofs.Settled.{fence-frame}
 use Rattle.buffer_laws.proofs.Early.{Given, given, open-until-late, settled-late}
 use Rattle.buffer_laws.proofs.Once.{settled-returned}
 use Rattle.buffer_laws.proofs.Sends.{is_with}
 use Rattle.frame_laws.proofs.Parts.{is_within, part-within}
 use Rattle.frame_laws.proofs.Shutters.{shutter-sent}
+use Rattle.past_facts.proofs.Out.{out-reads}
+use Rattle.past_facts.proofs.Settled.{fence-frame}
+use Rattle.past_facts.specs.Settled.{has_fence}
 use Rattle.buffer_facts.specs.Homes.{homes}
 use Rattle.buffer_facts.proofs.Readings.{earlies_are, signalled_is}
-use Rattle.row_facts.specs.Rows.{Row, Slot, each_before, find_row, has_early, has_fence, row, rows, slot}
+use Rattle.row_facts.specs.Rows.{Row, Slot, each_before, find_row, has_early, row, rows, slot}
 use Rattle.row_facts.proofs.Readings.{earlier_is, early-row-is, found_is}
 use Rattle.state_facts.specs.States.{state}
 use Rattle.state_facts.specs.Dues.{early_at, early_in, early_slot, late_at, late_in, late_with, error_buffer_at, error_buffer_in, error_request_in, error_result_in, failed_at, failed_in, filled_at, filled_in, in_part, left_in, may_part_in, part_in, partial_in, passed_in, passes_in, slot_for, slot_passes}
-use Rattle.state_facts.proofs.Out.{out_is}
 use Rattle.basic_lemmas.proofs.Lists.{found-any}
 
 -- ---- by whether the frame is open
@@ -206,9 +207,6 @@ target-back past n s t at closed =
           | inr other ↦ (let any' = rw other at any in one-back targets parts.1 any')
         ]
 
-out-not-back : (script : Script) (past : List Entry) (n s : ℕ) (t : Sent) → IsLegal script past → target_of n s past ≡ Some t → is_at_device_by n s t.buffer.0 past ≡ not (is_returned n s past)
-out-not-back script past n s t legal at = out_is script past n s t.buffer.0 legal (found-stream s (targets_of n past) t at).1
-
 pub passed-is : (script : Script) (past : List Entry) (f : Option FenceNo) → IsLegal script past → is_passed f past ≡ passed_in (homes past) f
 passed-is script past None legal = refl
 passed-is script past (Some f) legal = signalled_is script past f.0 legal
@@ -236,12 +234,12 @@ deliver-by a a' b b' c d d' e e' w x y z = rw (w, x, y, z) refl
 filled-open : (script : Script) (past : List Entry) (n s : ℕ) (t : Sent) → IsLegal script past → target_of n s past ≡ Some t → filled_of script past n s (Some t) ≡ filled_at script (state script past) s (row script past n) (Some (record { target = t; returned = is_returned n s past; failed = has_error_buffer n s past; given = early_fences n s past; settled = is_settled n s past }))
 filled-open script past n s t legal at =
     if-agree _ _ _ _ (deliver-by (is_at_device_by n s t.buffer.0 past) (not (is_returned n s past)) (has_shutter n past) (is_some (shutter_time n past)) (is_sound script past n s) (is_passed t.fence past) (passed_in (homes past) t.fence) (each_earlier n (lets_pass past s) past) (each_before n (passes_in s) (rows script past))
-    (out-not-back script past n s t legal at) (timed-is n past) (passed-is script past t.fence legal) (earlier-passes script past n s))
+    (out-reads script past n s t legal at) (timed-is n past) (passed-is script past t.fence legal) (earlier-passes script past n s))
 
 filled-closed : (script : Script) (past : List Entry) (n s : ℕ) (o : Option Sent) → IsLegal script past → target_of n s past ≡ o → is_open n past ≡ false → filled_of script past n s o ≡ None
 filled-closed script past n s None legal at closed = refl
 filled-closed script past n s (Some t) legal at closed =
-    let out : is_at_device_by n s t.buffer.0 past ≡ false = out-not-back script past n s t legal at ∙ rw (target-back past n s t at closed) refl in
+    let out : is_at_device_by n s t.buffer.0 past ≡ false = out-reads script past n s t legal at ∙ rw (target-back past n s t at closed) refl in
     if-false (may_deliver script past n s t) _ _ (rw out refl)
 
 pub filled_is : (script : Script) (past : List Entry) (n s : ℕ) → IsLegal script past → filled_due script past n s ≡ filled_in script (state script past) s (find_row n (rows script past))
@@ -259,13 +257,13 @@ early-open : (script : Script) (past : List Entry) (n s : ℕ) (t : Sent) → Is
 early-open script past n s t legal at =
     early-by n s t _ _ _ _
     (ap (λ b. script.early && b) (deliver-by (is_at_device_by n s t.buffer.0 past) (not (is_returned n s past)) (has_shutter n past) (is_some (shutter_time n past)) (is_sound script past n s) (is_passed t.fence past) (passed_in (homes past) t.fence) (each_earlier n (lets_pass past s) past) (each_before n (passes_in s) (rows script past))
-    (out-not-back script past n s t legal at) (timed-is n past) (passed-is script past t.fence legal) (earlier-passes script past n s)))
+    (out-reads script past n s t legal at) (timed-is n past) (passed-is script past t.fence legal) (earlier-passes script past n s)))
     (earlies_are past)
 
 early-closed : (script : Script) (past : List Entry) (n s : ℕ) (o : Option Sent) → IsLegal script past → target_of n s past ≡ o → is_open n past ≡ false → early_of script past n s o ≡ None
 early-closed script past n s None legal at closed = refl
 early-closed script past n s (Some t) legal at closed =
-    let out : is_at_device_by n s t.buffer.0 past ≡ false = out-not-back script past n s t legal at ∙ rw (target-back past n s t at closed) refl in
+    let out : is_at_device_by n s t.buffer.0 past ≡ false = out-reads script past n s t legal at ∙ rw (target-back past n s t at closed) refl in
     let may : may_deliver script past n s t ≡ false = rw out refl in
     if-false (script.early && may_deliver script past n s t) _ _ (rw may (and-never script.early))
   where
@@ -380,14 +378,14 @@ failed-by n s t a b c f g x y = rw (x, y) refl
 failed-closed : (script : Script) (past : List Entry) (n s : ℕ) (o : Option Sent) → IsLegal script past → target_of n s past ≡ o → is_open n past ≡ false → failed_of past n s o ≡ None
 failed-closed script past n s None legal at closed = refl
 failed-closed script past n s (Some t) legal at closed =
-    let out : is_at_device_by n s t.buffer.0 past ≡ false = out-not-back script past n s t legal at ∙ rw (target-back past n s t at closed) refl in
+    let out : is_at_device_by n s t.buffer.0 past ≡ false = out-reads script past n s t legal at ∙ rw (target-back past n s t at closed) refl in
     if-false (is_at_device_by n s t.buffer.0 past && (has_error_request n past || has_error_buffer n s past)) _ _ (rw out refl)
 
 pub failed_is : (script : Script) (past : List Entry) (n s : ℕ) → IsLegal script past → failed_due past n s ≡ failed_in (state script past) s (find_row n (rows script past))
 failed_is script past n s legal =
     by-row script past n (failed_in (state script past) s) (failed_due past n s)
     (λ open_. by-slot past n s (failed_at (state script past) s (row script past n)) (failed_of past n s) refl
-    (λ t at. failed-by n s t _ _ (has_error_request n past || has_error_buffer n s past) _ _ (out-not-back script past n s t legal at) (left-is script past t.fence legal)))
+    (λ t at. failed-by n s t _ _ (has_error_request n past || has_error_buffer n s past) _ _ (out-reads script past n s t legal at) (left-is script past t.fence legal)))
     (λ closed. failed-closed script past n s (target_of n s past) legal refl closed)
 
 -- errors of buffers

@@ -17,12 +17,12 @@ use Rattle.trace_model.specs.Stopping.{is_stopping}
 use Rattle.frame_laws.proofs.Metadata.{result-fails}
 use Rattle.frame_laws.proofs.Sends.{all-sent}
 use Rattle.frame_laws.proofs.Shutters.{no-request}
+use Rattle.past_facts.proofs.Exposed.{part-shutter, result-shutter}
 use Rattle.row_facts.specs.Rows.{Row, each_before, row, rows}
 use Rattle.row_facts.proofs.Readings.{earlier_is}
 use Rattle.state_facts.specs.States.{state}
 use Rattle.state_facts.specs.Dues.{error_device_in, may_expose_in, next_in, shutter_in, shutter_with}
 use Rattle.state_facts.proofs.Dues.{closed-is, if-agree, timed-is}
-use Rattle.state_facts.proofs.Steps.{part-shutter}
 use Rattle.basic_lemmas.proofs.Tests.{and-false}
 
 -- ---- lists
@@ -51,16 +51,6 @@ any-in f p ok t q (x ∷ xs) closed same all =
     ]
 
 -- ---- a closed frame was exposed or failed whole
-
-result-shutter : (script : Script) (past : List Entry) (n : ℕ) → IsLegal script past → has_error_result n past ≡ true → has_shutter n past ≡ true
-result-shutter script [] n legal h = absurd (false≢true h)
-result-shutter script (ErrorResult m ∷ past) n legal h =
-    elim (cases_Bool (m.0 == n)) [
-      | inl here ↦ (let shutter = (result-fails script past m legal.0).shutter in rw (eqb-true m.0 n here) at shutter)
-      | inr other ↦ (let h' = rw other at h in result-shutter script past n legal.1 h')
-    ]
-result-shutter script (Shutter m time ∷ past) n legal h = or_right (m.0 == n) (has_shutter n past) (result-shutter script past n legal.1 h)
-result-shutter script (e ∷ past) n legal h = result-shutter script past n legal.1 h
 
 by-end : (p q r s : Bool) → (p || (q || r)) ≡ true → (p ≡ true → s ≡ true) → (q ≡ true → s ≡ true) → (s || r) ≡ true
 by-end true q r s h a b = rw (a refl) refl

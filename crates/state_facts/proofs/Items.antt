@@ -4,6 +4,7 @@ use Rattle.std.specs.List.{list_all}
 use Rattle.std.proofs.lemmas.Bool.{and_parts, cases_Bool, eq-eqb, false≢true, ltb-true, ne_eqb, not-true}
 use Rattle.cam_types.specs.declared.four.Four.{Four}
 use Rattle.cam_types.specs.declared.item.Item.{Item}
+use Rattle.cam_types.specs.declared.number.RequestId.{RequestId}
 use Rattle.cam_types.specs.declared.reply.Reply.TheVariants.{Submitted}
 use Rattle.cam_types.specs.declared.script.Command.{Command}
 use Rattle.cam_types.specs.declared.script.Command.TheVariants.{Once, Burst}
@@ -51,13 +52,13 @@ first-holds P p y rest (x ∷ xs) all h =
 abbrev pub StandsIn : Script → List Entry → WaitingItem → Type 0
 StandsIn script past w = item_at script past w.request.0 w.index ≡ Some w.item
 
-named-stand : (P : WaitingItem → Type 0) (r k : ℕ) (all items : List Item) → ((j : ℕ) → slice_get items j ≡ slice_get all (k + j)) → ((w : WaitingItem) → w.request.0 ≡ r → slice_get all w.index ≡ Some w.item → P w) → Each P (named r k items)
+named-stand : (P : WaitingItem → Type 0) (r : RequestId) (k : ℕ) (all items : List Item) → ((j : ℕ) → slice_get items j ≡ slice_get all (k + j)) → ((w : WaitingItem) → w.request.0 ≡ r.0 → slice_get all w.index ≡ Some w.item → P w) → Each P (named r k items)
 named-stand P r k all [] at h = tt
 named-stand P r k all (item ∷ items) at h =
     let here : slice_get all k ≡ Some item = (let e : k + 0 ≡ k = omega arith in let at' = rw e at (at 0) in sym at') in
     (h (record { request = r; index = k; item = item }) refl here, named-stand P r (k + 1) all items (λ j. let e : k + suc j ≡ (k + 1) + j = omega arith in let at' = rw e at (at (suc j)) in at') h)
 
-new-stand : (P : WaitingItem → Type 0) (r : ℕ) (o : Option Command) → ((w : WaitingItem) → w.request.0 ≡ r → slice_get (items_of o) w.index ≡ Some w.item → P w) → Each P (named r 0 (queued_items o))
+new-stand : (P : WaitingItem → Type 0) (r : RequestId) (o : Option Command) → ((w : WaitingItem) → w.request.0 ≡ r.0 → slice_get (items_of o) w.index ≡ Some w.item → P w) → Each P (named r 0 (queued_items o))
 new-stand P r (Some (Once item)) h = named-stand P r 0 (item ∷ []) (item ∷ []) (λ j. let e : 0 + j ≡ j = omega arith in rw e refl) h
 new-stand P r (Some (Burst items)) h = named-stand P r 0 items items (λ j. let e : 0 + j ≡ j = omega arith in rw e refl) h
 new-stand P r o h = tt
@@ -73,7 +74,7 @@ submitted-stand script (Call i word (Submitted q) ∷ past) legal =
     let other : (q.0 == w.request.0) ≡ false = ne_eqb q.0 w.request.0 (λ at. absurd (omega (arith, number, less, at))) in
     rw other stands)
     (settled script past legal.1) (submitted-stand script past legal.1) in
-    let new = new-stand (StandsIn script now) q.0 (command_at script i)
+    let new = new-stand (StandsIn script now) q (command_at script i)
     (λ w at stands. let here : (q.0 == w.request.0) ≡ true = eq-eqb q.0 w.request.0 (sym at) in rw here stands) in
     each-append (StandsIn script now) (submitted script past) (puts script (Call i word (Submitted q))) old new
 submitted-stand script (e ∷ past) legal = rw (append-nil (submitted script past)) (submitted-stand script past legal.1)

@@ -6,6 +6,7 @@ use Rattle.cam_types.specs.declared.item.Settings.{Settings}
 use Rattle.cam_types.specs.declared.number.FrameNo.{FrameNo}
 use Rattle.cam_types.specs.declared.number.RequestId.{RequestId}
 use Rattle.cam_types.specs.declared.reply.Reply.TheVariants.{Configured}
+use Rattle.cam_types.specs.Limits.{frame_time}
 use Rattle.cam_types.specs.declared.script.Script.{Script}
 use Rattle.trace_model.specs.declared.entry.Entry.{Entry}
 use Rattle.trace_model.specs.declared.entry.Entry.TheVariants.{Call, Send, Shutter, Partial, ErrorResult}
@@ -21,6 +22,7 @@ use Rattle.trace_model.specs.Send.{last_settings, may_send}
 use Rattle.trace_model.specs.Shutter.{next_time}
 use Rattle.frame_laws.proofs.Parts.{part-is}
 use Rattle.frame_laws.proofs.Shutters.{exposed, no-request}
+use Rattle.past_facts.proofs.Exposed.{part-shutter, no-result}
 use Rattle.queue_facts.specs.Turns.{Turns, next_of, turns}
 use Rattle.queue_facts.proofs.Readings.{next_is}
 use Rattle.queue_facts.proofs.Steps.{noted_is as queue_is}
@@ -75,23 +77,6 @@ last-after script past _ legal = refl
 
 -- ---- the clock
 
-pub part-shutter : (script : Script) (past : List Entry) (n : ℕ) → IsLegal script past → has_part n 3 past ≡ true → has_shutter n past ≡ true
-part-shutter script [] n legal h = absurd (false≢true h)
-part-shutter script (Partial m k part ∷ past) n legal h =
-    elim (cases_Bool (is_part n 3 (Partial m k part))) [
-      | inl here ↦ (let at = eqb-true m.0 n (and_parts (m.0 == n) (k == 3) here).0 in let shutter = (part-is script past m k part legal.0).shutter in rw at at shutter)
-      | inr other ↦ (let h' = rw other at h in part-shutter script past n legal.1 h')
-    ]
-part-shutter script (Shutter m time ∷ past) n legal h = or_right (m.0 == n) (has_shutter n past) (part-shutter script past n legal.1 h)
-part-shutter script (e ∷ past) n legal h = part-shutter script past n legal.1 h
-
-result-is-error : (n : ℕ) (e : Entry) → is_error_result n e ≡ true → is_error_of n e ≡ true
-result-is-error n (ErrorResult m) h = h
-result-is-error n _ h = absurd (false≢true h)
-
-no-result : (n : ℕ) (past : List Entry) → has_error n past ≡ false → has_error_result n past ≡ false
-no-result n past h = any-less (is_error_of n) (is_error_result n) past (result-is-error n) h
-
 -- a frame that is exposed is open
 pub exposed-open : (script : Script) (past : List Entry) (n : ℕ) → IsLegal script past → is_sent n past ≡ true → has_shutter n past ≡ false → has_error n past ≡ false → is_open n past ≡ true
 exposed-open script past n legal sent dark sound =
@@ -105,7 +90,7 @@ clock-after script past (Shutter n time) legal =
     let is = exposed script past n time legal.0 in
     let open_ = exposed-open script past n.0 legal.1 is.0 is.1 is.2 in
     let found : find_row n.0 (rows script past) ≡ Some (row script past n.0) = found_is script past n.0 ∙ rw open_ refl in
-    ap (λ (o : Option Row). time + max 33333333 (settings_row o).exposure) (sym found)
+    ap (λ (o : Option Row). time + max frame_time (settings_row o).exposure) (sym found)
 clock-after script past _ legal = refl
 
 -- ---- all of it

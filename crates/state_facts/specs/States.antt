@@ -8,6 +8,7 @@ use Rattle.cam_types.specs.declared.script.Script.{Script}
 use Rattle.trace_model.specs.declared.entry.Entry.{Entry}
 use Rattle.trace_model.specs.declared.entry.Entry.TheVariants.{Call, Send, Dropped, Shutter}
 use Rattle.trace_model.specs.declared.entry.Sent.{Sent}
+use Rattle.cam_types.specs.Limits.{frame_time}
 use Rattle.cam_types.specs.Profile.{max_buffers_of}
 use Rattle.trace_model.specs.Fence.{is_same_fence}
 use Rattle.trace_model.specs.Frames.{no_settings}
@@ -30,6 +31,8 @@ use Rattle.row_facts.specs.Rows as frame
 
 -- The whole state, and what each entry makes of it.
 
+-- the queue, the buffers, the client and the open frames; the settings that were sent last, and the time of the next
+-- shutter
 pub record State : Type 0 where
   pub queue : Turns
   pub buffers : Homes
@@ -49,25 +52,30 @@ state script past = record {
   clock = next_time script past;
 }
 
+-- the settings of the next item
 abbrev pub settings_next : Option Queued → Settings
 settings_next (Some w) = w.item.settings
 settings_next None = no_settings
 
+-- the next item is of the list that repeats
 abbrev pub repeats_next : Option Queued → Bool
 repeats_next (Some w) = w.repeating
 repeats_next None = false
 
+-- the settings of a row
 abbrev pub settings_row : Option Row → Settings
 settings_row (Some r) = r.settings
 settings_row None = no_settings
 
+-- the settings that were sent last: none after a configuration
 abbrev pub last_after : Settings → Entry → Option Settings → Option Settings
 last_after settings (Call _ _ (Configured _)) old = None
 last_after settings (Send _ _ _ _ _) old = Some settings
 last_after settings _ old = old
 
+-- the next shutter follows this one by the time of a frame, or its exposure if that is more
 abbrev pub clock_after : List Row → Entry → ℕ → ℕ
-clock_after rs (Shutter n time) old = time + max 33333333 (settings_row (find_row n.0 rs)).exposure
+clock_after rs (Shutter n time) old = time + max frame_time (settings_row (find_row n.0 rs)).exposure
 clock_after rs _ old = old
 
 -- the state after an entry, from the state before it alone
@@ -85,23 +93,28 @@ noted script e s =
 
 -- ---- sends and drops
 
+-- one more buffer of the stream may go to the device
 abbrev pub has_room_in : Script → State → ℕ → Bool
 has_room_in script s t = nat_lt (at_device_in s.buffers t) (max_buffers_of script.profile (slice_get s.client.streams t))
 
+-- the target's buffer is its stream's, in the pool, and goes with the fence with which it came home
 abbrev pub takes_in : State → Sent → Bool
 takes_in s t =
     list_any (λ b. b == t.buffer.0) (stream_in s.buffers t.stream.0)
     && (is_at (place_in s.buffers t.buffer.0) Pool && is_same_fence t.fence (fence_in s.buffers t.buffer.0))
 
+-- the item may be sent: the service goes on, there is room for one more frame and for each of its buffers, and nothing
+-- holds it back if it repeats
 abbrev pub may_go_in : Script → State → Queued → Bool
 may_go_in script s next =
     not (stopping_in s.client)
     && ((nat_lt (length s.rows) script.profile.depth && list_all (has_room_in script s) (targets_in_order next.item)) && (not next.repeating || may_repeat_in script s.client))
 
+-- a send is of the next item: its number, its name, its buffers and the mark of settings that stay
 abbrev pub fits_in : Script → State → Option Queued → ℕ → ℕ → ℕ → Bool → Four Sent → Bool
 fits_in script s None n r i same targets = false
 fits_in script s (Some next) n r i same targets =
-    ((n == s.queue.numbers) && ((r == next.request) && (i == next.index)))
+    ((n == s.queue.numbers) && ((r == next.request.0) && (i == next.index)))
     && (may_go_in script s next
     && ((are_streams (four_list targets) (targets_in_order next.item) && (is_filled targets && list_all (takes_in s) (four_list targets)))
     && is_same_bool same (are_last s.last next.item.settings)))
@@ -110,19 +123,23 @@ fits_in script s (Some next) n r i same targets =
 abbrev pub may_send_in : Script → State → ℕ → ℕ → ℕ → Bool → Four Sent → Bool
 may_send_in script s n r i same targets = fits_in script s (next_of s.queue) n r i same targets
 
+-- a stream's buffer as a target, with its fence
 abbrev pub target_in : State → ℕ → Option ℕ → Option Sent
 target_in s t (Some b) = Some (record { stream = record { 0 = t }; buffer = record { 0 = b }; fence = fence_in s.buffers b })
 target_in s t None = None
 
+-- the least free buffer of each stream
 abbrev pub targets_in : State → List ℕ → Option (List Sent)
 targets_in s [] = Some []
 targets_in s (t ∷ streams) = with_target (target_in s t (least_in s.buffers t)) (targets_in s streams)
 
+-- the send of an item with these targets
 abbrev pub send_of : State → Queued → Option (List Sent) → Option Entry
 send_of s next None = None
 send_of s next (Some targets) =
-    Some (Send (record { 0 = s.queue.numbers }) (record { 0 = next.request }) next.index (are_last s.last next.item.settings) (four_of targets))
+    Some (Send (record { 0 = s.queue.numbers }) (next.request) next.index (are_last s.last next.item.settings) (four_of targets))
 
+-- the send of the next item, where it may go
 abbrev pub send_next_in : Script → State → Option Queued → Option Entry
 send_next_in script s None = None
 send_next_in script s (Some next) = if may_go_in script s next then send_of s next (targets_in s (targets_in_order next.item)) else None
@@ -131,6 +148,7 @@ send_next_in script s (Some next) = if may_go_in script s next then send_of s ne
 abbrev pub send_in : Script → State → Option Entry
 send_in script s = send_next_in script s (next_of s.queue)
 
+-- the drop of an item under the next number
 abbrev pub drop_with : ℕ → Option WaitingItem → Option Entry
 drop_with n (Some w) = Some (Dropped (record { 0 = n }) (w.request) w.index)
 drop_with n None = None

@@ -1,7 +1,7 @@
--- With which buffers the device is done.
-use Rattle.std.proofs.Common.{◌≡◌, ℕ, ◌==◌, ◌<◌, Bool, true, false, ◌&&◌, ◌||◌, List, [], ◌∷◌, Some, refl, sym, ◌∙◌, arith, inl, inr, find}
-use Rattle.std.specs.List.{list_any, list_all}
-use Rattle.std.proofs.lemmas.Bool.{and_parts, cases_Bool, eqb-true, false≢true, or_right}
+-- With which buffers the device is done, entry by entry.
+use Rattle.std.proofs.Common.{◌≡◌, ℕ, ◌==◌, ◌<◌, Bool, true, false, ◌&&◌, ◌||◌, List, [], ◌∷◌, Some, refl, sym, ◌∙◌, arith, inl, inr, find, ◌≤◌, count_by, nat_lt, if◌then◌else◌}
+use Rattle.std.specs.List.{list_any}
+use Rattle.std.proofs.lemmas.Bool.{and_parts, cases_Bool, eqb-true, false≢true, or_right, ne_eqb}
 use Rattle.std.proofs.lemmas.Bool.Decides.{nat_tests}
 use Rattle.cam_types.specs.declared.number.BufferId.{BufferId}
 use Rattle.cam_types.specs.declared.number.FenceNo.{FenceNo}
@@ -9,25 +9,41 @@ use Rattle.cam_types.specs.declared.number.FrameNo.{FrameNo}
 use Rattle.cam_types.specs.declared.number.StreamIx.{StreamIx}
 use Rattle.cam_types.specs.declared.script.Script.{Script}
 use Rattle.trace_model.specs.declared.entry.Entry.{Entry}
-use Rattle.trace_model.specs.declared.entry.Entry.TheVariants.{Early, Late}
+use Rattle.trace_model.specs.declared.entry.Entry.TheVariants.{Early, Late, Filled, Failed}
 use Rattle.trace_model.specs.Entry.{brings, is_early, is_early_with, is_late_with}
 use Rattle.trace_model.specs.Fence.{is_late}
-use Rattle.trace_model.specs.Filled.{early_due}
+use Rattle.trace_model.specs.Filled.{early_due, late_due}
 use Rattle.trace_model.specs.Legal.{IsLegal}
 use Rattle.trace_model.specs.Numbers.{next_early}
 use Rattle.trace_model.specs.Open.{early_fences, is_settled}
-use Rattle.trace_bounds.proofs.Shapes.{early-is}
-use Rattle.buffer_facts.proofs.Signals.{not-late}
-use Rattle.basic_lemmas.proofs.Counts.{count-one}
-use Rattle.basic_lemmas.proofs.Lists.{any-behind, any-where, any-or}
+use Rattle.trace_bounds.proofs.Shapes.{early-is, late-is}
+use Rattle.basic_lemmas.proofs.Counts.{count-one, some-counted}
+use Rattle.basic_lemmas.proofs.Lists.{any-behind, any-where, any-or, found-any}
+use Rattle.buffer_laws.proofs.Early.{given-below}
+use Rattle.basic_lemmas.proofs.Tests.{or-again}
+use Rattle.past_facts.specs.Settled.{has_fence, gives, settles}
 
-any-agree : {X : Type 0} (p q : X → Bool) (xs : List X) → ((x : X) → p x ≡ q x) → list_any p xs ≡ list_any q xs
-any-agree p q [] h = refl
-any-agree p q (x ∷ xs) h = rw (h x, any-agree p q xs h) refl
+pub one-below : (k d n : ℕ) → 1 ≤ k → k ≡ (if nat_lt d n then 1 else 0) → d < n
+one-below k d n some h = grind (arith, nat_tests, some, h)
 
--- ---- it stays so
+pub late-low : (script : Script) (past : List Entry) (d : FenceNo) (x : List ℕ) → IsLegal script past → late_due script past d.0 ≡ Some (Late d x) → d.0 < next_early past
+late-low script past d x legal may =
+    let is = late-is script past d x may in
+    let any = found-any (is_early_with d.0) past (Early is.0 is.1 is.2 is.3) is.4 in
+    one-below (count_by (is_early_with d.0) past) d.0 (next_early past) (some-counted (is_early_with d.0) past any) (given-below script past d.0 legal)
 
-fences-more : (p : ℕ → Bool) (n s : ℕ) (e : Entry) (past : List Entry) → list_any p (early_fences n s past) ≡ true → list_any p (early_fences n s (e ∷ past)) ≡ true
+-- a device fence that wasn't given isn't signalled
+pub not-late : (script : Script) (past : List Entry) (d : ℕ) → IsLegal script past → next_early past ≤ d → is_late d past ≡ false
+not-late script [] d legal above = refl
+not-late script (Early n s b g ∷ past) d legal above =
+    let more = count-one is_early (Early n s b g) past refl in
+    not-late script past d legal.1 (omega (arith, above, more))
+not-late script (Late g x ∷ past) d legal above =
+    let low = late-low script past g x legal.1 legal.0 in
+    rw (ne_eqb g.0 d (λ at. absurd (omega (arith, low, above, at)))) (not-late script past d legal.1 above)
+not-late script (e ∷ past) d legal above = not-late script past d legal.1 above
+
+pub fences-more : (p : ℕ → Bool) (n s : ℕ) (e : Entry) (past : List Entry) → list_any p (early_fences n s past) ≡ true → list_any p (early_fences n s (e ∷ past)) ≡ true
 fences-more p n s (Early m t b d) past h =
     elim (cases_Bool ((m.0 == n) && (t.0 == s))) [
       | inl own ↦ rw own (or_right (p d.0) (list_any p (early_fences n s past)) h)
@@ -50,8 +66,6 @@ settled-stays n s e past h =
     or-left true b h = refl
     or-left false b h = absurd (false≢true h)
 
--- ---- an early return alone settles nothing
-
 pub settled-early : (script : Script) (past : List Entry) (n : FrameNo) (s : StreamIx) (b : BufferId) (d : FenceNo) (m u : ℕ) → IsLegal script past → early_due script past n.0 s.0 ≡ Some (Early n s b d) → is_settled m u (Early n s b d ∷ past) ≡ is_settled m u past
 settled-early script past n s b d m u legal may =
     let number = (early-is script past n s b d may).4 in
@@ -60,11 +74,6 @@ settled-early script past n s b d m u legal may =
       | inl own ↦ rw (own, new) refl
       | inr other ↦ rw other refl
     ]
-
--- ---- the signal of a device fence settles the buffer that came back with it
-
-abbrev pub has_fence : ℕ → List ℕ → Bool
-has_fence g fences = list_any (λ d. g == d) fences
 
 pub settled-signalled : (g : FenceNo) (x : List ℕ) (past : List Entry) (m u : ℕ) → is_settled m u (Late g x ∷ past) ≡ (has_fence g.0 (early_fences m u past) || is_settled m u past)
 settled-signalled g x past m u =
@@ -75,9 +84,7 @@ settled-signalled g x past m u =
     turned true false c = refl
     turned false b c = refl
 
--- ---- and no other
-
-fences-low : (script : Script) (past : List Entry) (g m u : ℕ) → IsLegal script past → has_fence g (early_fences m u past) ≡ true → g < next_early past
+pub fences-low : (script : Script) (past : List Entry) (g m u : ℕ) → IsLegal script past → has_fence g (early_fences m u past) ≡ true → g < next_early past
 fences-low script [] g m u legal h = absurd (false≢true h)
 fences-low script (Early k t c d ∷ past) g m u legal h =
     let number = (early-is script past k t c d legal.0).4 in
@@ -137,3 +144,14 @@ not-its script past g n s b f m u legal found other =
       | inl has ↦ (let own = (and_parts (n.0 == m) (s.0 == u) (fence-frame script past g n s b f m u legal found has)).0 in absurd (false≢true (sym other ∙ own)))
       | inr no' ↦ no'
     ]
+
+pub given-noted : (e : Entry) (past : List Entry) (n s : ℕ) → early_fences n s (e ∷ past) ≡ gives n s e (early_fences n s past)
+given-noted (Early m t b d) past n s = refl
+given-noted _ past n s = refl
+
+pub settled-noted : (script : Script) (past : List Entry) (e : Entry) (n s : ℕ) → IsLegal script (e ∷ past) → is_settled n s (e ∷ past) ≡ (settles n s e (early_fences n s past) || is_settled n s past)
+settled-noted script past (Early m t b d) n s legal = settled-early script past m t b d n s legal.1 legal.0
+settled-noted script past (Late d x) n s legal = settled-signalled d x past n s
+settled-noted script past (Filled m t b f d) n s legal = or-again (brings n s (Filled m t b f d)) (list_any (brings n s) past) (list_any (λ d. is_late d past) (early_fences n s past))
+settled-noted script past (Failed m t b f) n s legal = or-again (brings n s (Failed m t b f)) (list_any (brings n s) past) (list_any (λ d. is_late d past) (early_fences n s past))
+settled-noted script past _ n s legal = refl

@@ -1,0 +1,7 @@
+pub mod Frames
+pub mod Told
+pub mod Exposed
+pub mod Settled
+pub mod Done
+pub mod Streams
+pub mod Out
