@@ -87,18 +87,18 @@ pub record IsNext (past : List Entry) (n : ℕ) : Type 0 where
   pub waiting : passed past n ≡ false
   pub earlier : each_earlier n (passed past) past ≡ true
 
-next-is : (script : Script) (past : List Entry) (n : ℕ) → IsLegal script past → is_next_for_sensor n past ≡ true → IsNext past n
+pub next-is : (script : Script) (past : List Entry) (n : ℕ) → IsLegal script past → is_next_for_sensor n past ≡ true → IsNext past n
 next-is script past n legal h =
     let parts = next_parts (is_sent n past) (has_shutter n past) (has_error n past) (each_earlier n (passed past) past) h in
     let request : has_error_request n past ≡ false = sym (error-unexposed script past n legal parts.1) ∙ parts.2 in
     record { sent = parts.0; waiting = rw (parts.1, request) refl; earlier = parts.3 }
 
-next-from : (script : Script) (past : List Entry) (n : ℕ) → IsLegal script past → IsNext past n → is_next_for_sensor n past ≡ true
+pub next-from : (script : Script) (past : List Entry) (n : ℕ) → IsLegal script past → IsNext past n → is_next_for_sensor n past ≡ true
 next-from script past n legal next =
     let parts = or_parts (has_shutter n past) (has_error_request n past) next.waiting in
     rw (next.sent, parts.0, error-unexposed script past n legal parts.0, parts.1, next.earlier) refl
 
-one-next : (past : List Entry) (m k : ℕ) → IsNext past m → IsNext past k → m ≡ k
+pub one-next : (past : List Entry) (m k : ℕ) → IsNext past m → IsNext past k → m ≡ k
 one-next past m k a b =
     elim (cases_order m k) [
       | inl same ↦ same
@@ -108,7 +108,7 @@ one-next past m k a b =
       ]
     ]
 
-last-next : (script : Script) (past : List Entry) (k : ℕ) → IsLast (waits past) (frames past) k → IsNext past k
+pub last-next : (script : Script) (past : List Entry) (k : ℕ) → IsLast (waits past) (frames past) k → IsNext past k
 last-next script past k last = record {
   sent = rw (← frame-among k past) last.among;
   waiting = waiting (has_shutter k past) (has_error_request k past) last.passes;
@@ -120,7 +120,7 @@ last-next script past k last = record {
     waiting _ _ h = absurd (false≢true h)
 
 -- the row that the sensor takes next is that of the frame that is next
-done_passed : (script : Script) (past : List Entry) (n : ℕ) → IsLegal script past → IsDone past n → waits past n ≡ false
+pub done_passed : (script : Script) (past : List Entry) (n : ℕ) → IsLegal script past → IsDone past n → waits past n ≡ false
 done_passed script past n legal done =
     elim (cases_Bool (has_shutter n past)) [
       | inl had ↦ rw had refl
@@ -130,12 +130,12 @@ done_passed script past n legal done =
           )
     ]
 
-rows-next : (script : Script) (past : List Entry) → IsLegal script past → next_exposed (open_rows script past) ≡ option_map (row_of script past) (last_where (waits past) (frames past))
+pub rows-next : (script : Script) (past : List Entry) → IsLegal script past → next_exposed (open_rows script past) ≡ option_map (row_of script past) (last_where (waits past) (frames past))
 rows-next script past legal =
     rw (← first-order (waits past) past) (first-kept (λ n. is_sent n past) (waits past) is_open_row is_unexposed (row_of script past) (in_order past)
     (λ n sent closed. done_passed script past n legal (closed-done script past n legal sent closed)) (λ n sent. rw (timed-shutter n past) refl) (order-sent past))
 
-no_next : (script : Script) (past : List Entry) → IsLegal script past → last_where (waits past) (frames past) ≡ None → (m : ℕ) → is_next_for_sensor m past ≡ true → ⊥
+pub no_next : (script : Script) (past : List Entry) → IsLegal script past → last_where (waits past) (frames past) ≡ None → (m : ℕ) → is_next_for_sensor m past ≡ true → ⊥
 no_next script past legal none m next =
     let is = next-is script past m legal next in
     let parts = or_parts (has_shutter m past) (has_error_request m past) is.waiting in

@@ -1,0 +1,5 @@
+pub mod Frames
+pub mod Fours
+pub mod States
+pub mod Parts
+pub mod Jobs
