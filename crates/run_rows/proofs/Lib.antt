@@ -3,3 +3,4 @@ pub mod Fours
 pub mod States
 pub mod Parts
 pub mod Jobs
+pub mod Buffers
