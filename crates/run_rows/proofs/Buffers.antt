@@ -244,8 +244,8 @@ early-open script h n s run =
     (λ at. where-none (is_fill_out h n s) ∙ sym (where-none (script.early && false)))
     (λ t at. where-one (is_fill_out h n s) (script.early && may_come script past n s t) _ _ _ (early-test (is_fill_out h n s) script.early (may_come script past n s t) _ (may-return-by script h n s t (is_fill_out h n s) _ run at (λ k. (and_parts (is_taken_in h n s) (not (is_filled_in h n s)) k).0) (state-out h n s))) (λ k. refl))
 
-pub early_is' : (script : Script) (h : List Move) (n s : ℕ) → IsRun script h → where_entry (is_fill_out h n s) (early_due script (trace_of h) n s) ≡ entry_of (early_entry (next_early (trace_of h)) n s) (script.early && is_early_ready script.faults (rows script h) n s) (target_in n s (rows script h))
-early_is' script h n s run =
+pub early_return_is : (script : Script) (h : List Move) (n s : ℕ) → IsRun script h → where_entry (is_fill_out h n s) (early_due script (trace_of h) n s) ≡ entry_of (early_entry (next_early (trace_of h)) n s) (script.early && is_early_ready script.faults (rows script h) n s) (target_in n s (rows script h))
+early_return_is script h n s run =
     by-row script h n (λ row. entry_of (early_entry (next_early (trace_of h)) n s) (script.early && target_passes (may_go_early script.faults (rows script h)) s row) (option_and_then (target_at s) row)) (where_entry (is_fill_out h n s) (early_due script (trace_of h) n s))
     (λ open_. early-open script h n s run)
     (λ closed. ap (λ (o : Option Entry). where_entry (is_fill_out h n s) o) (early_is script (trace_of h) n s (runs_legally script h run) ∙ ap (λ (o : Option frame.Row). early_in script (state script (trace_of h)) s o) (row-closed script (trace_of h) n closed)) ∙ (where-none (is_fill_out h n s) ∙ sym (where-none (script.early && false))))
@@ -306,8 +306,8 @@ failed-open script h n s run =
     (fence-by (is_passed t.fence past) _ _ (is_returned n s past) (is_taken_in h n s) (is_filled_in h n s) t.fence (fence-passed past t.fence) waiting (target-passed script h n s t run at)
     (not-back-by fails _ _ _ (is_returned n s past) (is_taken_in h n s) (is_filled_in h n s) waiting filled k))))
 
-pub failed_is' : (script : Script) (h : List Move) (n s : ℕ) → IsRun script h → where_entry (not (is_sensor_out h n) && not (is_fill_out h n s)) (failed_due (trace_of h) n s) ≡ entry_of (failed_entry (λ i. is_signalled i (trace_of h)) n s) (is_failed_return_ready (rows script h) n s) (target_in n s (rows script h))
-failed_is' script h n s run =
+pub failed_return_is : (script : Script) (h : List Move) (n s : ℕ) → IsRun script h → where_entry (not (is_sensor_out h n) && not (is_fill_out h n s)) (failed_due (trace_of h) n s) ≡ entry_of (failed_entry (λ i. is_signalled i (trace_of h)) n s) (is_failed_return_ready (rows script h) n s) (target_in n s (rows script h))
+failed_return_is script h n s run =
     let free = not (is_sensor_out h n) && not (is_fill_out h n s) in
     by-row script h n (λ row. entry_of (failed_entry (λ i. is_signalled i (trace_of h)) n s) (target_passes may_return_failed s row) (option_and_then (target_at s) row)) (where_entry free (failed_due (trace_of h) n s))
     (λ open_. failed-open script h n s run)

@@ -4,3 +4,4 @@ pub mod States
 pub mod Parts
 pub mod Jobs
 pub mod Buffers
+pub mod Stopped
