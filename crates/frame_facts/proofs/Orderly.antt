@@ -86,7 +86,7 @@ fine_by : (script : Script) (past : List Entry) (o : Option Queued) (n r i : ℕ
 fine_by script past None n r i same targets h = absurd (false≢true h)
 fine_by script past (Some w) n r i same targets h = rw (streams_are (four_list targets) (targets_in_order w.item) (goes script past w n r i same targets h).streams) (fine_item w.item)
 
-sent_fine : (script : Script) (past : List Entry) (n : ℕ) → IsLegal script past → is_sent n past ≡ true → is_fine (streams_of (targets_of n past)) ≡ true
+pub sent_fine : (script : Script) (past : List Entry) (n : ℕ) → IsLegal script past → is_sent n past ≡ true → is_fine (streams_of (targets_of n past)) ≡ true
 sent_fine script [] n legal sent = absurd (false≢true sent)
 sent_fine script (Send m r i same targets ∷ past) n legal sent =
     elim (cases_Bool (m.0 == n)) [

@@ -5,3 +5,6 @@ pub mod Parts
 pub mod Jobs
 pub mod Buffers
 pub mod Stopped
+pub mod Sensor
+pub mod Verdicts
+pub mod Errors
