@@ -8,3 +8,4 @@ pub mod Stopped
 pub mod Sensor
 pub mod Verdicts
 pub mod Errors
+pub mod Moves

@@ -4,4 +4,7 @@
 
 mod ready;
 
-pub use ready::{metadata_is_read};
+pub use ready::{
+    deliveries_are_read, early_returns_are_read, errors_are_read, failed_returns_are_read,
+    fills_are_read, metadata_is_read, shutters_are_read,
+};
