@@ -158,11 +158,11 @@ buffer-fails script h n t legal has =
     buffer-by (has_target n s past) (has_shutter n past) _ (not (request_fault script n) || is_stopped n past) (has_error_request n past) (has_error_buffer n s past) (is_returned n s past) _ (buffer_fault script n s) (cut past n) _
     has (timed-is n past) (state-returned h n s) (row-cut script h n legal)
 
-find-where : (s p q : Sent → Bool) (xs : List Sent) → ((x : Sent) → s x ≡ true → p x ≡ q x) → list_all s xs ≡ true → find p xs ≡ find q xs
+pub find-where : (s p q : Sent → Bool) (xs : List Sent) → ((x : Sent) → s x ≡ true → p x ≡ q x) → list_all s xs ≡ true → find p xs ≡ find q xs
 find-where s p q [] same all = refl
 find-where s p q (x ∷ xs) same all = let parts = and_parts (s x) (list_all s xs) all in rw (same x parts.0, find-where s p q xs same parts.1) refl
 
-own-stream : (ts : List Sent) → list_all (λ t. list_any (λ u. u.stream.0 == t.stream.0) ts) ts ≡ true
+pub own-stream : (ts : List Sent) → list_all (λ t. list_any (λ u. u.stream.0 == t.stream.0) ts) ts ≡ true
 own-stream [] = refl
 own-stream (t ∷ ts) = rw (eq-eqb t.stream.0 t.stream.0 refl) (all-where (λ x. list_any (λ u. u.stream.0 == x.stream.0) ts) (λ x. list_any (λ u. u.stream.0 == x.stream.0) (t ∷ ts)) ts (λ x h. or_right (t.stream.0 == x.stream.0) (list_any (λ u. u.stream.0 == x.stream.0) ts) h) (own-stream ts))
 

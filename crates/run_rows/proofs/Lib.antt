@@ -9,3 +9,4 @@ pub mod Sensor
 pub mod Verdicts
 pub mod Errors
 pub mod Moves
+pub mod Noted

@@ -61,7 +61,7 @@ streams-one : (faults : List Fault) (row : RowView) (o : Option TargetView) → 
 streams-one faults row None = refl
 streams-one faults row (Some t) = elim (cases_Bool (missing faults row t)) [ inl here ↦ rw here refl | inr other ↦ rw other refl ]
 
-kept-append : {X Y : Type 0} (f : X → Y) (p : X → Bool) (xs ys : List X) → map f (filter p (xs ++ ys)) ≡ map f (filter p xs) ++ map f (filter p ys)
+pub kept-append : {X Y : Type 0} (f : X → Y) (p : X → Bool) (xs ys : List X) → map f (filter p (xs ++ ys)) ≡ map f (filter p xs) ++ map f (filter p ys)
 kept-append f p [] ys = refl
 kept-append f p (x ∷ xs) ys = elim (cases_Bool (p x)) [ inl yes' ↦ rw (yes', kept-append f p xs ys) refl | inr no' ↦ rw (no', kept-append f p xs ys) refl ]
 
