@@ -10,3 +10,4 @@ pub mod Verdicts
 pub mod Errors
 pub mod Moves
 pub mod Noted
+pub mod Fills
