@@ -11,3 +11,4 @@ pub mod Errors
 pub mod Moves
 pub mod Noted
 pub mod Fills
+pub mod Changes

@@ -117,19 +117,22 @@ place-noted script h step e n run sent =
 same-view : (n : ℕ) (r r' : RequestId) (s s' : Settings) (ts ts' : Four TargetView) (t t' : Option ℕ) (k k' : ℕ) (q e : Bool) (p p' : SensorPlace) (st st' : Bool) → r ≡ r' → s ≡ s' → ts ≡ ts' → t ≡ t' → k ≡ k' → p ≡ p' → st ≡ st' → ◌≡◌ {A = RowView} (record { frame = record { 0 = n }; request = r; settings = s; targets = ts; shutter = t; parts = k; request_error = q; result_error = e; sensor = p; stopped = st }) (record { frame = record { 0 = n }; request = r'; settings = s'; targets = ts'; shutter = t'; parts = k'; request_error = q; result_error = e; sensor = p'; stopped = st' })
 same-view n r r' s s' ts ts' t t' k k' q e p p' st st' a b c d f g i = rw (a, b, c, d, f, g, i) refl
 
--- the targets are changed as they say, and the sensor's place is what it is
-pub view-noted : (script : Script) (h : List Move) (step : StepName) (e : Entry) (n : ℕ) (vs : List TargetView) (p : SensorPlace) → IsRun script (record { step = step; entry = Some e } ∷ h) → is_sent n (trace_of h) ≡ true → map (target_view (record { step = step; entry = Some e } ∷ h) n) (targets_of n (trace_of h)) ≡ vs → sensor_place (record { step = step; entry = Some e } ∷ h) n ≡ p → row_of script (record { step = step; entry = Some e } ∷ h) n ≡ record {
-    frame = record { 0 = n };
-    request = request_of (send_of n (trace_of h));
-    settings = settings_of script (trace_of h) n;
-    targets = four_of vs;
-    shutter = note_time e n (shutter_time n (trace_of h));
-    parts = note_parts e n (part_count n (trace_of h));
-    request_error = is_error_request n e || has_error_request n (trace_of h);
-    result_error = is_error_result n e || has_error_result n (trace_of h);
-    sensor = p;
-    stopped = is_stop e || is_stopped n (trace_of h);
-  }
+-- a row with its fields noted: its targets are these, and its sensor's place is this
+abbrev pub row_noted : Script → List Move → Entry → ℕ → List TargetView → SensorPlace → RowView
+row_noted script h e n vs p = record {
+  frame = record { 0 = n };
+  request = request_of (send_of n (trace_of h));
+  settings = settings_of script (trace_of h) n;
+  targets = four_of vs;
+  shutter = note_time e n (shutter_time n (trace_of h));
+  parts = note_parts e n (part_count n (trace_of h));
+  request_error = is_error_request n e || has_error_request n (trace_of h);
+  result_error = is_error_result n e || has_error_result n (trace_of h);
+  sensor = p;
+  stopped = is_stop e || is_stopped n (trace_of h);
+}
+
+pub view-noted : (script : Script) (h : List Move) (step : StepName) (e : Entry) (n : ℕ) (vs : List TargetView) (p : SensorPlace) → IsRun script (record { step = step; entry = Some e } ∷ h) → is_sent n (trace_of h) ≡ true → map (target_view (record { step = step; entry = Some e } ∷ h) n) (targets_of n (trace_of h)) ≡ vs → sensor_place (record { step = step; entry = Some e } ∷ h) n ≡ p → row_of script (record { step = step; entry = Some e } ∷ h) n ≡ row_noted script h e n vs p
 view-noted script h step e n vs p run sent targets place =
     let m : Move = record { step = step; entry = Some e } in
     let past = trace_of h in
