@@ -63,7 +63,7 @@ abbrev pub Spares : List Move → Entry → ℕ → Type 0
 Spares h e m = (x : ℕ) → (x == m) ≡ false → (tells x e ≡ false) × ((u : ℕ) → settles x u e (early_fences x u (trace_of h)) ≡ false)
 
 -- an entry of frame m, which stops nothing, changes its row alone
-in-place : (script : Script) (h : List Move) (step : StepName) (e : Entry) (m : ℕ) (c : RowView → RowView) → IsRun script (record { step = step; entry = Some e } ∷ h) → frames (e ∷ trace_of h) ≡ frames (trace_of h) → Spares h e m → is_stop e ≡ false → (is_sent m (trace_of h) ≡ true → row_of script (record { step = step; entry = Some e } ∷ h) m ≡ c (row_of script h m)) → rows script (record { step = step; entry = Some e } ∷ h) ≡ filter view.is_open (with_row m c (rows script h))
+pub in-place : (script : Script) (h : List Move) (step : StepName) (e : Entry) (m : ℕ) (c : RowView → RowView) → IsRun script (record { step = step; entry = Some e } ∷ h) → frames (e ∷ trace_of h) ≡ frames (trace_of h) → Spares h e m → is_stop e ≡ false → (is_sent m (trace_of h) ≡ true → row_of script (record { step = step; entry = Some e } ∷ h) m ≡ c (row_of script h m)) → rows script (record { step = step; entry = Some e } ∷ h) ≡ filter view.is_open (with_row m c (rows script h))
 in-place script h step e m c run same others going own =
     rows-changed script (record { step = step; entry = Some e }) h (at_frame m c) run same each
   where
@@ -80,7 +80,7 @@ in-place script h step e m c run same others going own =
         ]
 
 -- an entry that says nothing of any frame leaves the rows
-nothing : (script : Script) (h : List Move) (step : StepName) (e : Entry) → IsRun script (record { step = step; entry = Some e } ∷ h) → frames (e ∷ trace_of h) ≡ frames (trace_of h) → is_stop e ≡ false → ((x : ℕ) → tells x e ≡ false) → ((x u : ℕ) → settles x u e (early_fences x u (trace_of h)) ≡ false) → rows script (record { step = step; entry = Some e } ∷ h) ≡ filter view.is_open (rows script h)
+pub nothing : (script : Script) (h : List Move) (step : StepName) (e : Entry) → IsRun script (record { step = step; entry = Some e } ∷ h) → frames (e ∷ trace_of h) ≡ frames (trace_of h) → is_stop e ≡ false → ((x : ℕ) → tells x e ≡ false) → ((x u : ℕ) → settles x u e (early_fences x u (trace_of h)) ≡ false) → rows script (record { step = step; entry = Some e } ∷ h) ≡ filter view.is_open (rows script h)
 nothing script h step e run same going none free =
     rows-changed script (record { step = step; entry = Some e }) h (λ row. row) run same (λ x open_. untouched script h step e x run (open-sent x (trace_of h) open_) (none x) going (free x))
     ∙ ap (λ (rs : List RowView). filter view.is_open rs) (map-id (rows script h))
@@ -93,7 +93,7 @@ same-views script h step e n run errors a b c d =
     views-stay (target_view (record { step = step; entry = Some e } ∷ h) n) (target_view h n) (targets_of n (trace_of h))
     (λ t. target-noted h step e n t (target_state h n t.stream.0) (state-stays script h step e n t.stream.0 run (a t.stream.0) (b t.stream.0) (c t.stream.0) (d t.stream.0)) ∙ rw (errors t.stream.0) refl)
 
-shutter-row : (script : Script) (h : List Move) (step : StepName) (n : FrameNo) (time : ℕ) → IsRun script (record { step = step; entry = Some (ShutterEntry n time) } ∷ h) → is_sent n.0 (trace_of h) ≡ true → row_of script (record { step = step; entry = Some (ShutterEntry n time) } ∷ h) n.0 ≡ exposed time (row_of script h n.0)
+pub shutter-row : (script : Script) (h : List Move) (step : StepName) (n : FrameNo) (time : ℕ) → IsRun script (record { step = step; entry = Some (ShutterEntry n time) } ∷ h) → is_sent n.0 (trace_of h) ≡ true → row_of script (record { step = step; entry = Some (ShutterEntry n time) } ∷ h) n.0 ≡ exposed time (row_of script h n.0)
 shutter-row script h step n time run sent =
     let past = trace_of h in
     let e = ShutterEntry n time in
@@ -104,7 +104,7 @@ shutter-row script h step n time run sent =
     (same-views script h step e n.0 run (λ u. refl) (λ u. refl) (λ u. refl) (λ u. refl) (λ u. refl)) place
     ∙ rw (same-self n.0) refl
 
-part-row : (script : Script) (h : List Move) (step : StepName) (n : FrameNo) (k : ℕ) (part : Part) → IsRun script (record { step = step; entry = Some (PartialEntry n k part) } ∷ h) → is_sent n.0 (trace_of h) ≡ true → row_of script (record { step = step; entry = Some (PartialEntry n k part) } ∷ h) n.0 ≡ with_part k (row_of script h n.0)
+pub part-row : (script : Script) (h : List Move) (step : StepName) (n : FrameNo) (k : ℕ) (part : Part) → IsRun script (record { step = step; entry = Some (PartialEntry n k part) } ∷ h) → is_sent n.0 (trace_of h) ≡ true → row_of script (record { step = step; entry = Some (PartialEntry n k part) } ∷ h) n.0 ≡ with_part k (row_of script h n.0)
 part-row script h step n k part run sent =
     let past = trace_of h in
     let e = PartialEntry n k part in
@@ -112,7 +112,7 @@ part-row script h step n k part run sent =
     (same-views script h step e n.0 run (λ u. refl) (λ u. refl) (λ u. refl) (λ u. refl) (λ u. refl)) (place-noted script h step e n.0 run sent)
     ∙ rw (same-self n.0) refl
 
-request-row : (script : Script) (h : List Move) (step : StepName) (n : FrameNo) → IsRun script (record { step = step; entry = Some (ErrorRequest n) } ∷ h) → is_sent n.0 (trace_of h) ≡ true → row_of script (record { step = step; entry = Some (ErrorRequest n) } ∷ h) n.0 ≡ marked RequestError (row_of script h n.0)
+pub request-row : (script : Script) (h : List Move) (step : StepName) (n : FrameNo) → IsRun script (record { step = step; entry = Some (ErrorRequest n) } ∷ h) → is_sent n.0 (trace_of h) ≡ true → row_of script (record { step = step; entry = Some (ErrorRequest n) } ∷ h) n.0 ≡ marked RequestError (row_of script h n.0)
 request-row script h step n run sent =
     let past = trace_of h in
     let e = ErrorRequest n in
@@ -120,7 +120,7 @@ request-row script h step n run sent =
     (same-views script h step e n.0 run (λ u. refl) (λ u. refl) (λ u. refl) (λ u. refl) (λ u. refl)) (place-noted script h step e n.0 run sent)
     ∙ rw (same-self n.0) refl
 
-result-row : (script : Script) (h : List Move) (step : StepName) (n : FrameNo) → IsRun script (record { step = step; entry = Some (ErrorResult n) } ∷ h) → is_sent n.0 (trace_of h) ≡ true → row_of script (record { step = step; entry = Some (ErrorResult n) } ∷ h) n.0 ≡ marked ResultError (row_of script h n.0)
+pub result-row : (script : Script) (h : List Move) (step : StepName) (n : FrameNo) → IsRun script (record { step = step; entry = Some (ErrorResult n) } ∷ h) → is_sent n.0 (trace_of h) ≡ true → row_of script (record { step = step; entry = Some (ErrorResult n) } ∷ h) n.0 ≡ marked ResultError (row_of script h n.0)
 result-row script h step n run sent =
     let past = trace_of h in
     let e = ErrorResult n in
@@ -130,7 +130,7 @@ result-row script h step n run sent =
 
 -- ---- the rows all stop
 
-stop-row : (script : Script) (h : List Move) (step : StepName) (e : Entry) (n : ℕ) → IsRun script (record { step = step; entry = Some e } ∷ h) → is_sent n (trace_of h) ≡ true → is_stop e ≡ true → ((x : ℕ) → tells x e ≡ false) → row_of script (record { step = step; entry = Some e } ∷ h) n ≡ marked Stopped (row_of script h n)
+pub stop-row : (script : Script) (h : List Move) (step : StepName) (e : Entry) (n : ℕ) → IsRun script (record { step = step; entry = Some e } ∷ h) → is_sent n (trace_of h) ≡ true → is_stop e ≡ true → ((x : ℕ) → tells x e ≡ false) → row_of script (record { step = step; entry = Some e } ∷ h) n ≡ marked Stopped (row_of script h n)
 stop-row script h step (Begin word) n run sent stop none =
     view-noted script h step (Begin word) n (map (target_view h n) (targets_of n (trace_of h))) (sensor_place h n) run sent
     (same-views script h step (Begin word) n run (λ u. refl) (λ u. refl) (λ u. refl) (λ u. refl) (λ u. refl)) (place-noted script h step (Begin word) n run sent)
@@ -142,7 +142,7 @@ stop-row script h step _ n run sent stop none = absurd (false≢true stop)
 
 -- ---- a buffer's error is announced
 
-announced-row : (script : Script) (h : List Move) (step : StepName) (n : FrameNo) (s : StreamIx) → IsRun script (record { step = step; entry = Some (ErrorBuffer n s) } ∷ h) → is_sent n.0 (trace_of h) ≡ true → row_of script (record { step = step; entry = Some (ErrorBuffer n s) } ∷ h) n.0 ≡ marked (Announced s) (row_of script h n.0)
+pub announced-row : (script : Script) (h : List Move) (step : StepName) (n : FrameNo) (s : StreamIx) → IsRun script (record { step = step; entry = Some (ErrorBuffer n s) } ∷ h) → is_sent n.0 (trace_of h) ≡ true → row_of script (record { step = step; entry = Some (ErrorBuffer n s) } ∷ h) n.0 ≡ marked (Announced s) (row_of script h n.0)
 announced-row script h step n s run sent =
     let past = trace_of h in
     let e = ErrorBuffer n s in
@@ -163,7 +163,7 @@ announced-row script h step n s run sent =
 -- ---- a buffer comes back
 
 -- the target of a stream comes into a state
-state-row : (script : Script) (h : List Move) (step : StepName) (e : Entry) (n : ℕ) (s : StreamIx) (state : TargetState) → IsRun script (record { step = step; entry = Some e } ∷ h) → is_sent n (trace_of h) ≡ true → map (target_view (record { step = step; entry = Some e } ∷ h) n) (targets_of n (trace_of h)) ≡ map (at_stream s.0 (in_state state)) (map (target_view h n) (targets_of n (trace_of h))) → is_shutter n e ≡ false → row_noted script h e n (map (at_stream s.0 (in_state state)) (map (target_view h n) (targets_of n (trace_of h)))) (sensor_place h n) ≡ record (row_of script h n) { targets = four_of (map (at_stream s.0 (in_state state)) (map (target_view h n) (targets_of n (trace_of h)))) } → row_of script (record { step = step; entry = Some e } ∷ h) n ≡ record (row_of script h n) { targets = with_target s.0 (in_state state) (row_of script h n).targets }
+pub state-row : (script : Script) (h : List Move) (step : StepName) (e : Entry) (n : ℕ) (s : StreamIx) (state : TargetState) → IsRun script (record { step = step; entry = Some e } ∷ h) → is_sent n (trace_of h) ≡ true → map (target_view (record { step = step; entry = Some e } ∷ h) n) (targets_of n (trace_of h)) ≡ map (at_stream s.0 (in_state state)) (map (target_view h n) (targets_of n (trace_of h))) → is_shutter n e ≡ false → row_noted script h e n (map (at_stream s.0 (in_state state)) (map (target_view h n) (targets_of n (trace_of h)))) (sensor_place h n) ≡ record (row_of script h n) { targets = four_of (map (at_stream s.0 (in_state state)) (map (target_view h n) (targets_of n (trace_of h)))) } → row_of script (record { step = step; entry = Some e } ∷ h) n ≡ record (row_of script h n) { targets = with_target s.0 (in_state state) (row_of script h n).targets }
 state-row script h step e n s state run sent views shutter same =
     let past = trace_of h in
     view-noted script h step e n (map (at_stream s.0 (in_state state)) (map (target_view h n) (targets_of n past))) (sensor_place h n) run sent views

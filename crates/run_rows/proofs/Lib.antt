@@ -12,3 +12,4 @@ pub mod Moves
 pub mod Noted
 pub mod Fills
 pub mod Changes
+pub mod Returned
