@@ -13,3 +13,5 @@ pub mod Noted
 pub mod Fills
 pub mod Changes
 pub mod Returned
+pub mod Silent
+pub mod Fresh

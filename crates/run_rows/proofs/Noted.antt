@@ -85,7 +85,7 @@ state-stays script h step e n s run a b c d = state-noted script h step e n s ru
 
 -- ---- the place of the sensor after an entry
 
-any-same : {X : Type 0} (p q : X → Bool) (xs : List X) → ((x : X) → p x ≡ q x) → list_any p xs ≡ list_any q xs
+pub any-same : {X : Type 0} (p q : X → Bool) (xs : List X) → ((x : X) → p x ≡ q x) → list_any p xs ≡ list_any q xs
 any-same p q [] same = refl
 any-same p q (x ∷ xs) same = rw (same x, any-same p q xs same) refl
 
