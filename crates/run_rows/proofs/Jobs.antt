@@ -101,7 +101,7 @@ late-shape P script past d None e at h each = absurd (cc)
 late-shape P script past d (Some (EarlyEntry m u b f)) e at h each = by_failing P (is_late d past) (LateEntry (record { 0 = d }) (digest_of script past m.0 u.0)) e h (each (digest_of script past m.0 u.0))
 late-shape P script past d (Some _) e at h each = absurd (cc)
 
-finish-shape : (P : Entry → Type 0) (script : Script) (h : List Move) (n s : ℕ) (fences : List ℕ) (e : Entry) → is_filled_in h n s ≡ true → early_fences n s (trace_of h) ≡ fences → late_with script (trace_of h) fences ≡ Some e → ((d : ℕ) (x : List ℕ) → FinishOf h n s d → P (LateEntry (record { 0 = d }) x)) → P e
+pub finish-shape : (P : Entry → Type 0) (script : Script) (h : List Move) (n s : ℕ) (fences : List ℕ) (e : Entry) → is_filled_in h n s ≡ true → early_fences n s (trace_of h) ≡ fences → late_with script (trace_of h) fences ≡ Some e → ((d : ℕ) (x : List ℕ) → FinishOf h n s d → P (LateEntry (record { 0 = d }) x)) → P e
 finish-shape P script h n s [] e filled at due each = absurd (cc)
 finish-shape P script h n s (d ∷ ds) e filled at due each =
     late-shape P script (trace_of h) d (find (is_early_with d) (trace_of h)) e refl due (λ x. each d x (record { filled = filled; rest = ds; fences = at }))

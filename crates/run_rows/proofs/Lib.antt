@@ -15,3 +15,5 @@ pub mod Changes
 pub mod Returned
 pub mod Silent
 pub mod Fresh
+pub mod Moved
+pub mod Whole

@@ -1,4 +1,4 @@
-use Rattle.std.specs.Prelude.{List, [], ◌∷◌, ◌++◌, Option, Some, None, if◌then◌else◌, false}
+use Rattle.std.specs.Prelude.{List, [], ◌∷◌, ◌++◌, Bool, true, false, Option, Some, None, if◌then◌else◌}
 use Rattle.std.specs.Option.{option_map}
 use Rattle.cam_types.specs.declared.four.Four.{Four}
 use Rattle.cam_types.specs.declared.item.Settings.{Settings}
@@ -9,7 +9,7 @@ use Rattle.cam_types.specs.declared.row.SensorPlace.TheVariants.{NotYet}
 use Rattle.cam_types.specs.declared.row.TargetState.TheVariants.{Waiting}
 use Rattle.cam_types.specs.declared.row.TargetView.{TargetView}
 use Rattle.trace_model.specs.declared.entry.Entry.{Entry}
-use Rattle.trace_model.specs.declared.entry.Entry.TheVariants.{Begin, Send, Shutter, Partial, Filled, Failed, ErrorRequest, ErrorResult, ErrorBuffer, ErrorDevice, Early}
+use Rattle.trace_model.specs.declared.entry.Entry.TheVariants.{Begin, Send, Shutter, Partial, Filled, Failed, ErrorRequest, ErrorResult, ErrorBuffer, ErrorDevice, Early, Late}
 use Rattle.trace_model.specs.declared.entry.Sent.{Sent}
 use Rattle.trace_model.specs.Entry.{is_stop_word}
 use Rattle.run_model.specs.declared.step.Move.{Move}
@@ -77,3 +77,15 @@ after_step settings _ entry rows = after_given settings entry rows
 -- after a move
 abbrev pub after : Settings → Move → List RowView → List RowView
 after settings m rows = after_step settings m.step m.entry rows
+
+-- ---- which moves can end a frame (camera3.h, process_capture_result)
+
+-- the entry may be the last of its frame: metadata that ends, or a buffer with which the device is done
+abbrev pub may_end : Option Entry → Bool
+may_end (Some (Partial _ _ _)) = true
+may_end (Some (Filled _ _ _ _ _)) = true
+may_end (Some (Failed _ _ _ _)) = true
+may_end (Some (ErrorRequest _)) = true
+may_end (Some (ErrorResult _)) = true
+may_end (Some (Late _ _)) = true
+may_end _ = false
