@@ -17,3 +17,4 @@ pub mod Silent
 pub mod Fresh
 pub mod Moved
 pub mod Whole
+pub mod Finish

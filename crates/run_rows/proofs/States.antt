@@ -132,7 +132,7 @@ filled-by false false false settled true false = refl
 filled-by false false false settled false true = refl
 filled-by false false false settled false false = refl
 
-early-filled-by : (ok bad given settled taken filled : Bool) → (given ≡ true → taken ≡ true) → is_state (state_by ok bad given settled (taken && not filled) filled) EarlyFilled ≡ ((not (ok || bad) && given) && (not settled && filled))
+pub early-filled-by : (ok bad given settled taken filled : Bool) → (given ≡ true → taken ≡ true) → is_state (state_by ok bad given settled (taken && not filled) filled) EarlyFilled ≡ ((not (ok || bad) && given) && (not settled && filled))
 early-filled-by true bad given settled taken filled h = refl
 early-filled-by false true given settled taken filled h = refl
 early-filled-by false false true true taken filled h = refl

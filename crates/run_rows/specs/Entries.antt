@@ -1,11 +1,11 @@
-use Rattle.std.specs.Prelude.{ℕ, Bool, ◌&&◌, not, Option, Some, None, List, if◌then◌else◌}
+use Rattle.std.specs.Prelude.{ℕ, Bool, ◌&&◌, not, Option, Some, None, List, [], ◌∷◌, if◌then◌else◌}
 use Rattle.cam_types.specs.declared.number.FenceNo.{FenceNo}
 use Rattle.cam_types.specs.declared.part.Part.{Part}
 use Rattle.cam_types.specs.declared.row.RowView.{RowView}
 use Rattle.cam_types.specs.declared.row.TargetState.TheVariants.{Waiting}
 use Rattle.cam_types.specs.declared.row.TargetView.{TargetView}
 use Rattle.trace_model.specs.declared.entry.Entry.{Entry}
-use Rattle.trace_model.specs.declared.entry.Entry.TheVariants.{Shutter, Partial, Filled, Failed, ErrorRequest, ErrorResult, ErrorBuffer, ErrorDevice, Early}
+use Rattle.trace_model.specs.declared.entry.Entry.TheVariants.{Shutter, Partial, Filled, Failed, ErrorRequest, ErrorResult, ErrorBuffer, ErrorDevice, Early, Late}
 use Rattle.error_notify.specs.declared.entry.ErrorEntry.{ErrorEntry}
 use Rattle.error_notify.specs.declared.entry.ErrorEntry.TheVariants.{Request, Result, Buffer, Device}
 use Rattle.device_rows.specs.Ready.{is_passed, is_state}
@@ -42,3 +42,8 @@ error_entry (Request n) = ErrorRequest n
 error_entry (Result n) = ErrorResult n
 error_entry (Buffer n s) = ErrorBuffer n s
 error_entry Device = ErrorDevice
+
+-- the signal of the buffer's device fence: it has one at most
+abbrev pub finish_entry : List ℕ → List ℕ → Option Entry
+finish_entry digest (d ∷ []) = Some (Late (record { 0 = d }) digest)
+finish_entry digest _ = None
