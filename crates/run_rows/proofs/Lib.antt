@@ -18,3 +18,4 @@ pub mod Fresh
 pub mod Moved
 pub mod Whole
 pub mod Finish
+pub mod Work
