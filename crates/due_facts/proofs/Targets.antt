@@ -27,7 +27,7 @@ cycle_served script past q k (Some item) w all at h =
     let same : record { request = q.request; index = k; item = item; repeating = true } ≡ w = cc in
     rw (← same) (at-all (is_served script past) q.items k item all at)
 
-next_by : (script : Script) (past : List Entry) (xs : List WaitingItem) (q : Option Repeating) (w : Queued) → IsLegal script past → queued script past ≡ xs → repeating script past ≡ q → next_from (first_in xs) (next_repeating q past) ≡ Some w → is_served script past w.item ≡ true
+pub next_by : (script : Script) (past : List Entry) (xs : List WaitingItem) (q : Option Repeating) (w : Queued) → IsLegal script past → queued script past ≡ xs → repeating script past ≡ q → next_from (first_in xs) (next_repeating q past) ≡ Some w → is_served script past w.item ≡ true
 next_by script past (v ∷ vs) q w legal at list h =
     let same : record { request = v.request; index = v.index; item = v.item; repeating = false } ≡ w = cc in
     let all = rw at at (queue-served script past legal) in

@@ -109,3 +109,11 @@ by-target script h n s f x none some = by-found (target_of n s (trace_of h)) ref
     by-found (Some t) at =
         let same : t.stream.0 ≡ s = eqb-true t.stream.0 s (found-passes {X = Sent} (λ u. u.stream.0 == s) (targets_of n (trace_of h)) t at) in
         some t at ∙ ap (λ (v : TargetView). f (Some v)) (sym (view-at-is h n s t same))
+
+pub view-found : (script : Script) (h : List Move) (n s : ℕ) (t : Sent) → target_of n s (trace_of h) ≡ Some t → target_at s (row_of script h n) ≡ Some (view_at h n s t)
+view-found script h n s t at =
+    let same : t.stream.0 ≡ s = eqb-true t.stream.0 s (found-passes {X = Sent} (λ u. u.stream.0 == s) (targets_of n (trace_of h)) t at) in
+    target-at script h n s ∙ (ap (λ (o : Option Sent). option_map (target_view h n) o) at ∙ ap Some (view-at-is h n s t same))
+
+pub no-view : (script : Script) (h : List Move) (n s : ℕ) → target_of n s (trace_of h) ≡ None → target_at s (row_of script h n) ≡ None
+no-view script h n s at = target-at script h n s ∙ ap (λ (o : Option Sent). option_map (target_view h n) o) at

@@ -19,3 +19,5 @@ pub mod Moved
 pub mod Whole
 pub mod Finish
 pub mod Work
+pub mod Streams
+pub mod WorkJobs

@@ -68,7 +68,7 @@ call-by script past (Some c) i w r at h = by (may_answer script past c) refl h
         record { command = c; next = at; may = may; word = both.0; reply_is = both.1 }
     by false may k = absurd (cc)
 
-call-is : (script : Script) (past : List Entry) (i : ℕ) (w : Word) (r : Reply) → call_due script past ≡ Some (Call i w r) → CallIs script past w r
+pub call-is : (script : Script) (past : List Entry) (i : ℕ) (w : Word) (r : Reply) → call_due script past ≡ Some (Call i w r) → CallIs script past w r
 call-is script past i w r h = call-by script past (next_command script past) i w r refl h
 
 -- ---- a service that is closed has nothing to do
@@ -92,7 +92,7 @@ is-empty [] h = refl
 is-empty (x ∷ xs) h = absurd (false≢true h)
 
 -- what a closing command's answer says: all was done
-answered : (began refused over : Bool) → (began && (refused || over)) ≡ true → refused ≡ false → over ≡ true
+pub answered : (began refused over : Bool) → (began && (refused || over)) ≡ true → refused ≡ false → over ≡ true
 answered true true over h k = absurd (false≢true (sym k))
 answered true false over h k = h
 answered false refused over h k = absurd (false≢true h)
@@ -222,7 +222,7 @@ stop-over script past Flush word over = (and_parts (is_quiet past) (is_empty (qu
 stop-over script past Disconnect word over = (and_parts (is_quiet past) (is_empty (queued script past)) over).0
 stop-over script past _ word over = absurd (false≢true word)
 
-quiet-closed : (past : List Entry) (n : ℕ) → is_quiet past ≡ true → is_open n past ≡ true → ⊥
+pub quiet-closed : (past : List Entry) (n : ℕ) → is_quiet past ≡ true → is_open n past ≡ true → ⊥
 quiet-closed past n quiet open_ =
     false≢true (sym (ap not open_) ∙ at-all (λ m. not (is_open m past)) (frames past) n quiet (sent-listed past n (open-sent n past open_)))
   where
@@ -265,7 +265,7 @@ stopped-sent past n h = elim (cases_Bool (is_sent n past)) [
   | inr unsent ↦ absurd (false≢true (sym (not-stopped n past unsent) ∙ h))
 ]
 
-open-before : (script : Script) (past : List Entry) (e : Entry) (n : ℕ) → IsLegal script (e ∷ past) → is_sent n past ≡ true → is_open n (e ∷ past) ≡ true → is_open n past ≡ true
+pub open-before : (script : Script) (past : List Entry) (e : Entry) (n : ℕ) → IsLegal script (e ∷ past) → is_sent n past ≡ true → is_open n (e ∷ past) ≡ true → is_open n past ≡ true
 open-before script past e n legal sent open_ = elim (cases_Bool (is_open n past)) [
   | inl before ↦ before
   | inr closed ↦ absurd (false≢true (sym (closed-stays script past e n legal sent closed) ∙ open_))
