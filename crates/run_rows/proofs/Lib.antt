@@ -21,3 +21,6 @@ pub mod Finish
 pub mod Work
 pub mod Streams
 pub mod WorkJobs
+pub mod Ranges
+pub mod Counted
+pub mod Agree
