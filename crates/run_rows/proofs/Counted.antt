@@ -42,7 +42,7 @@ use Rattle.frame_facts.proofs.Orderly.{rows_few, sent_fine, streams_of}
 use Rattle.frame_laws.proofs.Parts.{part-is}
 use Rattle.frame_laws.proofs.Sends.{send-number, sent-below}
 use Rattle.past_facts.proofs.Frames.{falls, frames-fall}
-use Rattle.run_rows.specs.Kept.{are_below, frames_rise, has_few_parts, has_some_target, has_streams, is_in_range}
+use Rattle.run_rows.specs.Kept.{are_below, frames_rise, has_few_parts, has_some_target, has_streams, is_in_range, is_no_row}
 use Rattle.run_rows.proofs.Fours.{row-targets}
 use Rattle.run_rows.proofs.Frames.{all-reverse, sent-in-order}
 use Rattle.run_rows.proofs.Ranges.{sent-range}
@@ -86,14 +86,10 @@ count_is script h =
         plus-none : (n : ℕ) → n + 0 ≡ n
         plus-none n = omega arith
 
-abbrev pub no_row : List RowView → Bool
-no_row [] = true
-no_row _ = false
-
-pub quiet_is : (script : Script) (h : List Move) → is_quiet (trace_of h) ≡ no_row (rows script h)
+pub quiet_is : (script : Script) (h : List Move) → is_quiet (trace_of h) ≡ is_no_row (rows script h)
 quiet_is script h = sym (all-reverse (λ n. not (is_open n (trace_of h))) (frames (trace_of h))) ∙ by (reverse (frames (trace_of h)))
   where
-    by : (xs : List ℕ) → list_all (λ n. not (is_open n (trace_of h))) xs ≡ no_row (map (row_of script h) (filter (λ n. is_open n (trace_of h)) xs))
+    by : (xs : List ℕ) → list_all (λ n. not (is_open n (trace_of h))) xs ≡ is_no_row (map (row_of script h) (filter (λ n. is_open n (trace_of h)) xs))
     by [] = refl
     by (x ∷ xs) = elim (cases_Bool (is_open x (trace_of h))) [ inl yes' ↦ rw yes' refl | inr no' ↦ rw no' (by xs) ]
 

@@ -24,3 +24,4 @@ pub mod WorkJobs
 pub mod Ranges
 pub mod Counted
 pub mod Agree
+pub mod Standing

@@ -12,6 +12,19 @@ use Rattle.device_rows.specs.Kept.{is_with_fill, rise_from}
 
 -- What the rows of a run meet, which the device asks of those that it is given.
 
+-- no frame is open
+abbrev pub is_no_row : List RowView → Bool
+is_no_row [] = true
+is_no_row _ = false
+
+abbrev pub is_same : Bool → Bool → Bool
+is_same true b = b
+is_same false b = not b
+
+-- each row is stopped where the service is stopping, and none else
+abbrev pub are_stopped_with : Bool → List RowView → Bool
+are_stopped_with stopping rows = list_all (λ row. is_same row.stopped stopping) rows
+
 -- the frames rise from row to row
 abbrev pub frames_rise : List RowView → Bool
 frames_rise [] = true

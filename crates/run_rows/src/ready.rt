@@ -4,15 +4,15 @@ ghost use Rattle.std.specs.Option.{option_map};
 ghost use Rattle.cam_types.specs.declared.number.FrameNo.{FrameNo as SomeFrame};
 ghost use Rattle.cam_types.specs.declared.number.StreamIx.{StreamIx as SomeStream};
 ghost use Rattle.cam_types.specs.declared.script.Script.{Script as SomeScript};
-ghost use Rattle.device_rows.specs.Ready.{is_delivery_ready, is_early_ready, is_failed_return_ready, is_fill_ready, next_error, next_part, shutter_row};
+ghost use Rattle.device_rows.specs.Ready.{is_delivery_ready, is_early_ready, is_failed_return_ready, is_fill_ready, is_finish_ready, next_error, next_part, shutter_row};
 ghost use Rattle.run_model.specs.declared.step.Move.{Move as SomeMove};
-ghost use Rattle.run_model.specs.declared.step.StepName.TheVariants.{ReturnFailed, Deliver, Early};
+ghost use Rattle.run_model.specs.declared.step.StepName.TheVariants.{ReturnFailed, Deliver, Early, Finish};
 ghost use Rattle.run_model.specs.History.{trace_of};
 ghost use Rattle.run_model.specs.Ready.{error_due, may_take_fill, move_of};
 ghost use Rattle.run_model.specs.Rows.{rows};
 ghost use Rattle.run_model.specs.Run.{IsRun};
 ghost use Rattle.run_rows.specs.Entries.{error_entry, part_entry, shutter_entry};
-ghost use Rattle.run_rows.specs.Moves.{delivery_move, early_move, failed_move};
+ghost use Rattle.run_rows.specs.Moves.{delivery_move, early_move, failed_move, finish_move};
 ghost use Rattle.trace_model.specs.Fence.{is_signalled};
 ghost use Rattle.trace_model.specs.Partial.{partial_due};
 ghost use Rattle.trace_model.specs.Shutter.{next_time, shutter_due};
@@ -75,4 +75,14 @@ pub fn failed_returns_are_read()
         is_some (move_of script h (ReturnFailed n s)) ≡ is_failed_return_ready (rows script h) n.0 s.0 }
     ensures entry { (script : SomeScript) (h : List SomeMove) (n : SomeFrame) (s : SomeStream) → IsRun script h →
         move_of script h (ReturnFailed n s) ≡ failed_move (trace_of h) (rows script h) n s }
+{}
+
+/// The signal of a device fence is ready exactly where the rows say so: it is of the one fence with which the buffer came
+/// back early.
+#[tactic(auto, using(crate::proofs::Finish::finish_is, crate::proofs::Finish::finish_ready))]
+pub fn signals_are_read()
+    ensures ready { (script : SomeScript) (h : List SomeMove) (n : SomeFrame) (s : SomeStream) → IsRun script h →
+        is_some (move_of script h (Finish n s)) ≡ is_finish_ready (rows script h) n.0 s.0 }
+    ensures entry { (script : SomeScript) (h : List SomeMove) (n : SomeFrame) (s : SomeStream) → IsRun script h →
+        move_of script h (Finish n s) ≡ finish_move script (trace_of h) (rows script h) n s }
 {}
