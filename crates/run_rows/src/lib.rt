@@ -19,3 +19,6 @@ pub use rows::{
     rows_are_as_they_were_sent, sensor_jobs_are_read,
 };
 pub use steps::each_move_changes_the_rows;
+
+#[cfg(test)]
+mod tests;
