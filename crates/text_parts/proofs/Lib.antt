@@ -1,0 +1,5 @@
+pub mod General
+pub mod Cuts
+pub mod Digits
+pub mod Joined
+pub mod Spelled
