@@ -11,10 +11,9 @@ use Rattle.trace_model.specs.Laws.{ConservesBuffers, returns_buffer, sends_buffe
 use Rattle.trace_model.specs.Legal.{IsLegal}
 use Rattle.trace_model.specs.Place.{Place, Device, is_at, is_at_device_by, place, place_after}
 use Rattle.trace_model.proofs.LawLemmas.{at-device, until-returned}
-use Rattle.trace_bounds.proofs.Counts.{count-cons}
-use Rattle.buffer_laws.proofs.Lists.{count-over}
 use Rattle.buffer_laws.proofs.Own.{at-device-by-some, device-buffer}
 use Rattle.buffer_laws.proofs.Returns.{early-back, filled-back, failed-back}
+use Rattle.basic_lemmas.proofs.Counts.{count-over, count-cons}
 
 -- 1 at the device, else 0
 abbrev pub out_by : Place → ℕ

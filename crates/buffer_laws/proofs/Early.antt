@@ -1,7 +1,7 @@
 -- Buffers that came back early: the frame stays open until their device fence is signalled, which is once.
 use Rattle.std.proofs.Common.{◌≡◌, ℕ, ◌==◌, ◌+◌, ◌≤◌, Bool, true, false, ◌&&◌, ◌||◌, not, List, [], ◌∷◌, Some, refl, sym, ◌∙◌, arith, inl, inr, find, count_by, nat_lt, if◌then◌else◌}
 use Rattle.std.specs.List.{list_all, list_any}
-use Rattle.std.proofs.lemmas.Bool.{cases_Bool, false≢true}
+use Rattle.std.proofs.lemmas.Bool.{cases_Bool, false≢true, and_parts}
 use Rattle.std.proofs.lemmas.Bool.Decides.{nat_tests}
 use Rattle.cam_types.specs.declared.number.BufferId.{BufferId}
 use Rattle.cam_types.specs.declared.number.FenceNo.{FenceNo}
@@ -21,14 +21,14 @@ use Rattle.trace_model.specs.Laws.{FencesOnce, early_buffers, late_after_early, 
 use Rattle.trace_model.specs.Legal.{IsLegal}
 use Rattle.trace_model.specs.Numbers.{next_early}
 use Rattle.trace_model.specs.Open.{all_settled, early_fences, is_metadata_ended, is_open, is_returned, is_settled}
-use Rattle.trace_model.proofs.Basics.{and_parts}
 use Rattle.trace_bounds.proofs.Shapes.{early-is, late-is, release-there}
 use Rattle.buffer_laws.proofs.Fences.{by_number, by_other, fences_released_once, fences_signalled_later, is_one, one_equals, signalled-once}
 use Rattle.buffer_laws.proofs.Home.{each-home}
-use Rattle.buffer_laws.proofs.Lists.{all-where, count-one, count-over, found-any, none-counted, one-of, some-counted, some-where-counted}
 use Rattle.buffer_laws.proofs.Once.{out-not-returned}
 use Rattle.buffer_laws.proofs.Returns.{ComesBack, early-back, failed-back, filled-back}
 use Rattle.buffer_laws.proofs.Sends.{not-the-next, out-sent, send-number}
+use Rattle.basic_lemmas.proofs.Counts.{count-one, count-over, none-counted, some-counted, some-where-counted, one-of}
+use Rattle.basic_lemmas.proofs.Lists.{all-where, found-any}
 
 -- ---- what an early return leaves
 

@@ -1,7 +1,7 @@
 -- Fences are released once, under numbers that rise by one, and signalled once, later.
 use Rattle.std.proofs.Common.{◌≡◌, ℕ, ◌==◌, ◌+◌, ◌<◌, ◌≤◌, Bool, true, false, ◌&&◌, not, List, [], ◌∷◌, Some, refl, arith, inl, inr, count_by, nat_lt, if◌then◌else◌}
 use Rattle.std.specs.List.{list_all}
-use Rattle.std.proofs.lemmas.Bool.{cases_Bool, false≢true}
+use Rattle.std.proofs.lemmas.Bool.{cases_Bool, false≢true, and_parts}
 use Rattle.std.proofs.lemmas.Bool.Decides.{nat_tests}
 use Rattle.cam_types.specs.declared.number.FenceNo.{FenceNo}
 use Rattle.cam_types.specs.declared.script.Script.{Script}
@@ -14,9 +14,10 @@ use Rattle.trace_model.specs.Laws.{signals_after_release}
 use Rattle.trace_model.specs.Legal.{IsLegal}
 use Rattle.trace_model.specs.Numbers.{next_fence}
 use Rattle.trace_model.specs.Release.{signal_due}
-use Rattle.trace_model.proofs.Basics.{and_parts}
 use Rattle.trace_bounds.proofs.Shapes.{release-is, signal-is}
-use Rattle.buffer_laws.proofs.Lists.{all-where, count-one, count-over, none-counted, some-counted, some-where-counted, one-of, where-given}
+use Rattle.basic_lemmas.proofs.Counts.{count-one, count-over, none-counted, some-counted, some-where-counted, one-of}
+use Rattle.basic_lemmas.proofs.Lists.{all-where}
+use Rattle.basic_lemmas.proofs.Tests.{given-where}
 
 -- ---- releases
 
@@ -91,7 +92,7 @@ fences_released_once script past legal =
 
 not_yet : (past : List Entry) (f : FenceNo) → signal_due past f.0 ≡ Some (Signal f) → is_signalled f.0 past ≡ false
 not_yet past f h =
-    let given = where-given (nat_lt f.0 (next_fence past) && not (is_signalled f.0 past)) (Signal (record { 0 = f.0 })) (Signal f) h in
+    let given = given-where (nat_lt f.0 (next_fence past) && not (is_signalled f.0 past)) (Signal (record { 0 = f.0 })) (Signal f) h in
     is_false (is_signalled f.0 past) (and_parts (nat_lt f.0 (next_fence past)) (not (is_signalled f.0 past)) given.0).1
   where
     is_false : (b : Bool) → not b ≡ true → b ≡ false

@@ -1,7 +1,7 @@
 -- A buffer of a frame comes back at most once; in a complete run, once.
 use Rattle.std.proofs.Common.{◌≡◌, ℕ, ◌==◌, ◌≤◌, Bool, true, false, ◌&&◌, not, List, [], ◌∷◌, Some, refl, sym, arith, inl, inr, count_by}
 use Rattle.std.specs.List.{list_all, list_any}
-use Rattle.std.proofs.lemmas.Bool.{cases_Bool, false≢true}
+use Rattle.std.proofs.lemmas.Bool.{cases_Bool, false≢true, and_parts}
 use Rattle.std.proofs.lemmas.Bool.Decides.{nat_tests}
 use Rattle.cam_types.specs.Four.{four_list}
 use Rattle.cam_types.specs.declared.script.Script.{Script}
@@ -9,16 +9,16 @@ use Rattle.trace_model.specs.declared.entry.Entry.{Entry}
 use Rattle.trace_model.specs.declared.entry.Entry.TheVariants.{Send, Filled, Failed, Release, Early}
 use Rattle.trace_model.specs.declared.entry.Sent.{Sent}
 use Rattle.trace_model.specs.Complete.{IsComplete}
-use Rattle.trace_model.specs.Entry.{brings, names, returns, sends}
+use Rattle.trace_model.specs.Entry.{brings, names, returns_target, sends}
 use Rattle.trace_model.specs.Fence.{is_late}
 use Rattle.trace_model.specs.Frames.{frames, is_sent, target_of, targets_of}
 use Rattle.trace_model.specs.Legal.{IsLegal}
 use Rattle.trace_model.specs.Open.{all_settled, early_fences, is_metadata_ended, is_open, is_returned, is_settled}
 use Rattle.trace_model.specs.Place.{is_at_device_by}
-use Rattle.trace_model.proofs.Basics.{and_parts}
-use Rattle.buffer_laws.proofs.Lists.{all-where, all-where-both, any-behind, any-where, count-one, count-over, none-counted, one-of, some-counted}
 use Rattle.buffer_laws.proofs.Returns.{ComesBack, early-back, filled-back, failed-back}
 use Rattle.buffer_laws.proofs.Sends.{frames-sent, holds, is_with, not-the-next, out-before, out-sent, out-target, send-number}
+use Rattle.basic_lemmas.proofs.Lists.{any-behind, all-where, all-where-both, any-where}
+use Rattle.basic_lemmas.proofs.Counts.{count-one, count-over, none-counted, some-counted, one-of}
 
 -- ---- what came back was sent
 
@@ -32,17 +32,17 @@ pub returned-sent : (script : Script) (past : List Entry) (n s : ℕ) → IsLega
 returned-sent script [] n s legal h = absurd (false≢true h)
 returned-sent script (Send m r i same targets ∷ past) n s legal h = any-behind (sends n) (Send m r i same targets) past (returned-sent script past n s legal.1 h)
 returned-sent script (Filled m u c f d ∷ past) n s legal h =
-    elim (cases_Bool (returns n s (Filled m u c f d))) [
+    elim (cases_Bool (returns_target n s (Filled m u c f d))) [
       | inl own ↦ of_frame past m.0 u.0 n s own (out-sent past m.0 u.0 c.0 (filled-back script past m u c f d legal.0).out)
       | inr other ↦ (let h' = rw other at h in returned-sent script past n s legal.1 h')
     ]
 returned-sent script (Failed m u c f ∷ past) n s legal h =
-    elim (cases_Bool (returns n s (Failed m u c f))) [
+    elim (cases_Bool (returns_target n s (Failed m u c f))) [
       | inl own ↦ of_frame past m.0 u.0 n s own (out-sent past m.0 u.0 c.0 (failed-back past m u c f legal.0).out)
       | inr other ↦ (let h' = rw other at h in returned-sent script past n s legal.1 h')
     ]
 returned-sent script (Early m u c d ∷ past) n s legal h =
-    elim (cases_Bool (returns n s (Early m u c d))) [
+    elim (cases_Bool (returns_target n s (Early m u c d))) [
       | inl own ↦ of_frame past m.0 u.0 n s own (out-sent past m.0 u.0 c.0 (early-back script past m u c d legal.0).out)
       | inr other ↦ (let h' = rw other at h in returned-sent script past n s legal.1 h')
     ]
@@ -140,19 +140,19 @@ once_more p e past first before =
       | inr other ↦ (let over = count-over p e past other in omega (arith, over, before))
     ]
 
-pub returned-at-most-once : (script : Script) (past : List Entry) (n s : ℕ) → IsLegal script past → count_by (returns n s) past ≤ 1
+pub returned-at-most-once : (script : Script) (past : List Entry) (n s : ℕ) → IsLegal script past → count_by (returns_target n s) past ≤ 1
 returned-at-most-once script [] n s legal = omega arith
 returned-at-most-once script (Filled m u c f d ∷ past) n s legal =
-    once_more (returns n s) (Filled m u c f d) past (λ own. not_before script past m.0 u.0 c.0 n s legal.1 (filled-back script past m u c f d legal.0) own) (returned-at-most-once script past n s legal.1)
+    once_more (returns_target n s) (Filled m u c f d) past (λ own. not_before script past m.0 u.0 c.0 n s legal.1 (filled-back script past m u c f d legal.0) own) (returned-at-most-once script past n s legal.1)
 returned-at-most-once script (Failed m u c f ∷ past) n s legal =
-    once_more (returns n s) (Failed m u c f) past (λ own. not_before script past m.0 u.0 c.0 n s legal.1 (failed-back past m u c f legal.0) own) (returned-at-most-once script past n s legal.1)
+    once_more (returns_target n s) (Failed m u c f) past (λ own. not_before script past m.0 u.0 c.0 n s legal.1 (failed-back past m u c f legal.0) own) (returned-at-most-once script past n s legal.1)
 returned-at-most-once script (Early m u c d ∷ past) n s legal =
-    once_more (returns n s) (Early m u c d) past (λ own. not_before script past m.0 u.0 c.0 n s legal.1 (early-back script past m u c d legal.0) own) (returned-at-most-once script past n s legal.1)
+    once_more (returns_target n s) (Early m u c d) past (λ own. not_before script past m.0 u.0 c.0 n s legal.1 (early-back script past m u c d legal.0) own) (returned-at-most-once script past n s legal.1)
 returned-at-most-once script (e ∷ past) n s legal = returned-at-most-once script past n s legal.1
 
 -- ---- once
 
-brings_returns : (n s : ℕ) (e : Entry) → brings n s e ≡ true → returns n s e ≡ true
+brings_returns : (n s : ℕ) (e : Entry) → brings n s e ≡ true → returns_target n s e ≡ true
 brings_returns n s (Filled m t b f d) h = h
 brings_returns n s (Failed m t b f) h = h
 brings_returns n s e h = absurd (false≢true h)
@@ -165,13 +165,13 @@ early-returned n s (Early m t b d ∷ past) p h =
       | inl own ↦ rw own refl
       | inr other ↦ (let h' = rw other at h in rw other (early-returned n s past p h'))
     ]
-early-returned n s (e ∷ past) p h = any-behind (returns n s) e past (early-returned n s past p h)
+early-returned n s (e ∷ past) p h = any-behind (returns_target n s) e past (early-returned n s past p h)
 
 -- what the device is done with came back
 pub settled-returned : (n s : ℕ) (past : List Entry) → is_settled n s past ≡ true → is_returned n s past ≡ true
 settled-returned n s past h =
     elim (cases_Bool (list_any (brings n s) past)) [
-      | inl back ↦ any-where (brings n s) (returns n s) past (brings_returns n s) back
+      | inl back ↦ any-where (brings n s) (returns_target n s) past (brings_returns n s) back
       | inr no' ↦ (let h' = rw no' at h in early-returned n s past (λ d. is_late d past) h')
     ]
 
@@ -184,13 +184,13 @@ when_closed false ended back h k = absurd (false≢true h)
 
 -- each buffer of the frame came back once
 abbrev pub is_returned_once : List Entry → ℕ → Bool
-is_returned_once past n = list_all (λ t. count_by (returns n t.stream.0) past == 1) (targets_of n past)
+is_returned_once past n = list_all (λ t. count_by (returns_target n t.stream.0) past == 1) (targets_of n past)
 
 frame_returned : (script : Script) (past : List Entry) (n : ℕ) → IsLegal script past → is_sent n past ≡ true → not (is_open n past) ≡ true → is_returned_once past n ≡ true
 frame_returned script past n legal sent closed =
     let all : all_settled n past ≡ true = when_closed (is_sent n past) (is_metadata_ended n past) (all_settled n past) sent closed in
-    all-where {X = Sent} (λ t. is_settled n t.stream.0 past) (λ t. count_by (returns n t.stream.0) past == 1) (targets_of n past)
-    (λ t done. one-of (count_by (returns n t.stream.0) past) (some-counted (returns n t.stream.0) past (settled-returned n t.stream.0 past done)) (returned-at-most-once script past n t.stream.0 legal)) all
+    all-where {X = Sent} (λ t. is_settled n t.stream.0 past) (λ t. count_by (returns_target n t.stream.0) past == 1) (targets_of n past)
+    (λ t done. one-of (count_by (returns_target n t.stream.0) past) (some-counted (returns_target n t.stream.0) past (settled-returned n t.stream.0 past done)) (returned-at-most-once script past n t.stream.0 legal)) all
 
 pub buffers_ended_once : (script : Script) (past : List Entry) → IsComplete script past → list_all (is_returned_once past) (frames past) ≡ true
 buffers_ended_once script past complete =

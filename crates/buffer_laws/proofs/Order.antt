@@ -1,13 +1,13 @@
 -- Filled buffers of one stream come in the order of frames: a frame that was passed over lets later ones pass for good.
 use Rattle.std.proofs.Common.{◌≡◌, ℕ, ◌==◌, Bool, true, false, ◌&&◌, ◌||◌, not, List, [], ◌∷◌, refl, sym, ◌∙◌, arith, inl, inr, nat_lt}
 use Rattle.std.specs.List.{list_all, list_any}
-use Rattle.std.proofs.lemmas.Bool.{cases_Bool, false≢true}
+use Rattle.std.proofs.lemmas.Bool.{cases_Bool, false≢true, and_parts}
 use Rattle.std.proofs.lemmas.Bool.Decides.{nat_tests}
 use Rattle.cam_types.specs.declared.reply.Reply.TheVariants.{Configured}
 use Rattle.cam_types.specs.declared.script.Script.{Script}
 use Rattle.trace_model.specs.declared.entry.Entry.{Entry}
 use Rattle.trace_model.specs.declared.entry.Entry.TheVariants.{Call, Send, Filled, Early}
-use Rattle.trace_model.specs.Entry.{is_error_buffer, is_error_request, returns}
+use Rattle.trace_model.specs.Entry.{is_error_buffer, is_error_request, returns_target}
 use Rattle.trace_model.specs.Faults.{buffer_fault, request_fault}
 use Rattle.trace_model.specs.Filled.{lets_pass}
 use Rattle.trace_model.specs.Frames.{each_earlier, frames, has_error_request, has_target, is_sent, targets_of}
@@ -15,11 +15,10 @@ use Rattle.trace_model.specs.Laws.{delivers_below, delivers_in_order}
 use Rattle.trace_model.specs.Legal.{IsLegal}
 use Rattle.trace_model.specs.Numbers.{next_number}
 use Rattle.trace_model.specs.Open.{has_error_buffer, is_returned}
-use Rattle.trace_model.proofs.Basics.{and_parts}
-use Rattle.buffer_laws.proofs.Lists.{any-behind, any-where, found-any}
 use Rattle.buffer_laws.proofs.Once.{out-not-returned, returned-sent}
 use Rattle.buffer_laws.proofs.Returns.{ComesBack, ComesFilled, early-back, early-well, filled-back, filled-well}
 use Rattle.buffer_laws.proofs.Sends.{out-sent, send-number, sent-below}
+use Rattle.basic_lemmas.proofs.Lists.{any-behind, any-where, found-any}
 
 -- ---- filled buffers
 
@@ -32,13 +31,13 @@ fills m s _ = false
 abbrev pub was_filled : ℕ → ℕ → List Entry → Bool
 was_filled m s past = list_any (fills m s) past
 
-fills_and_returns : (m s : ℕ) (e : Entry) → fills m s e ≡ true → returns m s e ≡ true
+fills_and_returns : (m s : ℕ) (e : Entry) → fills m s e ≡ true → returns_target m s e ≡ true
 fills_and_returns m s (Filled k t b f d) h = h
 fills_and_returns m s (Early k t b d) h = h
 fills_and_returns m s e h = absurd (false≢true h)
 
 filled_returned : (m s : ℕ) (past : List Entry) → was_filled m s past ≡ true → is_returned m s past ≡ true
-filled_returned m s past h = any-where (fills m s) (returns m s) past (fills_and_returns m s) h
+filled_returned m s past h = any-where (fills m s) (returns_target m s) past (fills_and_returns m s) h
 
 -- ---- what lets pass does so for good
 
@@ -55,7 +54,7 @@ passes_more true false false false r' b' q' one two three h = absurd (false≢tr
 keeps_passing : (e : Entry) (past : List Entry) (s n : ℕ) → has_target n s (e ∷ past) ≡ has_target n s past → lets_pass past s n ≡ true → lets_pass (e ∷ past) s n ≡ true
 keeps_passing e past s n same h =
     rw same (passes_more (has_target n s past) (is_returned n s past) (has_error_buffer n s past) (has_error_request n past) (is_returned n s (e ∷ past)) (has_error_buffer n s (e ∷ past)) (has_error_request n (e ∷ past))
-    (any-behind (returns n s) e past) (any-behind (is_error_buffer n s) e past) (any-behind (is_error_request n) e past) h)
+    (any-behind (returns_target n s) e past) (any-behind (is_error_buffer n s) e past) (any-behind (is_error_request n) e past) h)
 
 -- what holds of each earlier frame holds of one that was sent
 earlier_one : (k n : ℕ) (p : ℕ → Bool) (past : List Entry) → each_earlier k p past ≡ true → is_sent n past ≡ true → nat_lt n k ≡ true → p n ≡ true

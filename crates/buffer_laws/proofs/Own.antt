@@ -1,7 +1,7 @@
 -- A buffer at the device is one of the configuration's.
 use Rattle.std.proofs.Common.{◌≡◌, ℕ, zero, suc, ◌==◌, ◌+◌, ◌<◌, ◌≤◌, true, ◌&&◌, List, [], ◌∷◌, Option, Some, None, refl, arith, inl, inr, slice_get}
 use Rattle.std.specs.List.{list_any, range_with_len}
-use Rattle.std.proofs.lemmas.Bool.{cases_Bool, false≢true}
+use Rattle.std.proofs.lemmas.Bool.{cases_Bool, false≢true, and_from}
 use Rattle.std.proofs.lemmas.Bool.Decides.{nat_tests}
 use Rattle.cam_types.specs.Four.{four_list}
 use Rattle.cam_types.specs.declared.reply.Made.{Made}
@@ -13,20 +13,12 @@ use Rattle.trace_model.specs.Configuration.{is_buffer, is_made, made, numbers_of
 use Rattle.trace_model.specs.Entry.{names}
 use Rattle.trace_model.specs.Legal.{IsLegal}
 use Rattle.trace_model.specs.Place.{Device, is_at, is_at_device_by, last_naming, place, place_after, sends_with}
-use Rattle.trace_model.proofs.Basics.{and_from}
 use Rattle.trace_bounds.proofs.Shapes.{found-passes}
 use Rattle.trace_bounds.proofs.StreamLemmas.{at-device-own}
-use Rattle.buffer_laws.proofs.Lists.{any-behind}
+use Rattle.basic_lemmas.proofs.Lists.{any-behind}
+use Rattle.basic_lemmas.proofs.Ranges.{in-range}
 
 -- ---- the numbers of what was made
-
-in_range : (a n b : ℕ) → list_any (λ c. c == b) (range_with_len a n) ≡ true → (a ≤ b) × (b < a + n)
-in_range a zero b h = absurd (false≢true h)
-in_range a (suc n) b h =
-    elim (cases_Bool (a == b)) [
-      | inl here ↦ (let same : a ≡ b = grind (arith, nat_tests) in (omega (arith, same), omega (arith, same)))
-      | inr no' ↦ (let h' = rw no' at h in let ih = in_range (a + 1) n b h' in (omega (arith, ih.0), omega (arith, ih.1)))
-    ]
 
 made_by_range : (m : Made) (b : ℕ) → (m.first.0 ≤ b) × (b < m.first.0 + m.count) → is_made b m ≡ true
 made_by_range m b l =
@@ -39,7 +31,7 @@ made_at ms s b None at h = absurd (false≢true h)
 made_at [] s b (Some m) at h = absurd (cc)
 made_at (x ∷ ms) zero b (Some m) at h =
     let same : x ≡ m = cc in
-    let own : is_made b m ≡ true = made_by_range m b (in_range m.first.0 m.count b h) in
+    let own : is_made b m ≡ true = made_by_range m b (in-range m.first.0 m.count b h) in
     rw (same, own) refl
 made_at (x ∷ ms) (suc s) b (Some m) at h =
     let ih = made_at ms s b (Some m) at h in

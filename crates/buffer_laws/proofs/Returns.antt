@@ -14,9 +14,9 @@ use Rattle.trace_model.specs.Filled.{early_due, filled_due, is_sound, lets_pass,
 use Rattle.trace_model.specs.Frames.{each_earlier, has_error_request, has_shutter, target_of}
 use Rattle.trace_model.specs.Open.{has_error_buffer}
 use Rattle.trace_model.specs.Place.{is_at_device_by}
-use Rattle.trace_model.proofs.Basics.{and_parts}
 use Rattle.trace_bounds.proofs.Shapes.{early-is, filled-is}
-use Rattle.buffer_laws.proofs.Lists.{where-given}
+use Rattle.std.proofs.lemmas.Bool.{and_parts}
+use Rattle.basic_lemmas.proofs.Tests.{given-where}
 
 -- a buffer that comes back: the one that the frame was sent with for the stream, and still at the device by that send
 pub record ComesBack (past : List Entry) (n s b : ℕ) : Type 0 where
@@ -83,7 +83,7 @@ failed_back : (past : List Entry) (m u : ℕ) (o : Option Sent) (n : FrameNo) (s
 failed_back past m u None n s b f at h = absurd (cc)
 failed_back past m u (Some t) n s b f at h =
     let error = has_error_request m past || has_error_buffer m u past in
-    let given = where-given (is_at_device_by m u t.buffer.0 past && error) (Failed (record { 0 = m }) (record { 0 = u }) t.buffer (fence_left t.fence past)) (Failed n s b f) h in
+    let given = given-where (is_at_device_by m u t.buffer.0 past && error) (Failed (record { 0 = m }) (record { 0 = u }) t.buffer (fence_left t.fence past)) (Failed n s b f) h in
     let out = and_parts (is_at_device_by m u t.buffer.0 past) error given.0 in
     let same = failed_buffer (record { 0 = m }) n (record { 0 = u }) s t.buffer b (fence_left t.fence past) f given.1 in
     back_with past m u b.0 t at (rw same refl) out.0

@@ -1,7 +1,7 @@
 -- What it says of a frame that it was sent: its number, its streams, and the buffers of it that are still at the device.
 use Rattle.std.proofs.Common.{◌≡◌, ℕ, ◌==◌, ◌+◌, Bool, true, false, ◌&&◌, not, List, [], ◌∷◌, Option, Some, None, refl, sym, arith, inl, inr, nat_lt, filter, find, take}
 use Rattle.std.specs.List.{list_all, list_any}
-use Rattle.std.proofs.lemmas.Bool.{cases_Bool, false≢true}
+use Rattle.std.proofs.lemmas.Bool.{cases_Bool, false≢true, and_parts}
 use Rattle.std.proofs.lemmas.Bool.Decides.{nat_tests}
 use Rattle.cam_types.specs.Four.{four_list}
 use Rattle.cam_types.specs.declared.four.Four.{Four}
@@ -14,15 +14,17 @@ use Rattle.trace_model.specs.Frames.{frames, is_sent, target_of}
 use Rattle.trace_model.specs.Legal.{IsLegal}
 use Rattle.trace_model.specs.Numbers.{next_number}
 use Rattle.trace_model.specs.Place.{is_at_device_by, sends_with}
-use Rattle.trace_model.specs.Queue.{Next, next}
+use Rattle.trace_model.specs.Queue.{next}
+use Rattle.cam_types.specs.declared.request.Queued.{Queued}
 use Rattle.trace_model.specs.Send.{are_streams, fits_next, may_send, targets_in_order}
-use Rattle.trace_model.proofs.Basics.{and_parts}
 use Rattle.trace_model.proofs.LawLemmas.{goes}
-use Rattle.buffer_laws.proofs.Lists.{all-where, any-behind, count-one}
+use Rattle.basic_lemmas.proofs.Lists.{any-behind, all-where}
+use Rattle.basic_lemmas.proofs.Counts.{count-one}
+use Rattle.basic_lemmas.proofs.Tests.{lt-more}
 
 -- ---- numbers of sends
 
-number_by : (script : Script) (past : List Entry) (o : Option Next) (n r i : ℕ) (same : Bool) (targets : Four Sent) → fits_next script past o n r i same targets ≡ true → n ≡ next_number past
+number_by : (script : Script) (past : List Entry) (o : Option Queued) (n r i : ℕ) (same : Bool) (targets : Four Sent) → fits_next script past o n r i same targets ≡ true → n ≡ next_number past
 number_by script past None n r i same targets h = absurd (false≢true h)
 number_by script past (Some w) n r i same targets h = (goes script past w n r i same targets h).number
 
@@ -31,9 +33,6 @@ send-number script past = number_by script past (next script past)
 
 abbrev pub IsBelow : ℕ → List Entry → Type 0
 IsBelow n past = nat_lt n (next_number past) ≡ true
-
-more_numbers : (n k m : ℕ) → m ≡ 1 + k → nat_lt n k ≡ true → nat_lt n m ≡ true
-more_numbers n k m next low = grind (arith, nat_tests, next, low)
 
 newest_number : (n j k m : ℕ) → j ≡ k → m ≡ 1 + k → (j == n) ≡ true → nat_lt n m ≡ true
 newest_number n j k m number next same = grind (arith, nat_tests, number, next, same)
@@ -45,11 +44,11 @@ sent-below script (Send m r i same targets ∷ past) n legal h =
     let more = count-one is_numbering (Send m r i same targets) past refl in
     elim (cases_Bool (m.0 == n)) [
       | inl here ↦ newest_number n m.0 (next_number past) (next_number (Send m r i same targets ∷ past)) (send-number script past m.0 r.0 i same targets legal.0) more here
-      | inr no' ↦ (let h' = rw no' at h in more_numbers n (next_number past) (next_number (Send m r i same targets ∷ past)) more (sent-below script past n legal.1 h'))
+      | inr no' ↦ (let h' = rw no' at h in lt-more n (next_number past) (next_number (Send m r i same targets ∷ past)) more (sent-below script past n legal.1 h'))
     ]
 sent-below script (Dropped m r i ∷ past) n legal h =
     let more = count-one is_numbering (Dropped m r i) past refl in
-    more_numbers n (next_number past) (next_number (Dropped m r i ∷ past)) more (sent-below script past n legal.1 h)
+    lt-more n (next_number past) (next_number (Dropped m r i ∷ past)) more (sent-below script past n legal.1 h)
 sent-below script (e ∷ past) n legal h = sent-below script past n legal.1 h
 
 -- so the next to be sent wasn't sent before
@@ -142,7 +141,7 @@ one_for_stream s b (t ∷ targets) (u ∷ streams) are distinct any =
     same_stream : (t u s : ℕ) → (t == u) ≡ true → (t == s) ≡ true → u ≡ s
     same_stream t u s h k = grind (arith, nat_tests, h, k)
 
-by_item : (script : Script) (past : List Entry) (o : Option Next) (n r i : ℕ) (same : Bool) (targets : Four Sent) (s b : ℕ) → fits_next script past o n r i same targets ≡ true → list_any (is_with s b) (four_list targets) ≡ true → holds b (find (λ t. t.stream.0 == s) (four_list targets)) ≡ true
+by_item : (script : Script) (past : List Entry) (o : Option Queued) (n r i : ℕ) (same : Bool) (targets : Four Sent) (s b : ℕ) → fits_next script past o n r i same targets ≡ true → list_any (is_with s b) (four_list targets) ≡ true → holds b (find (λ t. t.stream.0 == s) (four_list targets)) ≡ true
 by_item script past None n r i same targets s b h any = absurd (false≢true h)
 by_item script past (Some w) n r i same targets s b h any =
     one_for_stream s b (four_list targets) (targets_in_order w.item) (goes script past w n r i same targets h).streams (distinct_kept (λ u. list_any (λ t. t == u) (take w.item.targets.count w.item.targets.list)) (0 ∷ (1 ∷ (2 ∷ (3 ∷ [])))) refl) any

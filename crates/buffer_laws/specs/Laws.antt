@@ -3,7 +3,7 @@ use Rattle.std.specs.List.{list_all}
 use Rattle.cam_types.specs.declared.script.Script.{Script}
 use Rattle.trace_model.specs.declared.entry.Entry.{Entry}
 use Rattle.trace_model.specs.Complete.{IsComplete, released}
-use Rattle.trace_model.specs.Entry.{releases_fence, returns}
+use Rattle.trace_model.specs.Entry.{releases_fence, returns_target}
 use Rattle.trace_model.specs.Frames.{frames, targets_of}
 use Rattle.trace_model.specs.Laws.{ConservesBuffers, FencesOnce, delivers_in_order, signals_after_release}
 use Rattle.trace_model.specs.Legal.{IsLegal}
@@ -27,11 +27,11 @@ SignalsOnce script past = IsComplete script past → FencesOnce past
 
 -- in a legal run no buffer of a frame comes back twice; in a complete one each comes back once
 abbrev pub ReturnsAtMostOnce : Script → List Entry → Type 0
-ReturnsAtMostOnce script past = IsLegal script past → (n s : ℕ) → count_by (returns n s) past ≤ 1
+ReturnsAtMostOnce script past = IsLegal script past → (n s : ℕ) → count_by (returns_target n s) past ≤ 1
 
 abbrev pub ReturnsOnce : Script → List Entry → Type 0
 ReturnsOnce script past =
-    IsComplete script past → IsTrue (list_all (λ n. list_all (λ t. count_by (returns n t.stream.0) past == 1) (targets_of n past)) (frames past))
+    IsComplete script past → IsTrue (list_all (λ n. list_all (λ t. count_by (returns_target n t.stream.0) past == 1) (targets_of n past)) (frames past))
 
 -- in a legal run the filled buffers of each stream come in the order of frames
 abbrev pub DeliversInOrder : Script → List Entry → Type 0

@@ -7,7 +7,7 @@ use Rattle.cam_types.specs.Script.{awaited_by}
 use Rattle.cam_types.specs.declared.script.Command.{Command}
 use Rattle.cam_types.specs.declared.script.Command.TheVariants.{Configure, Once, Close}
 use Rattle.cam_types.specs.declared.script.Script.{Script}
-use Rattle.trace_model.specs.Reply.{is_configure}
+use Rattle.trace_model.specs.Reply.{is_configure_command}
 use Rattle.service_core.specs.First.{queued_by}
 use Rattle.service_core.specs.RawScripts.{is_raw_command, is_raw_script, are_raw_commands}
 use Rattle.camera_top.specs.Counting.{is_once}
@@ -41,5 +41,5 @@ pub bounded : (script : Script) → is_raw_script script ≡ true → Bounded sc
 bounded script h =
     let a = and_parts (length script.faults == 0) ((length script.picks == 0) && are_raw_commands script.commands) h in
     let b = and_parts (length script.picks == 0) (are_raw_commands script.commands) a.1 in
-    let c = and_parts (list_all is_raw_command script.commands) (nat_le (count_by is_configure script.commands) 1) b.1 in
+    let c = and_parts (list_all is_raw_command script.commands) (nat_le (count_by is_configure_command script.commands) 1) b.1 in
     of-commands script.commands c.0

@@ -2,8 +2,8 @@ use Rattle.std.specs.Prelude.{◌≡◌, ℕ, Bool, true, false, ◌&&◌, ◌�
 use Rattle.std.specs.Option.{option_map}
 use Rattle.cam_types.specs.declared.four.Four.{Four}
 use Rattle.cam_types.specs.declared.row.TargetView.{TargetView}
-use Rattle.cam_types.specs.declared.row.Verdict.{Verdict}
-use Rattle.cam_types.specs.declared.row.Verdict.TheVariants.{Request, Parts, Nothing}
+use Rattle.cam_types.specs.declared.row.RowVerdict.{RowVerdict}
+use Rattle.cam_types.specs.declared.row.RowVerdict.TheVariants.{Request, Parts, Nothing}
 use Rattle.error_notify.specs.declared.entry.ErrorEntry.{ErrorEntry}
 use Rattle.error_notify.specs.declared.entry.ErrorEntry.TheVariants.{Request as WholeRequest, Result as LostMetadata, Buffer as LostBuffer}
 
@@ -44,20 +44,20 @@ lost_buffer s = LostBuffer (record { 0 = s })
 
 -- the next error: that of the whole request alone; else that of the metadata, if its turn has come; else that of the
 -- least stream
-abbrev pub next_due : Four TargetView → Verdict → Bool → Option ErrorEntry
+abbrev pub next_due : Four TargetView → RowVerdict → Bool → Option ErrorEntry
 next_due targets Request may_end = Some WholeRequest
 next_due targets (Parts metadata buffers) may_end =
     if metadata && may_end then Some LostMetadata else option_map lost_buffer (least (missing_streams buffers targets))
 next_due targets Nothing may_end = None
 
 -- none of the errors that the verdict names may be told: that of the metadata waits for its turn, and no buffer is named
-abbrev pub IsNothingDue : Four TargetView → Verdict → Bool → Type 0
+abbrev pub IsNothingDue : Four TargetView → RowVerdict → Bool → Type 0
 IsNothingDue targets Request may_end = ⊥
 IsNothingDue targets (Parts metadata buffers) may_end = ((metadata && may_end) ≡ false) × (missing_streams buffers targets ≡ [])
 IsNothingDue targets Nothing may_end = Unit {0}
 
 -- the verdict names the stream's buffer, and none of a stream below it
-abbrev pub IsLeastNamed : ℕ → Four TargetView → Verdict → Type 0
+abbrev pub IsLeastNamed : ℕ → Four TargetView → RowVerdict → Type 0
 IsLeastNamed s targets Request = ⊥
 IsLeastNamed s targets (Parts metadata buffers) = IsLeast s (missing_streams buffers targets)
 IsLeastNamed s targets Nothing = ⊥

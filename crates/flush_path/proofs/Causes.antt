@@ -4,8 +4,8 @@ use Rattle.cam_types.specs.declared.four.Four.{Four}
 use Rattle.cam_types.specs.declared.row.RowFaults.{RowFaults}
 use Rattle.cam_types.specs.declared.row.RowView.{RowView}
 use Rattle.cam_types.specs.declared.row.TargetView.{TargetView}
-use Rattle.cam_types.specs.declared.row.Verdict.{Verdict}
-use Rattle.cam_types.specs.declared.row.Verdict.TheVariants.{Request, Parts, Nothing}
+use Rattle.cam_types.specs.declared.row.RowVerdict.{RowVerdict}
+use Rattle.cam_types.specs.declared.row.RowVerdict.TheVariants.{Request, Parts, Nothing}
 use Rattle.flush_path.specs.Due.{fails_in_part, fails_whole, has_fault, is_all_said, is_awaited, is_awaited_at, is_bare, is_cut_short, is_some_true, is_true_at, misses_at, misses_metadata, missing_buffers, verdict_of}
 
 -- where a stop cuts the frame short, each buffer that the client waits for is missing
@@ -27,7 +27,7 @@ no-part true = refl
 no-part false = refl
 
 -- nothing is due where nothing is missing
-nothing-due : (whole part metadata buffers : Bool) (parts : Verdict) → whole ≡ false → metadata ≡ false → buffers ≡ false → cond whole Request (cond (part && (metadata || buffers)) parts Nothing) ≡ Nothing
+nothing-due : (whole part metadata buffers : Bool) (parts : RowVerdict) → whole ≡ false → metadata ≡ false → buffers ≡ false → cond whole Request (cond (part && (metadata || buffers)) parts Nothing) ≡ Nothing
 nothing-due whole part metadata buffers parts w m b = rw (w, m, b, no-part part) refl
 
 -- and the other way round

@@ -5,8 +5,8 @@ use Rattle.cam_types.specs.declared.row.RowView.{RowView}
 use Rattle.cam_types.specs.declared.row.TargetState.{TargetState}
 use Rattle.cam_types.specs.declared.row.TargetState.TheVariants.{ReturnedEarly, EarlyFilled, ReturnedOk, ReturnedFailed}
 use Rattle.cam_types.specs.declared.row.TargetView.{TargetView}
-use Rattle.cam_types.specs.declared.row.Verdict.{Verdict}
-use Rattle.cam_types.specs.declared.row.Verdict.TheVariants.{Request, Parts, Nothing}
+use Rattle.cam_types.specs.declared.row.RowVerdict.{RowVerdict}
+use Rattle.cam_types.specs.declared.row.RowVerdict.TheVariants.{Request, Parts, Nothing}
 
 -- The errors that are due for an open frame (camera3.h, S6 and flush, points 2 and 3). A capture that failed whole has
 -- ERROR_REQUEST and no other error. Of a capture of which something came, ERROR_RESULT names the metadata that won't
@@ -85,7 +85,7 @@ abbrev pub is_some_true : Four Bool → Bool
 is_some_true four = is_true_at four.a || (is_true_at four.b || (is_true_at four.c || is_true_at four.d))
 
 -- the errors that are due
-abbrev pub verdict_of : RowView → RowFaults → Verdict
+abbrev pub verdict_of : RowView → RowFaults → RowVerdict
 verdict_of row faults =
     if fails_whole row faults then Request else
     (if fails_in_part row faults && (misses_metadata row faults || is_some_true (missing_buffers row faults))

@@ -3,7 +3,7 @@
 ghost use Rattle.std.specs.Prelude.{◌≡◌, false, true, IsSome, IsTrue};
 ghost use Rattle.cam_types.specs.declared.row.RowFaults.{RowFaults as SomeFaults};
 ghost use Rattle.cam_types.specs.declared.row.RowView.{RowView as ARow};
-ghost use Rattle.cam_types.specs.declared.row.Verdict.TheVariants.{Nothing};
+ghost use Rattle.cam_types.specs.declared.row.RowVerdict.TheVariants.{Nothing};
 ghost use Rattle.flush_path.specs.Due.{has_fault, is_all_said, verdict_of};
 
 /// A frame that has no fault and that nothing stopped has no error.

@@ -12,10 +12,12 @@ use Rattle.trace_model.specs.Client.{is_empty}
 use Rattle.trace_model.specs.Complete.{IsComplete}
 use Rattle.trace_model.specs.Entry.{takes}
 use Rattle.trace_model.specs.Legal.{IsLegal}
-use Rattle.trace_model.specs.Queue.{Waiting, is_taken, submitted}
+use Rattle.trace_model.specs.Queue.{is_taken, submitted}
+use Rattle.cam_types.specs.declared.request.WaitingItem.{WaitingItem}
 use Rattle.trace_bounds.proofs.FrameLemmas.{drop-of, send-of, takes_it}
-use Rattle.frame_laws.proofs.Lists.{all-of-both, counts-once}
 use Rattle.frame_laws.proofs.Submitted.{is_settled, not-repeating-before, settled}
+use Rattle.basic_lemmas.proofs.Lists.{all-where-both}
+use Rattle.basic_lemmas.proofs.Counts.{counts-once}
 
 -- ---- what is taken of the queue wasn't taken before
 
@@ -33,7 +35,7 @@ same_item (Dropped n p k) r i q j a b =
     (sym (eqb-true p.0 r one.0) ∙ eqb-true p.0 q two.0, sym (eqb-true k i one.1) ∙ eqb-true k j two.1)
 same_item _ r i q j a b = absurd (false≢true a)
 
-first_taken : (e : Entry) (past : List Entry) (r i : ℕ) (xs : List Waiting) → list_any (takes_it e) (filter (λ w. not (is_taken past w)) xs) ≡ true → takes r i e ≡ true → list_any (takes r i) past ≡ false
+first_taken : (e : Entry) (past : List Entry) (r i : ℕ) (xs : List WaitingItem) → list_any (takes_it e) (filter (λ w. not (is_taken past w)) xs) ≡ true → takes r i e ≡ true → list_any (takes r i) past ≡ false
 first_taken e past r i [] any it = absurd (false≢true any)
 first_taken e past r i (w ∷ xs) any it =
     elim (cases_Bool (is_taken past w)) [
@@ -71,7 +73,7 @@ taken-counted script (e ∷ past) r i legal once = taken-counted script past r i
 
 -- ---- nothing is left
 
-all_taken : (past : List Entry) (xs : List Waiting) → is_empty (filter (λ w. not (is_taken past w)) xs) ≡ true → list_all (is_taken past) xs ≡ true
+all_taken : (past : List Entry) (xs : List WaitingItem) → is_empty (filter (λ w. not (is_taken past w)) xs) ≡ true → list_all (is_taken past) xs ≡ true
 all_taken past [] h = refl
 all_taken past (w ∷ xs) h =
     elim (cases_Bool (is_taken past w)) [
@@ -79,7 +81,7 @@ all_taken past (w ∷ xs) h =
       | inr free ↦ (let h' = rw free at h in absurd (false≢true h'))
     ]
 
-taken_once : (script : Script) (past : List Entry) (w : Waiting) → IsLegal script past → is_settled script past w ≡ true → is_taken past w ≡ true → (count_by (takes w.request w.index) past == 1) ≡ true
+taken_once : (script : Script) (past : List Entry) (w : WaitingItem) → IsLegal script past → is_settled script past w ≡ true → is_taken past w ≡ true → (count_by (takes w.request w.index) past == 1) ≡ true
 taken_once script past w legal settled' taken =
     let parts = and_parts (nat_lt w.request (request_count past)) (not (is_repeating script past w.request)) settled' in
     let once = not-true (is_repeating script past w.request) parts.1 in
@@ -87,7 +89,7 @@ taken_once script past w legal settled' taken =
 
 pub items_once : (script : Script) (past : List Entry) → IsComplete script past → list_all (λ w. count_by (takes w.request w.index) past == 1) (submitted script past) ≡ true
 items_once script past complete =
-    all-of-both (is_settled script past) (is_taken past) (λ w. count_by (takes w.request w.index) past == 1) (submitted script past)
+    all-where-both (is_settled script past) (is_taken past) (λ w. count_by (takes w.request w.index) past == 1) (submitted script past)
     (λ w settled' taken. taken_once script past w complete.legal settled' taken)
     (settled script past complete.legal)
     (all_taken past (submitted script past) complete.queue)

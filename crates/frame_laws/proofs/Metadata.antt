@@ -2,7 +2,7 @@
 -- a result error asks that the metadata of each earlier frame has.
 use Rattle.std.proofs.Common.{◌≡◌, ℕ, ◌==◌, Bool, true, false, ◌&&◌, ◌||◌, not, List, [], ◌∷◌, Some, refl, sym, ◌∙◌, count_by, if◌then◌else◌}
 use Rattle.std.specs.List.{list_any, list_all}
-use Rattle.std.proofs.lemmas.Bool.{and_parts, eqb-true, false≢true, not-true}
+use Rattle.std.proofs.lemmas.Bool.{and_parts, eqb-true, false≢true, not-true, or_parts}
 use Rattle.cam_types.specs.declared.number.FrameNo.{FrameNo}
 use Rattle.cam_types.specs.declared.part.Part.{Part}
 use Rattle.cam_types.specs.declared.script.Script.{Script}
@@ -10,7 +10,7 @@ use Rattle.trace_model.specs.declared.entry.Entry.{Entry}
 use Rattle.trace_model.specs.declared.entry.Entry.TheVariants.{Partial, ErrorRequest, ErrorResult}
 use Rattle.trace_model.specs.Allowed.{IsAllowed}
 use Rattle.trace_model.specs.Complete.{IsComplete}
-use Rattle.trace_model.specs.Entry.{is_error_of, is_error_request, is_error_result, is_part, is_partial, returns_any}
+use Rattle.trace_model.specs.Entry.{is_error_of, is_error_request, is_error_result, is_part, is_partial, returns_of_frame}
 use Rattle.trace_model.specs.Errors.{error_request_due, error_result_due, is_cut_short, may_fail_in_part, may_fail_request, may_fail_result}
 use Rattle.trace_model.specs.Faults.{request_fault, result_fault}
 use Rattle.trace_model.specs.Frames.{each_earlier, frames, has_error, has_error_request, has_shutter, is_sent}
@@ -18,27 +18,20 @@ use Rattle.trace_model.specs.Laws.{ends_metadata}
 use Rattle.trace_model.specs.Legal.{IsLegal}
 use Rattle.trace_model.specs.Open.{all_settled, has_error_result, has_part, has_something, is_metadata_ended, is_open}
 use Rattle.trace_model.specs.Stopping.{is_stopped}
-use Rattle.frame_laws.proofs.Lists.{all-of-both, any-less, counts-once, neither, or-alone, where-given}
+use Rattle.frame_laws.proofs.Lists.{where-given}
 use Rattle.frame_laws.proofs.Parts.{HaveEnded, part-first, part-is}
 use Rattle.frame_laws.proofs.Sends.{all-sent}
 use Rattle.frame_laws.proofs.Shutters.{no-request}
+use Rattle.basic_lemmas.proofs.Tests.{or-alone, or-crossed-three}
+use Rattle.basic_lemmas.proofs.Lists.{any-less, all-where-both}
+use Rattle.basic_lemmas.proofs.Counts.{counts-once}
 
 -- ---- the metadata ended where some entry ends it
-
-by_entry : (x a y b z c : Bool) → ((x || a) || ((y || b) || (z || c))) ≡ ((x || (y || z)) || (a || (b || c)))
-by_entry true a y b z c = refl
-by_entry false true true b z c = refl
-by_entry false true false b true c = refl
-by_entry false true false b false c = refl
-by_entry false false true b z c = refl
-by_entry false false false true true c = refl
-by_entry false false false true false c = refl
-by_entry false false false false z c = refl
 
 pub ended-by : (n : ℕ) (past : List Entry) → list_any (ends_metadata n) past ≡ is_metadata_ended n past
 ended-by n [] = refl
 ended-by n (e ∷ past) =
-    rw (ended-by n past) (sym (by_entry (is_part n 3 e) (has_part n 3 past) (is_error_result n e) (has_error_result n past) (is_error_request n e) (has_error_request n past)))
+    rw (ended-by n past) (sym (or-crossed-three (is_part n 3 e) (has_part n 3 past) (is_error_result n e) (has_error_result n past) (is_error_request n e) (has_error_request n past)))
 
 -- ---- an error that is due
 
@@ -71,8 +64,8 @@ result_is_error n _ h = absurd (false≢true h)
 -- nothing of it came, so its metadata hasn't ended
 not_ended : (n : ℕ) (past : List Entry) → has_something n past ≡ false → is_metadata_ended n past ≡ false
 not_ended n past h =
-    let first = neither (list_any (is_partial n) past) (list_any (returns_any n) past || has_error n past) h in
-    let second = neither (list_any (returns_any n) past) (has_error n past) first.1 in
+    let first = or_parts (list_any (is_partial n) past) (list_any (returns_of_frame n) past || has_error n past) h in
+    let second = or_parts (list_any (returns_of_frame n) past) (has_error n past) first.1 in
     let part = any-less (is_partial n) (is_part n 3) past (part_is_partial n) first.0 in
     let result = any-less (is_error_of n) (is_error_result n) past (result_is_error n) second.1 in
     let request = no-request n past second.1 in
@@ -126,4 +119,4 @@ quiet_ended n past sent quiet =
 -- in a complete run each frame has ended its metadata
 pub all-ended : (script : Script) (past : List Entry) → IsComplete script past → list_all (λ n. list_any (ends_metadata n) past) (frames past) ≡ true
 all-ended script past complete =
-    all-of-both (λ n. is_sent n past) (λ n. not (is_open n past)) (λ n. list_any (ends_metadata n) past) (frames past) (λ n sent quiet. quiet_ended n past sent quiet) (all-sent past) complete.open_frames
+    all-where-both (λ n. is_sent n past) (λ n. not (is_open n past)) (λ n. list_any (ends_metadata n) past) (frames past) (λ n sent quiet. quiet_ended n past sent quiet) (all-sent past) complete.open_frames

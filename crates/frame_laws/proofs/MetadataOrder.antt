@@ -14,11 +14,12 @@ use Rattle.trace_model.specs.Frames.{is_sent}
 use Rattle.trace_model.specs.Laws.{ends_below, ends_in_order, ends_metadata, ends_result_of}
 use Rattle.trace_model.specs.Legal.{IsLegal}
 use Rattle.trace_model.specs.Open.{is_metadata_ended}
-use Rattle.frame_laws.proofs.Lists.{any-more, any-weaker, or-alone}
 use Rattle.frame_laws.proofs.Metadata.{ended-by, ends-open, result-fails}
 use Rattle.frame_laws.proofs.Parts.{HaveEnded, part-is}
 use Rattle.frame_laws.proofs.Sends.{each-at, sent-before}
 use Rattle.frame_laws.proofs.Shutters.{shutter-sent}
+use Rattle.basic_lemmas.proofs.Tests.{or-alone}
+use Rattle.basic_lemmas.proofs.Lists.{any-behind, any-where}
 
 -- a last part is of the frame
 last_part : (m k n : ℕ) → (((m == n) && (k == 3)) || false) ≡ true → (m ≡ n) × (k ≡ 3)
@@ -29,7 +30,7 @@ last_part m k n h =
 -- what has a last part or a result error was sent
 pub result-sent : (script : Script) (past : List Entry) (m : ℕ) → IsLegal script past → list_any (ends_result_of m) past ≡ true → is_sent m past ≡ true
 result-sent script [] m legal h = absurd (false≢true h)
-result-sent script (Send n r i same targets ∷ past) m legal h = any-more (sends m) (Send n r i same targets) past (result-sent script past m legal.1 h)
+result-sent script (Send n r i same targets ∷ past) m legal h = any-behind (sends m) (Send n r i same targets) past (result-sent script past m legal.1 h)
 result-sent script (Partial j k part ∷ past) m legal h =
     elim (cases_Bool (ends_result_of m (Partial j k part))) [
       | inl here ↦ (
@@ -60,7 +61,7 @@ result-below script (Send j r i same targets ∷ past) n m legal h less sent =
     let sent' = sent-before script past n m j.0 r.0 i same targets legal.1 legal.0 (result-sent script past m legal.1 h) less sent in
     result-below script past n m legal.1 h less sent'
 result-below script (Partial j k part ∷ past) n m legal h less sent =
-    any-more (ends_metadata n) (Partial j k part) past (
+    any-behind (ends_metadata n) (Partial j k part) past (
     elim (cases_Bool (ends_result_of m (Partial j k part))) [
       | inl here ↦ (
           let last = last_part j.0 k m here in
@@ -70,13 +71,13 @@ result-below script (Partial j k part ∷ past) n m legal h less sent =
     ]
     )
 result-below script (ErrorResult j ∷ past) n m legal h less sent =
-    any-more (ends_metadata n) (ErrorResult j) past (
+    any-behind (ends_metadata n) (ErrorResult j) past (
     elim (cases_Bool (j.0 == m)) [
       | inl here ↦ ended_at j.0 n m past (result-fails script past j legal.0).earlier (eqb-true j.0 m here) less sent
       | inr other ↦ (let h' = rw other at h in result-below script past n m legal.1 h' less sent)
     ]
     )
-result-below script (e ∷ past) n m legal h less sent = any-more (ends_metadata n) e past (result-below script past n m legal.1 h less sent)
+result-below script (e ∷ past) n m legal h less sent = any-behind (ends_metadata n) e past (result-below script past n m legal.1 h less sent)
 
 result_ends : (n : ℕ) (e : Entry) → ends_result_of n e ≡ true → ends_metadata n e ≡ true
 result_ends n e h = more (is_part n 3 e) (is_error_result n e) (is_error_request n e) h
@@ -93,7 +94,7 @@ above_all script past e n m legal may ends sent had =
     elim (cases_order m n) [
       | inl at ↦ (
           let had' = rw at at had in
-          absurd (both_ways (list_any (ends_metadata n) past) still (any-weaker (ends_result_of n) (ends_metadata n) past (result_ends n) had'))
+          absurd (both_ways (list_any (ends_metadata n) past) still (any-where (ends_result_of n) (ends_metadata n) past (result_ends n) had'))
           )
       | inr order ↦ elim order [
         | inl less ↦ less
@@ -104,7 +105,7 @@ above_all script past e n m legal may ends sent had =
 all_below : (n : ℕ) (past : List Entry) → ((m : ℕ) → list_any (ends_result_of m) past ≡ true → m < n) → list_all (ends_below n) past ≡ true
 all_below n [] each = refl
 all_below n (Partial m k part ∷ past) each =
-    let rest = all_below n past (λ i h. each i (any-more (ends_result_of i) (Partial m k part) past h)) in
+    let rest = all_below n past (λ i h. each i (any-behind (ends_result_of i) (Partial m k part) past h)) in
     elim (cases_Bool (k == 3)) [
       | inl last ↦ (
           let here : list_any (ends_result_of m.0) (Partial m k part ∷ past) ≡ true = rw (eq-eqb m.0 m.0 refl, last) refl in
@@ -114,7 +115,7 @@ all_below n (Partial m k part ∷ past) each =
     ]
 all_below n (ErrorResult m ∷ past) each =
     let here : list_any (ends_result_of m.0) (ErrorResult m ∷ past) ≡ true = rw (eq-eqb m.0 m.0 refl) refl in
-    let rest = all_below n past (λ i h. each i (any-more (ends_result_of i) (ErrorResult m) past h)) in
+    let rest = all_below n past (λ i h. each i (any-behind (ends_result_of i) (ErrorResult m) past h)) in
     rw (lt-ltb m.0 n (each m.0 here)) rest
 all_below n (e ∷ past) each = all_below n past each
 

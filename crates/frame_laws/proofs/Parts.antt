@@ -16,8 +16,8 @@ use Rattle.trace_model.specs.Legal.{IsLegal}
 use Rattle.trace_model.specs.Open.{has_error_result, has_part, is_metadata_ended}
 use Rattle.trace_model.specs.Partial.{may_part, part_count, part_of, partial_due}
 use Rattle.trace_model.proofs.LawLemmas.{parts-shape}
-use Rattle.trace_bounds.proofs.Counts.{count-cons}
-use Rattle.frame_laws.proofs.Lists.{all-always, counts-once}
+use Rattle.basic_lemmas.proofs.Lists.{all-always}
+use Rattle.basic_lemmas.proofs.Counts.{counts-once, count-cons}
 
 -- ---- a part that is due
 

@@ -11,13 +11,14 @@ use Rattle.trace_model.specs.Entry.{is_numbering, sends}
 use Rattle.trace_model.specs.Frames.{each_earlier, frames, is_sent}
 use Rattle.trace_model.specs.Legal.{IsLegal}
 use Rattle.trace_model.specs.Numbers.{next_number}
-use Rattle.trace_model.specs.Queue.{Next, next}
+use Rattle.trace_model.specs.Queue.{next}
+use Rattle.cam_types.specs.declared.request.Queued.{Queued}
 use Rattle.trace_model.specs.Send.{fits_next, may_send}
 use Rattle.trace_model.proofs.LawLemmas.{goes}
-use Rattle.trace_bounds.proofs.Counts.{count-cons}
-use Rattle.frame_laws.proofs.Lists.{all-weaker, any-more}
+use Rattle.basic_lemmas.proofs.Lists.{any-behind, all-where}
+use Rattle.basic_lemmas.proofs.Counts.{count-cons}
 
-number_of_next : (script : Script) (past : List Entry) (o : Option Next) (n r i : ℕ) (same : Bool) (targets : Four Sent) → fits_next script past o n r i same targets ≡ true → n ≡ next_number past
+number_of_next : (script : Script) (past : List Entry) (o : Option Queued) (n r i : ℕ) (same : Bool) (targets : Four Sent) → fits_next script past o n r i same targets ≡ true → n ≡ next_number past
 number_of_next script past None n r i same targets h = absurd (false≢true h)
 number_of_next script past (Some w) n r i same targets h = (goes script past w n r i same targets h).number
 
@@ -70,6 +71,6 @@ pub all-sent : (past : List Entry) → list_all (λ n. is_sent n past) (frames p
 all-sent [] = refl
 all-sent (Send j r i same targets ∷ past) =
     let one = eq-eqb j.0 j.0 refl in
-    let rest = all-weaker (λ n. is_sent n past) (λ n. is_sent n (Send j r i same targets ∷ past)) (frames past) (λ n h. any-more (sends n) (Send j r i same targets) past h) (all-sent past) in
+    let rest = all-where (λ n. is_sent n past) (λ n. is_sent n (Send j r i same targets ∷ past)) (frames past) (λ n h. any-behind (sends n) (Send j r i same targets) past h) (all-sent past) in
     rw (one, rest) refl
 all-sent (e ∷ past) = all-sent past

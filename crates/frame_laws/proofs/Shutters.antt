@@ -2,7 +2,7 @@
 -- is before the next time.
 use Rattle.std.proofs.Common.{◌≡◌, ℕ, ◌==◌, ◌+◌, ◌<◌, ◌≤◌, Bool, true, false, ◌&&◌, ◌||◌, not, List, [], ◌∷◌, Some, refl, arith, inl, inr, max, nat_lt}
 use Rattle.std.specs.List.{list_all}
-use Rattle.std.proofs.lemmas.Bool.{and_from, and_parts, both_ways, cases_Bool, cases_order, eq-eqb, eqb-true, false≢true, lt-ltb, ltb-true}
+use Rattle.std.proofs.lemmas.Bool.{and_from, and_parts, both_ways, cases_Bool, cases_order, eq-eqb, eqb-true, false≢true, lt-ltb, ltb-true, or_right}
 use Rattle.cam_types.specs.declared.number.FrameNo.{FrameNo}
 use Rattle.cam_types.specs.declared.script.Script.{Script}
 use Rattle.trace_model.specs.declared.entry.Entry.{Entry}
@@ -15,8 +15,8 @@ use Rattle.trace_model.specs.Legal.{IsLegal}
 use Rattle.trace_model.specs.Shutter.{may_expose, next_time, shutter_due}
 use Rattle.trace_model.specs.Stopping.{is_stopping}
 use Rattle.trace_bounds.proofs.Shapes.{found-passes, shutter-is}
-use Rattle.frame_laws.proofs.Lists.{any-less, any-more, or-right}
 use Rattle.frame_laws.proofs.Sends.{each-at, sent-before}
+use Rattle.basic_lemmas.proofs.Lists.{any-behind, any-less}
 
 -- ---- what is exposed
 
@@ -48,7 +48,7 @@ no-request n past h = any-less (is_error_of n) (is_error_request n) past (reques
 -- what has a shutter was sent
 pub shutter-sent : (script : Script) (past : List Entry) (m : ℕ) → IsLegal script past → has_shutter m past ≡ true → is_sent m past ≡ true
 shutter-sent script [] m legal h = absurd (false≢true h)
-shutter-sent script (Send n r i same targets ∷ past) m legal h = any-more (sends m) (Send n r i same targets) past (shutter-sent script past m legal.1 h)
+shutter-sent script (Send n r i same targets ∷ past) m legal h = any-behind (sends m) (Send n r i same targets) past (shutter-sent script past m legal.1 h)
 shutter-sent script (Shutter n time ∷ past) m legal h =
     elim (cases_Bool (n.0 == m)) [
       | inl here ↦ (let sent = (exposed script past n time legal.0).0 in rw (eqb-true n.0 m here) at sent)
@@ -62,7 +62,7 @@ one_more_shutter false b c h = h
 
 one_more_request : (a b c : Bool) → (b || c) ≡ true → (b || (a || c)) ≡ true
 one_more_request a true c h = refl
-one_more_request a false c h = or-right a c h
+one_more_request a false c h = or_right a c h
 
 -- a sent frame below one that has a shutter has one too, or failed whole
 pub shutter-below : (script : Script) (past : List Entry) (n m : ℕ) → IsLegal script past → has_shutter m past ≡ true → n < m → is_sent n past ≡ true → (has_shutter n past || has_error_request n past) ≡ true
@@ -137,7 +137,7 @@ all_before n time (Shutter m t ∷ past) each times =
     let parts = and_parts (nat_lt t time) (list_all (is_earlier time) past) times in
     let here : has_shutter m.0 (Shutter m t ∷ past) ≡ true = rw (eq-eqb m.0 m.0 refl) refl in
     let less = lt-ltb m.0 n (each m.0 here) in
-    let rest = all_before n time past (λ k h. each k (any-more (is_shutter k) (Shutter m t) past h)) parts.1 in
+    let rest = all_before n time past (λ k h. each k (any-behind (is_shutter k) (Shutter m t) past h)) parts.1 in
     rw (less, parts.0, rest) refl
 all_before n time (e ∷ past) each times = all_before n time past each times
 

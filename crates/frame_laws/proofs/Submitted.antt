@@ -15,12 +15,13 @@ use Rattle.trace_model.specs.declared.entry.Entry.TheVariants.{Call}
 use Rattle.trace_model.specs.Calls.{command_at, command_of, is_repeat, is_repeating, is_submission, request_count}
 use Rattle.trace_model.specs.Client.{call_due}
 use Rattle.trace_model.specs.Legal.{IsLegal}
-use Rattle.trace_model.specs.Queue.{Waiting, named, puts, queued_items, submitted}
+use Rattle.trace_model.specs.Queue.{named, puts, queued_items, submitted}
+use Rattle.cam_types.specs.declared.request.WaitingItem.{WaitingItem}
 use Rattle.trace_model.specs.Reply.{acceptance, refusal, reply_with}
 use Rattle.trace_bounds.proofs.Calls.{call-is}
-use Rattle.trace_bounds.proofs.Counts.{count-cons}
 use Rattle.trace_bounds.proofs.Refusals.{refuses, refusal-refuses}
-use Rattle.frame_laws.proofs.Lists.{all-append, all-weaker}
+use Rattle.basic_lemmas.proofs.Lists.{all-where, all-append}
+use Rattle.basic_lemmas.proofs.Counts.{count-cons}
 
 -- ---- the numbers of requests
 
@@ -72,10 +73,10 @@ not-repeating-before script past i w q r legal may h =
 -- ---- what was submitted doesn't repeat
 
 -- the item's request was accepted, and isn't a repeating one
-abbrev pub is_settled : Script → List Entry → Waiting → Bool
+abbrev pub is_settled : Script → List Entry → WaitingItem → Bool
 is_settled script past w = nat_lt w.request (request_count past) && not (is_repeating script past w.request)
 
-stays_settled : (script : Script) (past : List Entry) (i : ℕ) (word : Word) (q : RequestId) (w : Waiting) → q.0 ≡ request_count past → is_settled script past w ≡ true → is_settled script (Call i word (Submitted q) ∷ past) w ≡ true
+stays_settled : (script : Script) (past : List Entry) (i : ℕ) (word : Word) (q : RequestId) (w : WaitingItem) → q.0 ≡ request_count past → is_settled script past w ≡ true → is_settled script (Call i word (Submitted q) ∷ past) w ≡ true
 stays_settled script past i word q w number h =
     let parts = and_parts (nat_lt w.request (request_count past)) (not (is_repeating script past w.request)) h in
     let less = ltb-true w.request (request_count past) parts.0 in
@@ -84,7 +85,7 @@ stays_settled script past i word q w number h =
     let still : not (is_repeating script (Call i word (Submitted q) ∷ past) w.request) ≡ true = rw other parts.1 in
     and_from (nat_lt w.request (request_count (Call i word (Submitted q) ∷ past))) (not (is_repeating script (Call i word (Submitted q) ∷ past) w.request)) (lt-ltb w.request (request_count (Call i word (Submitted q) ∷ past)) (omega (arith, less, after))) still
 
-now_settled : (script : Script) (past : List Entry) (i : ℕ) (word : Word) (q : RequestId) (w : Waiting) → q.0 ≡ request_count past → is_repeat (command_at script i) ≡ false → w.request ≡ q.0 → is_settled script (Call i word (Submitted q) ∷ past) w ≡ true
+now_settled : (script : Script) (past : List Entry) (i : ℕ) (word : Word) (q : RequestId) (w : WaitingItem) → q.0 ≡ request_count past → is_repeat (command_at script i) ≡ false → w.request ≡ q.0 → is_settled script (Call i word (Submitted q) ∷ past) w ≡ true
 now_settled script past i word q w number once at =
     let after = requests_after past i word q in
     let here : (q.0 == w.request) ≡ true = eq-eqb q.0 w.request (sym at) in
@@ -92,13 +93,13 @@ now_settled script past i word q w number once at =
     and_from (nat_lt w.request (request_count (Call i word (Submitted q) ∷ past))) (not (is_repeating script (Call i word (Submitted q) ∷ past) w.request)) (lt-ltb w.request (request_count (Call i word (Submitted q) ∷ past)) (omega (arith, number, after, at))) still
 
 -- each item of a request has its number
-named_all : (p : Waiting → Bool) (r k : ℕ) (items : List Item) → ((w : Waiting) → w.request ≡ r → p w ≡ true) → list_all p (named r k items) ≡ true
+named_all : (p : WaitingItem → Bool) (r k : ℕ) (items : List Item) → ((w : WaitingItem) → w.request ≡ r → p w ≡ true) → list_all p (named r k items) ≡ true
 named_all p r k [] each = refl
 named_all p r k (item ∷ items) each =
-    let w : Waiting = record { request = r; index = k; item = item } in
+    let w : WaitingItem = record { request = r; index = k; item = item } in
     and_from (p w) (list_all p (named r (k + 1) items)) (each w refl) (named_all p r (k + 1) items each)
 
-new_settled : (p : Waiting → Bool) (r : ℕ) (o : Option Command) → (is_repeat o ≡ false → (w : Waiting) → w.request ≡ r → p w ≡ true) → list_all p (named r 0 (queued_items o)) ≡ true
+new_settled : (p : WaitingItem → Bool) (r : ℕ) (o : Option Command) → (is_repeat o ≡ false → (w : WaitingItem) → w.request ≡ r → p w ≡ true) → list_all p (named r 0 (queued_items o)) ≡ true
 new_settled p r (Some (Once item)) each = named_all p r 0 (item ∷ []) (each refl)
 new_settled p r (Some (Burst items)) each = named_all p r 0 items (each refl)
 new_settled p r o each = refl
@@ -107,8 +108,8 @@ pub settled : (script : Script) (past : List Entry) → IsLegal script past → 
 settled script [] legal = refl
 settled script (Call i word (Submitted q) ∷ past) legal =
     let number = request-number script past i word q legal.0 in
-    let p : Waiting → Bool = is_settled script (Call i word (Submitted q) ∷ past) in
-    let old = all-weaker (is_settled script past) p (submitted script past) (λ w h. stays_settled script past i word q w number h) (settled script past legal.1) in
+    let p : WaitingItem → Bool = is_settled script (Call i word (Submitted q) ∷ past) in
+    let old = all-where (is_settled script past) p (submitted script past) (λ w h. stays_settled script past i word q w number h) (settled script past legal.1) in
     let new = new_settled p q.0 (command_at script i) (λ once w at. now_settled script past i word q w number once at) in
     all-append p (submitted script past) (puts script (Call i word (Submitted q))) old new
 settled script (e ∷ past) legal = rw (append-nil (submitted script past)) (settled script past legal.1)

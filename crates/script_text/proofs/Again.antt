@@ -14,7 +14,7 @@ use Rattle.cam_types.specs.declared.script.Command.{Command}
 use Rattle.cam_types.specs.declared.script.Command.TheVariants as command
 use Rattle.cam_types.specs.declared.script.Fault.{Fault}
 use Rattle.cam_types.specs.declared.script.Script.{Script}
-use Rattle.cam_types.specs.Script.{awaited_by, is_ending}
+use Rattle.cam_types.specs.Script.{awaited_by, is_closing_command}
 use Rattle.script_text.specs.Fits.{targets_fit, item_fits, settings_fit, spec_fits, command_fits, fault_fits, fits}
 use Rattle.script_text.specs.Words.{lines_of, is_printable}
 use Rattle.script_text.specs.Lines.{Line, FaultLine, PickLine, CommandLine, word_text, line_of}
@@ -151,14 +151,14 @@ record FitsCommands (cs : List Command) : Type 0 where
   fit : list_all command_fits cs ≡ true
   few : length cs ≤ 512
   awaited : sum_by awaited_by cs ≤ 16384
-  ends : list_any is_ending cs ≡ true
+  ends : list_any is_closing_command cs ≡ true
 
 -- a front that doesn't end the use is shorter than the whole
-ends-later : (front rest : List Command) → list_any is_ending (front ++ rest) ≡ true → list_any is_ending front ≡ false → 0 < length rest
-ends-later front [] h k = absurd (let e = ap (list_any is_ending) (append-nil front) in cc)
+ends-later : (front rest : List Command) → list_any is_closing_command (front ++ rest) ≡ true → list_any is_closing_command front ≡ false → 0 < length rest
+ends-later front [] h k = absurd (let e = ap (list_any is_closing_command) (append-nil front) in cc)
 ends-later front (c ∷ rest) h k = omega arith
 
-closed-step : (any : Bool) (front rest : List Command) → list_any is_ending front ≡ any → length (front ++ rest) ≤ 512 → list_any is_ending (front ++ rest) ≡ true → length (cond any front (front ++ command.Close ∷ [])) ≤ 512
+closed-step : (any : Bool) (front rest : List Command) → list_any is_closing_command front ≡ any → length (front ++ rest) ≤ 512 → list_any is_closing_command (front ++ rest) ≡ true → length (cond any front (front ++ command.Close ∷ [])) ≤ 512
 closed-step true front rest e l h = omega (arith, length-append front rest)
 closed-step false front rest e l h = omega (arith, length-append front rest, length-append front (command.Close ∷ []), ends-later front rest h e)
 
@@ -166,7 +166,7 @@ closed-step false front rest e l h = omega (arith, length-append front rest, len
 front-counts : (front rest : List Command) → FitsCommands (front ++ rest) → (leb (length (closed front)) 512 ≡ true) × (list_all within front ≡ true) × (leb (sum_by awaited_by front) 16384 ≡ true)
 front-counts front rest f =
     let fit : list_all command_fits front && list_all command_fits rest ≡ true = sym (list_all-append command_fits front rest) ∙ f.fit in (
-      le-leb _ _ (closed-step (list_any is_ending front) front rest refl f.few f.ends),
+      le-leb _ _ (closed-step (list_any is_closing_command front) front rest refl f.few f.ends),
       all-weaker command_fits within command-within front (and_parts _ _ fit).0,
       le-leb _ _ (omega (arith, sum_by-append awaited_by front rest, f.awaited)),
     )
@@ -178,14 +178,14 @@ command-added fs ps cs c rest f p h =
     let counts : counts_within (made fs ps (cs ++ c ∷ [])) ≡ true = and_from _ _ (and_from _ _ f p) (and_from _ _ (and_from _ _ k.0 k.1) k.2) in
     rw counts refl
 
-closed-same : (cs : List Command) → list_any is_ending cs ≡ true → closed cs ≡ cs
+closed-same : (cs : List Command) → list_any is_closing_command cs ≡ true → closed cs ≡ cs
 closed-same cs h = rw h refl
 
 commands-again : (fs : List Fault) (ps : List ℕ) (cs rest : List Command) (n : ℕ) → leb (length fs) 64 ≡ true → leb (length ps) 8192 ≡ true → FitsCommands (cs ++ rest)
     → script_from (Some (made fs ps cs)) n (lines_of (flat_map line_text (map command_line_words rest))) ≡ Ok (made fs ps (cs ++ rest))
 unfolding script_from
 commands-again fs ps cs [] n f p h =
-    let same : closed cs ≡ cs ++ [] = closed-same cs (sym (ap (list_any is_ending) (append-nil cs)) ∙ h.ends) ∙ sym (append-nil cs) in
+    let same : closed cs ≡ cs ++ [] = closed-same cs (sym (ap (list_any is_closing_command) (append-nil cs)) ∙ h.ends) ∙ sym (append-nil cs) in
     ap (λ xs. Ok (made fs ps xs)) same
 commands-again fs ps cs (c ∷ rest) n f p h =
     let regrouped : (cs ++ c ∷ []) ++ rest ≡ cs ++ c ∷ rest = append_assoc cs (c ∷ []) rest in
@@ -220,7 +220,7 @@ text-again s h l =
     let picks = and_parts (leb (length s.picks) 8192) (list_all (λ p. ltb p (2 ^ 32)) s.picks) b.0 in
     let c = and_parts (leb (length s.commands) 512 && list_all command_fits s.commands) _ b.1 in
     let d = and_parts (leb (length s.commands) 512) (list_all command_fits s.commands) c.0 in
-    let e = and_parts (leb (sum_by awaited_by s.commands) 16384) (list_any is_ending s.commands) c.1 in
+    let e = and_parts (leb (sum_by awaited_by s.commands) 16384) (list_any is_closing_command s.commands) c.1 in
     let commands : FitsCommands s.commands = record { fit = d.1; few = leb-true _ _ d.0; awaited = leb-true _ _ e.0; ends = e.1 } in
     let fault_text : List ℕ = flat_map line_text (map fault_words s.faults) in
     let pick_text : List ℕ = flat_map line_text (pick_lines s.picks) in

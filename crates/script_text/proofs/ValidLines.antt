@@ -14,7 +14,7 @@ use Rattle.cam_types.specs.declared.script.Script.{Script}
 use Rattle.cam_types.specs.declared.script.Word.{Word}
 use Rattle.cam_types.specs.declared.script.Word.TheVariants.{Configure, Once, Burst, Repeat, Stop, Wait, Await, Flush, Close, Disconnect}
 use Rattle.cam_types.specs.declared.stream.StreamSpec.{StreamSpec}
-use Rattle.cam_types.specs.Script.{is_ending, awaited_by}
+use Rattle.cam_types.specs.Script.{is_closing_command, awaited_by}
 use Rattle.script_text.specs.Fits.{item_fits, spec_fits, command_fits, fault_fits, fits}
 use Rattle.script_text.specs.declared.cause.Cause.{Cause}
 use Rattle.script_text.specs.declared.cause.Cause.TheVariants.{NotAscii, Version, Limit, FaultAfterCommand}
@@ -227,13 +227,13 @@ unfolding after
 after-fits before line next f h = printable-step (list_all is_printable line) (after_line before (words_of line)) next (after-line-fit before (words_of line) next f) h
 
 -- the added `close`
-closed-cases : (any : Bool) (cs : List Command) → list_any is_ending cs ≡ any → list_all command_fits cs ≡ true →
-    (list_all command_fits (cond any cs (cs ++ command.Close ∷ [])) ≡ true) × (sum_by awaited_by (cond any cs (cs ++ command.Close ∷ [])) ≡ sum_by awaited_by cs) × (list_any is_ending (cond any cs (cs ++ command.Close ∷ [])) ≡ true)
+closed-cases : (any : Bool) (cs : List Command) → list_any is_closing_command cs ≡ any → list_all command_fits cs ≡ true →
+    (list_all command_fits (cond any cs (cs ++ command.Close ∷ [])) ≡ true) × (sum_by awaited_by (cond any cs (cs ++ command.Close ∷ [])) ≡ sum_by awaited_by cs) × (list_any is_closing_command (cond any cs (cs ++ command.Close ∷ [])) ≡ true)
 closed-cases true cs e h = (h, refl, e)
 closed-cases false cs e h = (
   push-passes command_fits cs command.Close h refl,
   sum_by-append awaited_by cs (command.Close ∷ []) ∙ omega arith,
-  list_any-append is_ending cs (command.Close ∷ []) ∙ grind arith,
+  list_any-append is_closing_command cs (command.Close ∷ []) ∙ grind arith,
 )
 
 end-valid : (n : ℕ) (state : Option Script) (s : Script) → state_fits state ≡ true → at_end n state ≡ Ok s → fits s ≡ true
@@ -243,7 +243,7 @@ end-valid n (Some d) s f h =
     let q = and_parts (parts_fit d) (counts_within d) f in
     let a = and_parts (list_all fault_fits d.faults) _ q.0 in
     let b = and_parts (list_all is_u32 d.picks) _ a.1 in
-    let c = closed-cases (list_any is_ending d.commands) d.commands refl b.1 in
+    let c = closed-cases (list_any is_closing_command d.commands) d.commands refl b.1 in
     let counts = q.1 in
     let k : fits (record { faults = d.faults; picks = d.picks; commands = closed d.commands }) ≡ true = grind arith in
     ap fits (sym e) ∙ k

@@ -11,7 +11,7 @@ use Rattle.cam_types.specs.declared.script.Script.{Script}
 use Rattle.cam_types.specs.declared.stream.Format.{Format}
 use Rattle.cam_types.specs.declared.stream.Format.TheVariants.{Raw16, Yuv, Other}
 use Rattle.cam_types.specs.declared.stream.StreamSpec.{StreamSpec}
-use Rattle.cam_types.specs.Script.{awaited_by, is_ending}
+use Rattle.cam_types.specs.Script.{awaited_by, is_closing_command}
 use Rattle.cam_types.specs.Limits.{command_limit, burst_limit, repeat_limit, target_limit, spec_limit, awaited_limit, fault_limit, pick_limit}
 
 -- A valid script whose numbers are also within what their types allow, as those of every script that is there are: a
@@ -94,4 +94,4 @@ fits s =
     (nat_le (length s.faults) fault_limit && list_all fault_fits s.faults)
     && ((nat_le (length s.picks) pick_limit && list_all (λ p. nat_lt p (2 ^ 32)) s.picks)
     && ((nat_le (length s.commands) command_limit && list_all command_fits s.commands)
-    && (nat_le (sum_by awaited_by s.commands) awaited_limit && list_any is_ending s.commands)))
+    && (nat_le (sum_by awaited_by s.commands) awaited_limit && list_any is_closing_command s.commands)))

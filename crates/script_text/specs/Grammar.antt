@@ -5,7 +5,7 @@ use Rattle.cam_types.specs.declared.script.Command.{Command}
 use Rattle.cam_types.specs.declared.script.Command.TheVariants.{Close}
 use Rattle.cam_types.specs.declared.script.Script.{Script}
 use Rattle.cam_types.specs.Limits.{command_limit, awaited_limit, fault_limit}
-use Rattle.cam_types.specs.Script.{awaited_by, is_ending}
+use Rattle.cam_types.specs.Script.{awaited_by, is_closing_command}
 use Rattle.script_text.specs.declared.cause.Cause.{Cause}
 use Rattle.script_text.specs.declared.cause.Cause.TheVariants.{NotAscii, Version, Limit, FaultAfterCommand}
 use Rattle.script_text.specs.declared.cause.ScriptRefused.{ScriptRefused}
@@ -16,7 +16,7 @@ use Rattle.script_text.specs.Within.{within, picks_within}
 
 -- a `close` is added where none, and no `disconnect`, stands
 abbrev pub closed : List Command → List Command
-closed commands = if list_any is_ending commands then commands else commands ++ Close ∷ []
+closed commands = if list_any is_closing_command commands then commands else commands ++ Close ∷ []
 
 abbrev pub empty : Script
 empty = record { faults = []; picks = []; commands = [] }

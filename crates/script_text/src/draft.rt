@@ -2,7 +2,7 @@
 
 ghost use Rattle.std.specs.Prelude.{◌≡◌, IsTrue, IfOk, sum_by};
 ghost use Rattle.std.specs.List.{list_any};
-ghost use Rattle.cam_types.specs.Script.{awaited_by, is_ending};
+ghost use Rattle.cam_types.specs.Script.{awaited_by, is_closing_command};
 ghost use Rattle.script_text.specs.Words.{words_of};
 ghost use Rattle.script_text.specs.Lines.{FaultLine, CommandLine, pick_line};
 ghost use Rattle.script_text.specs.Within.{within};
@@ -25,7 +25,7 @@ pub struct Draft {
     awaited: u64,
     is_closed: bool,
     ghost sums_up: { awaited ≡ sum_by awaited_by script.commands },
-    ghost closes: { is_closed ≡ list_any is_ending script.commands },
+    ghost closes: { is_closed ≡ list_any is_closing_command script.commands },
     ghost counted: { IsTrue (counts_within script) },
 }
 
@@ -40,8 +40,8 @@ fn awaited_by(command: &Command) -> u32
 }
 
 /// Whether a command ends the use of the device.
-fn is_ending(command: &Command) -> bool
-    ensures { result ≡ is_ending command.now }
+fn is_closing_command(command: &Command) -> bool
+    ensures { result ≡ is_closing_command command.now }
 {
     matches!(command, Command::Close | Command::Disconnect)
 }
@@ -115,7 +115,7 @@ impl Draft {
         requires { IsTrue (within command) }
         ensures { GivesBy (λ d. d.script) result (added self.script (CommandLine command)) }
     {
-        let is_closed = self.is_closed || is_ending(&command);
+        let is_closed = self.is_closed || is_closing_command(&command);
         let count = self.script.commands.len() + if is_closed { 1 } else { 2 };
         let awaited = self.awaited + u64::from(awaited_by(&command));
         if count > COMMAND_LIMIT || awaited > AWAITED_LIMIT {

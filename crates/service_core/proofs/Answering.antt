@@ -21,7 +21,8 @@ use Rattle.trace_model.specs.Numbers.{call_count}
 use Rattle.trace_model.specs.Open.{is_quiet}
 use Rattle.trace_model.specs.Place.{all_in_pool, is_at, place}
 use Rattle.trace_model.specs.Place as in_trace
-use Rattle.trace_model.specs.Reply.{item_refusal, or_else, refused, reply, reply_with}
+use Rattle.trace_model.specs.Reply.{reply, reply_with}
+use Rattle.cam_types.specs.Refusals.{refused, or_else, item_refusal}
 use Rattle.trace_model.specs.Stopping.{has_failed}
 use Rattle.service_core.specs.declared.step.StepName.TheVariants.{Client as ClientStep}
 use Rattle.service_core.specs.declared.tables.Place.TheVariants.{Pool}

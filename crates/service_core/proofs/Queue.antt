@@ -6,22 +6,23 @@ use Rattle.std.proofs.lemmas.Bool.Decides.{nat_tests}
 use Rattle.cam_types.specs.declared.script.Script.{Script}
 use Rattle.trace_model.specs.declared.entry.Entry.{Entry}
 use Rattle.trace_model.specs.Client.{is_empty}
-use Rattle.trace_model.specs.Queue.{Waiting, first_in, is_taken, next, queued}
+use Rattle.trace_model.specs.Queue.{first_in, is_taken, next, queued}
+use Rattle.cam_types.specs.declared.request.WaitingItem.{WaitingItem}
 use Rattle.service_core.specs.Fit.{Facts, Fit, item_for, requests_to}
 use Rattle.service_core.proofs.Plain.{nothing-repeats}
 use Rattle.service_core.proofs.RawLemmas.{IsRaw}
 
 -- request r, as it waits
-abbrev pub waiting : Facts → ℕ → Waiting
+abbrev pub waiting : Facts → ℕ → WaitingItem
 waiting t r = record { request = r; index = 0; item = item_for t.items r }
 
 -- the first requests, without those that were taken
-abbrev pub kept : Facts → List Entry → ℕ → List Waiting
+abbrev pub kept : Facts → List Entry → ℕ → List WaitingItem
 kept t past r = filter (λ w. not (is_taken past w)) (requests_to t.items r)
 
 one-more : (script : Script) (past : List Entry) (t : Facts) (r : ℕ) → Fit script past t → kept t past (suc r) ≡ kept t past r ++ (if nat_lt r t.sent then [] else waiting t r ∷ [])
 one-more script past t r fit =
-    filter-append (λ w. not (is_taken past w)) (requests_to t.items r) (waiting t r ∷ []) ∙ ap (λ (ws : List Waiting). kept t past r ++ ws) (one (nat_lt r t.sent) (fit.taken r))
+    filter-append (λ w. not (is_taken past w)) (requests_to t.items r) (waiting t r ∷ []) ∙ ap (λ (ws : List WaitingItem). kept t past r ++ ws) (one (nat_lt r t.sent) (fit.taken r))
   where
     one : (b : Bool) → is_taken past (waiting t r) ≡ b → filter (λ w. not (is_taken past w)) (waiting t r ∷ []) ≡ (if b then [] else waiting t r ∷ [])
     one true h = rw h refl
@@ -33,7 +34,7 @@ none-kept script past t (suc r) fit l =
     let taken : nat_lt r t.sent ≡ true = grind (arith, nat_tests) in
     rw (one-more script past t r fit, taken, none-kept script past t r fit (omega arith)) refl
 
-first-front : (xs ys : List Waiting) (w : Waiting) → first_in xs ≡ Some w → first_in (xs ++ ys) ≡ Some w
+first-front : (xs ys : List WaitingItem) (w : WaitingItem) → first_in xs ≡ Some w → first_in (xs ++ ys) ≡ Some w
 first-front [] ys w h = absurd (cc)
 first-front (x ∷ xs) ys w h = h
 
@@ -55,7 +56,7 @@ kept-length script past t (suc r) fit =
 
 module _ (script : Script) (past : List Entry) (t : Facts) (raw : IsRaw script) (fit : Fit script past t) where
   kept-is : queued script past ≡ kept t past t.requests
-  kept-is = ap (λ (ws : List Waiting). filter (λ w. not (is_taken past w)) ws) fit.submitted
+  kept-is = ap (λ (ws : List WaitingItem). filter (λ w. not (is_taken past w)) ws) fit.submitted
 
   pub queue-empty : t.requests ≤ t.sent → queued script past ≡ []
   queue-empty l = kept-is ∙ none-kept script past t t.requests fit l
@@ -78,6 +79,6 @@ module _ (script : Script) (past : List Entry) (t : Facts) (raw : IsRaw script) 
     | inr m ↦ (let none : nat_lt t.sent t.requests ≡ false = grind (arith, nat_tests) in rw (none, queue-empty m) refl)
   ]
     where
-      nonempty : (ws : List Waiting) → first_in ws ≡ Some (waiting t t.sent) → is_empty ws ≡ false
+      nonempty : (ws : List WaitingItem) → first_in ws ≡ Some (waiting t t.sent) → is_empty ws ≡ false
       nonempty [] h = absurd (cc)
       nonempty (w ∷ ws) h = refl

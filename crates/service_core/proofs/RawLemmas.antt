@@ -13,12 +13,13 @@ use Rattle.cam_types.specs.declared.stream.Format.{Format}
 use Rattle.cam_types.specs.declared.stream.Format.TheVariants.{Raw16, Yuv, Other}
 use Rattle.cam_types.specs.declared.stream.StreamSpec.{StreamSpec}
 use Rattle.trace_model.specs.Calls.{command_at}
-use Rattle.trace_model.specs.Reply.{first_repeated, is_configure, is_raw, item_refusal, or_else, targets_refusal, with_value}
-use Rattle.trace_bounds.proofs.Counts.{count-cons}
+use Rattle.trace_model.specs.Reply.{is_configure_command}
+use Rattle.cam_types.specs.Refusals.{or_else, with_value, first_repeated, targets_refusal, item_refusal, is_raw}
 use Rattle.trace_bounds.proofs.NextFits.{at-all}
 use Rattle.service_core.specs.Fit.{asked, configures_at, configures_if_any, raw_spec}
 use Rattle.service_core.specs.RawScripts.{is_raw_spec, is_raw_alone, is_raw_command, are_raw_commands, is_raw_script}
 use Rattle.service_core.proofs.Lists.{and_parts}
+use Rattle.basic_lemmas.proofs.Counts.{count-cons}
 
 -- what it means that a script is a raw one
 pub record IsRaw (script : Script) : Type 0 where
@@ -58,33 +59,33 @@ specs-are (spec ∷ (other ∷ specs)) h = absurd (false≢true h)
 -- ---- the one configure
 
 -- a command that doesn't configure leaves the count, and one that does raises it
-count-without : (c : Command) (cs : List Command) → is_configure c ≡ false → count_by is_configure (c ∷ cs) ≡ count_by is_configure cs
-count-without c cs h = count-cons is_configure c cs ∙ rw h (omega arith)
+count-without : (c : Command) (cs : List Command) → is_configure_command c ≡ false → count_by is_configure_command (c ∷ cs) ≡ count_by is_configure_command cs
+count-without c cs h = count-cons is_configure_command c cs ∙ rw h (omega arith)
 
-count-with : (c : Command) (cs : List Command) → is_configure c ≡ true → count_by is_configure (c ∷ cs) ≡ 1 + count_by is_configure cs
-count-with c cs h = count-cons is_configure c cs ∙ rw h refl
+count-with : (c : Command) (cs : List Command) → is_configure_command c ≡ true → count_by is_configure_command (c ∷ cs) ≡ 1 + count_by is_configure_command cs
+count-with c cs h = count-cons is_configure_command c cs ∙ rw h refl
 
-none-there : (cs : List Command) (i : ℕ) → count_by is_configure cs ≡ 0 → configures_if_any (slice_get cs i) ≡ false
+none-there : (cs : List Command) (i : ℕ) → count_by is_configure_command cs ≡ 0 → configures_if_any (slice_get cs i) ≡ false
 none-there [] i h = refl
-none-there (c ∷ cs) i h = elim (cases_Bool (is_configure c)) [
+none-there (c ∷ cs) i h = elim (cases_Bool (is_configure_command c)) [
   | inl y ↦ absurd (let e = count-with c cs y in omega (arith, e, h))
   | inr n ↦ at i n (none-there cs) (let e = count-without c cs n in omega (arith, e, h))
 ]
   where
-    at : (i : ℕ) → is_configure c ≡ false → ((j : ℕ) → count_by is_configure cs ≡ 0 → configures_if_any (slice_get cs j) ≡ false) → count_by is_configure cs ≡ 0 → configures_if_any (slice_get (c ∷ cs) i) ≡ false
+    at : (i : ℕ) → is_configure_command c ≡ false → ((j : ℕ) → count_by is_configure_command cs ≡ 0 → configures_if_any (slice_get cs j) ≡ false) → count_by is_configure_command cs ≡ 0 → configures_if_any (slice_get (c ∷ cs) i) ≡ false
     at zero n rest h = n
     at (suc j) n rest h = rest j h
 
-fewer : (c : Command) (cs : List Command) → count_by is_configure (c ∷ cs) ≤ 1 → count_by is_configure cs ≤ 1
-fewer c cs few = elim (cases_Bool (is_configure c)) [
+fewer : (c : Command) (cs : List Command) → count_by is_configure_command (c ∷ cs) ≤ 1 → count_by is_configure_command cs ≤ 1
+fewer c cs few = elim (cases_Bool (is_configure_command c)) [
   | inl y ↦ (let e = count-with c cs y in omega (arith, e, few))
   | inr n ↦ (let e = count-without c cs n in omega (arith, e, few))
 ]
 
-none-behind : (c : Command) (cs : List Command) → count_by is_configure (c ∷ cs) ≤ 1 → is_configure c ≡ true → count_by is_configure cs ≡ 0
+none-behind : (c : Command) (cs : List Command) → count_by is_configure_command (c ∷ cs) ≤ 1 → is_configure_command c ≡ true → count_by is_configure_command cs ≡ 0
 none-behind c cs few y = let e = count-with c cs y in omega (arith, e, few)
 
-only-place : (cs : List Command) (i j : ℕ) → count_by is_configure cs ≤ 1 → configures_if_any (slice_get cs i) ≡ true → configures_if_any (slice_get cs j) ≡ true → i ≡ j
+only-place : (cs : List Command) (i j : ℕ) → count_by is_configure_command cs ≤ 1 → configures_if_any (slice_get cs i) ≡ true → configures_if_any (slice_get cs j) ≡ true → i ≡ j
 only-place [] i j few a b = absurd (false≢true a)
 only-place (c ∷ cs) zero zero few a b = refl
 only-place (c ∷ cs) zero (suc j) few a b = absurd (false≢true (sym (none-there cs j (none-behind c cs few a)) ∙ b))
@@ -95,8 +96,8 @@ pub raw : (script : Script) → is_raw_script script ≡ true → IsRaw script
 raw script h =
     let parts = and_parts (length script.faults == 0) ((length script.picks == 0) && are_raw_commands script.commands) h in
     let parts' = and_parts (length script.picks == 0) (are_raw_commands script.commands) parts.1 in
-    let commands = and_parts (list_all is_raw_command script.commands) (nat_le (count_by is_configure script.commands) 1) parts'.1 in
-    let few : count_by is_configure script.commands ≤ 1 = at-most-one (count_by is_configure script.commands) commands.1 in
+    let commands = and_parts (list_all is_raw_command script.commands) (nat_le (count_by is_configure_command script.commands) 1) parts'.1 in
+    let few : count_by is_configure_command script.commands ≤ 1 = at-most-one (count_by is_configure_command script.commands) commands.1 in
     record {
       faults = empty script.faults parts.0;
       picks = empty script.picks parts'.0;

@@ -10,7 +10,8 @@ use Rattle.cam_types.specs.declared.item.Settings.{Settings}
 use Rattle.cam_types.specs.declared.reply.Reply.{Reply}
 use Rattle.cam_types.specs.declared.reply.Reply.TheVariants.{Submitted, Refused}
 use Rattle.trace_model.specs.Printable.{is_byte, is_small, number_fits}
-use Rattle.trace_model.specs.Reply.{first_repeated, item_refusal, or_else, reply_with, targets_refusal, with_value}
+use Rattle.trace_model.specs.Reply.{reply_with}
+use Rattle.cam_types.specs.Refusals.{or_else, with_value, first_repeated, targets_refusal, item_refusal}
 use Rattle.trace_bounds.specs.Typed.{are_bytes, item_typed}
 use Rattle.trace_bounds.proofs.Printed.{found-all}
 use Rattle.trace_bounds.proofs.RefusedFits.{fits_if_any, refusal_fits}

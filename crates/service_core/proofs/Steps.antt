@@ -10,7 +10,7 @@ use Rattle.cam_types.specs.declared.script.Word.{Word}
 use Rattle.trace_model.specs.declared.entry.Entry.{Entry}
 use Rattle.trace_model.specs.declared.entry.Entry.TheVariants as trace
 use Rattle.trace_model.specs.Allowed.{IsAllowed}
-use Rattle.trace_model.specs.Calls.{begun, command_at, is_waiting, next_command, word_of}
+use Rattle.trace_model.specs.Calls.{begun, command_at, is_waiting_command, next_command, word_of}
 use Rattle.trace_model.specs.Client.{begin_due, begin_of, call_due, call_of, may_answer}
 use Rattle.trace_model.specs.Filled.{filled_due}
 use Rattle.trace_model.specs.Frames.{no_settings}
@@ -18,7 +18,8 @@ use Rattle.trace_model.specs.Numbers.{call_count}
 use Rattle.trace_model.specs.Partial.{partial_due}
 use Rattle.trace_model.specs.Picture.{digest}
 use Rattle.trace_model.specs.Printable.{is_printable}
-use Rattle.trace_model.specs.Reply.{refused, reply}
+use Rattle.trace_model.specs.Reply.{reply}
+use Rattle.cam_types.specs.Refusals.{refused}
 use Rattle.std.specs.List.{list_all}
 use Rattle.cam_types.specs.declared.script.Word.TheVariants.{Once as WordOnce}
 use Rattle.service_core.proofs.Printing.{call-prints, fence-fits, filled-prints, part-fits, release-prints, send-prints, shutter-prints, small-number}
@@ -43,13 +44,13 @@ use Rattle.service_core.specs.Due.{client_of, close_reply, configure_reply, is_h
 use Rattle.service_core.proofs.Answering.{client-is, is-first}
 use Rattle.service_core.proofs.Refusing.{IsRefused, once-kind}
 use Rattle.trace_bounds.specs.Typed.{command_typed}
-use Rattle.trace_bounds.proofs.Counts.{place-within}
 use Rattle.trace_bounds.proofs.NextFits.{at-all}
 use Rattle.service_core.proofs.Due.{release-is, signal-is, shutter-yes, shutter-no, partial-yes, partial-no, filled-yes, filled-no}
 use Rattle.service_core.proofs.FitSteps.{fit-begin, fit-configure, fit-once, fit-close, fit-refused, fit-send, fit-shutter, fit-part, fit-third, fit-filled, fit-release, fit-signal}
 use Rattle.service_core.proofs.Lists.{and_parts, index-within}
 use Rattle.service_core.proofs.RawLemmas.{IsRaw, short-exposure, specs-are}
 use Rattle.service_core.proofs.Sending.{send-yes, send-busy, send-none, send-allowed}
+use Rattle.basic_lemmas.proofs.Counts.{place-within}
 
 if-some : (b : Bool) (x e : Entry) → (if b then Some x else None) ≡ Some e → (b ≡ true) × (x ≡ e)
 if-some true x e h = (refl, cc)
@@ -180,7 +181,7 @@ module _ (script : Script) (past : List Entry) (t : Facts) (raw : IsRaw script) 
 
   begin-shape : (o : Option Command) (e : Entry) → begin_of past o ≡ Some e → (word : Word) × (e ≡ trace.Begin word)
   begin-shape None e h = absurd (cc)
-  begin-shape (Some c) e h = (word_of c, sym (if-some (is_waiting c && not (is_some (begun past))) _ e h).1)
+  begin-shape (Some c) e h = (word_of c, sym (if-some (is_waiting_command c && not (is_some (begun past))) _ e h).1)
 
   call-shape : (o : Option Command) (e : Entry) → call_of script past o ≡ Some e → (i : ℕ) × (word : Word) × (r : Reply) × (e ≡ trace.Call i word r)
   call-shape None e h = absurd (cc)

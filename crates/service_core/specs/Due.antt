@@ -15,7 +15,8 @@ use Rattle.cam_types.specs.declared.script.Word.TheVariants.{Configure as WordCo
 use Rattle.trace_model.specs.declared.entry.Entry.{Entry}
 use Rattle.trace_model.specs.declared.entry.Entry.TheVariants.{Begin, Call, Send, Shutter, Partial, Filled, Release, Signal}
 use Rattle.trace_model.specs.Picture.{digest}
-use Rattle.trace_model.specs.Reply.{item_refusal, or_else, refused, reply_with, where_true}
+use Rattle.trace_model.specs.Reply.{reply_with}
+use Rattle.cam_types.specs.Refusals.{refused, or_else, where_true, item_refusal}
 use Rattle.trace_model.specs.Send.{are_last}
 use Rattle.service_core.specs.declared.step.StepName.{StepName}
 use Rattle.service_core.specs.declared.step.StepName.TheVariants.{Send as StepSend, Release as StepRelease, Signal as StepSignal, Client as StepClient, Shutter as StepShutter, Partial as StepPartial, Deliver as StepDeliver}

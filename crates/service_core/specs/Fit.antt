@@ -29,13 +29,14 @@ use Rattle.trace_model.specs.Open.{has_part, is_returned}
 use Rattle.trace_model.specs.Partial.{part_count}
 use Rattle.trace_model.specs.Place.{place, is_at, is_at_device_by}
 use Rattle.trace_model.specs.Place as in_trace
-use Rattle.trace_model.specs.Queue.{Waiting, submitted}
+use Rattle.trace_model.specs.Queue.{submitted}
+use Rattle.cam_types.specs.declared.request.WaitingItem.{WaitingItem}
 use Rattle.trace_model.specs.Send.{last_settings}
 use Rattle.trace_model.specs.Shutter.{next_time}
 use Rattle.service_core.specs.declared.tables.Place.{Place}
 use Rattle.service_core.specs.declared.tables.Place.TheVariants.{Pool, Device, Client}
 use Rattle.service_core.specs.declared.tables.Tables.{Tables}
-use Rattle.trace_model.specs.Reply.{is_configure}
+use Rattle.trace_model.specs.Reply.{is_configure_command}
 use Rattle.trace_bounds.specs.Typed.{is_typed}
 
 -- That the service's tables say what the definitions say of its trace. Nothing that a user of the service relies on
@@ -210,7 +211,7 @@ where_configured true xs = xs
 where_configured false xs = []
 
 abbrev pub configures_if_any : Option Command → Bool
-configures_if_any (Some command) = is_configure command
+configures_if_any (Some command) = is_configure_command command
 configures_if_any None = false
 
 -- the command at a place, if there is one, configures
@@ -218,7 +219,7 @@ abbrev pub configures_at : Script → ℕ → Bool
 configures_at script i = configures_if_any (command_at script i)
 
 -- the first requests, as they were put into the queue
-abbrev pub requests_to : List Item → ℕ → List Waiting
+abbrev pub requests_to : List Item → ℕ → List WaitingItem
 requests_to items zero = []
 requests_to items (suc r) = requests_to items r ++ record { request = r; index = 0; item = item_for items r } ∷ []
 

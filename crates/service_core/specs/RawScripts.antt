@@ -4,7 +4,8 @@ use Rattle.cam_types.specs.declared.script.Command.{Command}
 use Rattle.cam_types.specs.declared.script.Command.TheVariants.{Configure, Once, Close}
 use Rattle.cam_types.specs.declared.script.Script.{Script}
 use Rattle.cam_types.specs.declared.stream.StreamSpec.{StreamSpec}
-use Rattle.trace_model.specs.Reply.{is_configure, is_raw}
+use Rattle.trace_model.specs.Reply.{is_configure_command}
+use Rattle.cam_types.specs.Refusals.{is_raw}
 
 -- The scripts that the service runs today: of RAW16 pictures of one stream. They have `configure`, `once` and `close` commands in
 -- any order and number, but at most one `configure`, which is of the one stream. The items ask for any streams with any
@@ -26,7 +27,7 @@ is_raw_command _ = false
 
 -- these commands alone, and at most one of them configures
 abbrev pub are_raw_commands : List Command → Bool
-are_raw_commands commands = list_all is_raw_command commands && nat_le (count_by is_configure commands) 1
+are_raw_commands commands = list_all is_raw_command commands && nat_le (count_by is_configure_command commands) 1
 
 -- the script has this form, no faults and no picks
 abbrev pub is_raw_script : Script → Bool

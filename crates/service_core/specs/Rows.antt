@@ -14,7 +14,7 @@ use Rattle.trace_model.specs.declared.entry.Sent.{Sent}
 use Rattle.trace_model.specs.Frames.{frames, send_of, targets_of, shutter_time, settings_of, has_error_request}
 use Rattle.trace_model.specs.Open.{is_open, has_error_result, has_error_buffer}
 use Rattle.trace_model.specs.Partial.{part_count}
-use Rattle.trace_model.specs.Send.{four_of}
+use Rattle.cam_types.specs.Four.{four_of}
 use Rattle.trace_model.specs.Stopping.{is_stopped}
 use Rattle.service_core.specs.declared.step.Move.{Move}
 use Rattle.service_core.specs.History.{trace_of}

@@ -1,6 +1,6 @@
 ghost use Rattle.std.specs.Prelude.{◌≡◌, count_by};
 ghost use Rattle.std.specs.List.{list_all};
-ghost use Rattle.trace_model.specs.Reply.{is_configure};
+ghost use Rattle.trace_model.specs.Reply.{is_configure_command};
 ghost use Rattle.service_core.specs.RawScripts.{are_raw_commands, is_raw_alone, is_raw_command, is_raw_script, is_raw_spec};
 
 use cam_types::{Command, Format, Script, StreamSpec};
@@ -28,16 +28,16 @@ fn are_known(commands: &[Command]) -> bool
 }
 
 fn configure_count(commands: &[Command]) -> usize
-    ensures { result ≡ count_by is_configure commands.now }
+    ensures { result ≡ count_by is_configure_command commands.now }
 {
     commands
         .iter()
-        .filter(|command| is_configure(command))
+        .filter(|command| is_configure_command(command))
         .count()
 }
 
-fn is_configure(command: &Command) -> bool
-    ensures { result ≡ is_configure command.now }
+fn is_configure_command(command: &Command) -> bool
+    ensures { result ≡ is_configure_command command.now }
 {
     matches!(command, Command::Configure(_))
 }

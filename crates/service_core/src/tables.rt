@@ -8,7 +8,7 @@ ghost use Rattle.cam_types.specs.declared.script.Script.{Script as SomeScript};
 ghost use Rattle.cam_types.specs.declared.script.Word.{Word as SomeWord};
 ghost use Rattle.cam_types.specs.declared.stream.StreamSpec.{StreamSpec as SomeSpec};
 ghost use Rattle.trace_model.specs.Calls.{command_at};
-ghost use Rattle.trace_model.specs.Reply.{refused};
+ghost use Rattle.cam_types.specs.Refusals.{refused};
 ghost use Rattle.trace_model.specs.Send.{are_same};
 ghost use Rattle.service_core.specs.Fit.{IsSmall, facts_of, first_facts, is_client, noted, noted_target, once_item, settings_for};
 ghost use Rattle.service_core.specs.Due.{buffer_number, client_of, close_of, close_reply, configure_reply, device_first, fence_number, first_but_send, first_of, has_all_signals, is_deliverable, is_home, is_pool, is_resting, item_reply, mark_for, once_reply, partial_of, passed, queue_refusal_of, release_of, send_of, sent_with, shutter_of, signal_of};

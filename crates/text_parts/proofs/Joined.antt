@@ -11,7 +11,7 @@ use Rattle.text_parts.specs.Cuts.{parts_at, cut_at, in_two}
 use Rattle.text_parts.specs.Lines.{lines_of, line_text}
 use Rattle.text_parts.specs.Words.{loose_words, strict_words, is_plain, is_word}
 use Rattle.text_parts.proofs.Cuts.{lines-cons, parts_some}
-use Rattle.text_parts.proofs.General.{all-append, all-where}
+use Rattle.basic_lemmas.proofs.Lists.{all-append, all-where}
 
 -- ---- what is joined is cut again
 

@@ -1,4 +1,3 @@
-pub mod General
 pub mod Cuts
 pub mod Digits
 pub mod Joined

@@ -11,7 +11,7 @@ use Rattle.std.proofs.lemmas.Fmt.{decimal_nonempty, decimal_digit, first_decimal
 use Rattle.std.proofs.lemmas.Str.Parse.{IsNumeralModel, numerals_by_value, tells_all_ascii_digits}
 use Rattle.text_parts.specs.Numbers.{is_number, number_below}
 use Rattle.text_parts.specs.Words.{is_plain, is_word}
-use Rattle.text_parts.proofs.General.{all-where}
+use Rattle.basic_lemmas.proofs.Lists.{all-where}
 use Rattle.text_parts.proofs.Joined.{avoids, avoids-append, plain-append, word-from}
 
 own : IsNumeralModel (λ ds. all_ascii_digits ds ≡ true) (digits_value 10)

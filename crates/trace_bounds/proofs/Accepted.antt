@@ -1,7 +1,7 @@
 -- The items of accepted requests have settings within their ranges.
 use Rattle.std.proofs.Common.{◌≡◌, ℕ, zero, suc, ◌==◌, ◌+◌, Bool, true, false, ◌&&◌, not, List, [], ◌∷◌, Option, Some, None, refl, inl, inr, length, take, slice_get, nat_le, if◌then◌else◌}
 use Rattle.std.specs.List.{list_all}
-use Rattle.std.proofs.lemmas.Bool.{cases_Bool, false≢true}
+use Rattle.std.proofs.lemmas.Bool.{cases_Bool, false≢true, and_parts}
 use Rattle.cam_types.specs.Metadata.{is_level, is_pattern, is_sensitivity, range_fault}
 use Rattle.cam_types.specs.declared.item.Item.{Item}
 use Rattle.cam_types.specs.declared.item.Settings.{Settings}
@@ -18,8 +18,8 @@ use Rattle.trace_model.specs.Configuration.{streams}
 use Rattle.trace_model.specs.Frames.{item_in, send_of, settings_in, settings_of}
 use Rattle.trace_model.specs.Legal.{IsLegal}
 use Rattle.trace_model.specs.Numbers.{call_count}
-use Rattle.trace_model.specs.Reply.{acceptance, item_refusal, items_refusal, list_refusal, or_else, own_refusal, queue_refusal, refusal, reply_with, state_refusal, targets_refusal, with_value}
-use Rattle.trace_model.proofs.Basics.{and_parts}
+use Rattle.trace_model.specs.Reply.{acceptance, own_refusal, queue_refusal, refusal, reply_with, state_refusal}
+use Rattle.cam_types.specs.Refusals.{or_else, with_value, targets_refusal, item_refusal, items_refusal, list_refusal}
 use Rattle.trace_bounds.proofs.Calls.{by-call}
 use Rattle.trace_bounds.proofs.Refusals.{refuses, refusal-refuses}
 

@@ -3,13 +3,13 @@ use Rattle.std.proofs.Common.{◌≡◌, ℕ, ◌+◌, ◌*◌, ◌≤◌, true,
 use Rattle.std.proofs.Math.Nat.{mul-le-mul_left}
 use Rattle.std.proofs.lemmas.Bool.{false≢true}
 use Rattle.std.proofs.lemmas.List.Sums.{sum_by-cons}
-use Rattle.cam_types.specs.Four.{four_list}
+use Rattle.cam_types.specs.Four.{four_list, four_of}
 use Rattle.cam_types.specs.declared.reply.Made.{Made}
 use Rattle.cam_types.specs.declared.reply.Reply.{Reply}
 use Rattle.cam_types.specs.declared.reply.Reply.TheVariants.{Ok, Submitted, Configured, Refused}
 use Rattle.cam_types.specs.declared.script.Command.{Command}
 use Rattle.cam_types.specs.declared.script.Command.TheVariants.{Configure}
-use Rattle.cam_types.specs.declared.script.Profile.{Profile}
+use Rattle.cam_types.specs.declared.profile.Profile.{Profile}
 use Rattle.cam_types.specs.declared.script.Script.{Script}
 use Rattle.cam_types.specs.declared.stream.Format.{Format}
 use Rattle.cam_types.specs.declared.stream.Format.TheVariants.{Raw16, Yuv, Other}
@@ -17,16 +17,16 @@ use Rattle.cam_types.specs.declared.stream.StreamSpec.{StreamSpec}
 use Rattle.trace_model.specs.declared.entry.Entry.{Entry}
 use Rattle.trace_model.specs.declared.entry.Entry.TheVariants.{Call}
 use Rattle.trace_model.specs.Calls.{word_of}
-use Rattle.trace_model.specs.Configuration.{made_by, made_count, max_buffers}
+use Rattle.trace_model.specs.Configuration.{made_by, made_count}
+use Rattle.cam_types.specs.Profile.{max_buffers}
 use Rattle.trace_model.specs.Entry.{is_call}
 use Rattle.trace_model.specs.Legal.{IsLegal}
 use Rattle.trace_model.specs.Numbers.{call_count}
 use Rattle.trace_model.specs.Reply.{acceptance, made_for, refusal, reply, reply_with}
-use Rattle.trace_model.specs.Send.{four_of}
 use Rattle.trace_bounds.specs.Bounds.{buffer_bound, configuration_bound}
-use Rattle.trace_bounds.proofs.Counts.{count-cons}
 use Rattle.trace_bounds.proofs.Calls.{by-call, calls_bounded}
 use Rattle.trace_bounds.proofs.Refusals.{refuses, refusal-refuses}
+use Rattle.basic_lemmas.proofs.Counts.{count-cons}
 
 -- the most buffers of a stream at the device
 abbrev pub most : Profile → ℕ

@@ -4,7 +4,6 @@ use Rattle.cam_types.specs.declared.reply.Reply.{Reply}
 use Rattle.cam_types.specs.declared.reply.Reply.TheVariants.{Submitted}
 use Rattle.trace_model.specs.Entry.{is_call}
 use Rattle.trace_model.specs.Legal.{IsLegal}
-use Rattle.trace_bounds.proofs.Counts.{count-cons, place-within}
 use Rattle.cam_types.specs.declared.script.Command.{Command}
 use Rattle.cam_types.specs.declared.script.Script.{Script}
 use Rattle.cam_types.specs.declared.script.Word.{Word}
@@ -14,6 +13,7 @@ use Rattle.trace_model.specs.Calls.{is_submission, next_command, request_count, 
 use Rattle.trace_model.specs.Client.{call_due, call_of, may_answer}
 use Rattle.trace_model.specs.Numbers.{call_count}
 use Rattle.trace_model.specs.Reply.{reply}
+use Rattle.basic_lemmas.proofs.Counts.{count-cons, place-within}
 
 call_parts : (b : Bool) (i j : ℕ) (w v : Word) (r q : Reply) → (if b then Some (Call j v q) else None) ≡ Some (Call i w r) → (i ≡ j) × (w ≡ v) × (r ≡ q)
 call_parts true i j w v r q h = (cc, cc, cc)

@@ -1,7 +1,7 @@
 -- The bound on device fences, and what becomes of a buffer that came back early.
 use Rattle.std.proofs.Common.{◌≡◌, ℕ, ◌==◌, ◌+◌, ◌*◌, ◌≤◌, Bool, true, false, ◌&&◌, ◌||◌, not, List, [], ◌∷◌, Some, refl, sym, ap, ◌∙◌, arith, inl, inr, length, filter, find}
 use Rattle.std.specs.List.{list_any}
-use Rattle.std.proofs.lemmas.Bool.{cases_Bool, false≢true}
+use Rattle.std.proofs.lemmas.Bool.{cases_Bool, false≢true, and_parts}
 use Rattle.std.proofs.lemmas.Bool.Decides.{nat_tests}
 use Rattle.cam_types.specs.Four.{four_list}
 use Rattle.cam_types.specs.declared.number.BufferId.{BufferId}
@@ -21,15 +21,14 @@ use Rattle.trace_model.specs.Legal.{IsLegal}
 use Rattle.trace_model.specs.Numbers.{next_early, next_number}
 use Rattle.trace_model.specs.Place.{Pool, Device, Client, is_at, last_naming, place}
 use Rattle.trace_model.specs.Send.{takes_from_pool}
-use Rattle.trace_model.proofs.Basics.{and_parts}
 use Rattle.trace_model.proofs.LawLemmas.{sends-from-pool}
 use Rattle.trace_bounds.specs.Bounds.{early_bound}
-use Rattle.trace_bounds.proofs.Counts.{count-cons, less-without}
 use Rattle.trace_bounds.proofs.FenceLemmas.{behind, buffers_before, four-few, has, in_front, kept_without, length_before, place_named, place_other}
 use Rattle.trace_bounds.proofs.FrameLemmas.{frames_bounded}
 use Rattle.trace_bounds.proofs.Printed.{one-of-all}
 use Rattle.trace_bounds.proofs.Shapes.{early-at-device, early-from-device, filled-from-device, failed-from-device, found-passes, release-there}
 use Rattle.trace_bounds.proofs.StreamLemmas.{IsOwn, at-device-own, kept-own}
+use Rattle.basic_lemmas.proofs.Counts.{count-cons, less-without}
 
 -- the buffers that sends took and that didn't come back early
 abbrev pub lent : List Entry → List ℕ

@@ -14,9 +14,9 @@ use Rattle.trace_model.specs.Legal.{IsLegal}
 use Rattle.trace_model.specs.Numbers.{next_fence, next_number}
 use Rattle.trace_model.specs.Place.{Place, Pool, Device, Client, is_at, place, place_after}
 use Rattle.trace_bounds.specs.Bounds.{fence_bound}
-use Rattle.trace_bounds.proofs.Counts.{count-cons, less-without}
 use Rattle.trace_bounds.proofs.FrameLemmas.{frames_bounded}
 use Rattle.trace_bounds.proofs.Shapes.{early-from-device, filled-from-device, release-is}
+use Rattle.basic_lemmas.proofs.Counts.{count-cons, less-without}
 
 -- the buffers of targets, before others
 abbrev pub buffers_before : List Sent → List ℕ → List ℕ

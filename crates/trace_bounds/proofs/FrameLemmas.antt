@@ -2,7 +2,7 @@
 -- to more than all commands cost and the repeating frames since the last call.
 use Rattle.std.proofs.Common.{◌≡◌, ℕ, ◌+◌, ◌%◌, ◌<◌, ◌≤◌, Bool, true, false, ◌&&◌, ◌||◌, not, List, [], ◌∷◌, Option, Some, None, refl, arith, inl, inr, ◌⊎◌, length, drop, slice_get, sum_by, nat_lt, if◌then◌else◌, length-append, append-nil}
 use Rattle.std.specs.List.{list_any}
-use Rattle.std.proofs.lemmas.Bool.{false≢true}
+use Rattle.std.proofs.lemmas.Bool.{false≢true, and_parts}
 use Rattle.std.proofs.lemmas.Bool.Decides.{nat_tests}
 use Rattle.std.proofs.lemmas.List.Elements.{filter-append}
 use Rattle.cam_types.specs.Script.{awaited_by}
@@ -27,27 +27,29 @@ use Rattle.trace_model.specs.Entry.{is_call, is_numbering, takes}
 use Rattle.trace_model.specs.Frames.{frames}
 use Rattle.trace_model.specs.Legal.{IsLegal}
 use Rattle.trace_model.specs.Numbers.{call_count, next_number}
-use Rattle.trace_model.specs.Queue.{Next, Repeating, Waiting, first_in, is_taken, named, next_at, next_from, next_repeating, puts, queued, queued_items, repeating, sent_for, submitted}
+use Rattle.trace_model.specs.Queue.{first_in, is_taken, named, next_at, next_from, next_repeating, puts, queued, queued_items, repeating, sent_for, submitted}
+use Rattle.cam_types.specs.Requests.{Repeating}
+use Rattle.cam_types.specs.declared.request.Queued.{Queued}
+use Rattle.cam_types.specs.declared.request.WaitingItem.{WaitingItem}
 use Rattle.trace_model.specs.Reply.{reply}
 use Rattle.trace_model.specs.Send.{awaited, awaited_in, fits_next, has_capacity, holds_back, may_go, may_repeat, may_send, repeated_since_call, targets_in_order}
 use Rattle.trace_model.specs.Stopping.{is_stopping}
-use Rattle.trace_model.proofs.Basics.{and_parts}
 use Rattle.trace_model.proofs.LawLemmas.{goes}
 use Rattle.trace_bounds.specs.Bounds.{frame_bound, queued_by}
-use Rattle.trace_bounds.proofs.Counts.{count-cons, drop-at, filter-fewer, filter-less, filter-short, sum-both}
 use Rattle.trace_bounds.proofs.Calls.{by-call}
 use Rattle.trace_bounds.proofs.RepeatLemmas.{repeating-stands}
+use Rattle.basic_lemmas.proofs.Counts.{filter-less, filter-fewer, filter-short, count-cons, drop-at, sum-both}
 
 -- ---- the queue gets shorter
 
 -- the entry takes the item
-abbrev pub takes_it : Entry → Waiting → Bool
+abbrev pub takes_it : Entry → WaitingItem → Bool
 takes_it e w = takes w.request w.index e
 
-stays_taken : (e : Entry) (past : List Entry) (w : Waiting) → not (is_taken past w) ≡ false → not (is_taken (e ∷ past) w) ≡ false
+stays_taken : (e : Entry) (past : List Entry) (w : WaitingItem) → not (is_taken past w) ≡ false → not (is_taken (e ∷ past) w) ≡ false
 stays_taken e past w h = grind arith
 
-now_taken : (e : Entry) (past : List Entry) (w : Waiting) → takes_it e w ≡ true → not (is_taken (e ∷ past) w) ≡ false
+now_taken : (e : Entry) (past : List Entry) (w : WaitingItem) → takes_it e w ≡ true → not (is_taken (e ∷ past) w) ≡ false
 now_taken e past w h = rw h refl
 
 -- what puts nothing in makes the queue no longer
@@ -75,7 +77,7 @@ puts_few script i c w _ at = omega arith
 -- a call puts in what its command holds at most
 pub queue-after-call : (script : Script) (past : List Entry) (i : ℕ) (c : Command) (w : Word) (r : Reply) → command_at script i ≡ Some c → length (queued script (Call i w r ∷ past)) ≤ length (queued script past) + queued_by c
 queue-after-call script past i c w r at =
-    let p : Waiting → Bool = λ v. not (is_taken (Call i w r ∷ past) v) in
+    let p : WaitingItem → Bool = λ v. not (is_taken (Call i w r ∷ past) v) in
     let both = filter-append p (submitted script past) (puts script (Call i w r)) in
     let short = filter-short p (puts script (Call i w r)) in
     let few = puts_few script i c w r at in
@@ -84,11 +86,11 @@ queue-after-call script past i c w r at =
 
 -- ---- a send is of the first of the queue, or of the repeating list
 
-first_passes : (t : Waiting → Bool) (xs : List Waiting) (w : Waiting) → first_in xs ≡ Some w → t w ≡ true → list_any t xs ≡ true
+first_passes : (t : WaitingItem → Bool) (xs : List WaitingItem) (w : WaitingItem) → first_in xs ≡ Some w → t w ≡ true → list_any t xs ≡ true
 first_passes t [] w h k = absurd (cc)
 first_passes t (x ∷ xs) w h k = let same : x ≡ w = cc in rw (same, k) refl
 
-taken_by_send : (n : FrameNo) (r : RequestId) (i : ℕ) (same : Bool) (targets : Four Sent) (w : Waiting) → r.0 ≡ w.request → i ≡ w.index → takes_it (Send n r i same targets) w ≡ true
+taken_by_send : (n : FrameNo) (r : RequestId) (i : ℕ) (same : Bool) (targets : Four Sent) (w : WaitingItem) → r.0 ≡ w.request → i ≡ w.index → takes_it (Send n r i same targets) w ≡ true
 taken_by_send n r i same targets w a b = grind (arith, nat_tests)
 
 -- by which of the two a send is
@@ -98,7 +100,7 @@ OfQueue script past e = (is_empty (queued script past) ≡ false) × (list_any (
 abbrev pub OfRepeating : Script → List Entry → ℕ → Type 0
 OfRepeating script past r = (is_empty (queued script past) ≡ true) × (is_repeating script past r ≡ true) × (repeated_since_call script past < 64 + awaited script past)
 
-may-repeat : (script : Script) (past : List Entry) (w : Next) → w.repeats ≡ true → may_go script past w ≡ true → repeated_since_call script past < 64 + awaited script past
+may-repeat : (script : Script) (past : List Entry) (w : Queued) → w.repeats ≡ true → may_go script past w ≡ true → repeated_since_call script past < 64 + awaited script past
 may-repeat script past w repeats h =
     let first = and_parts (not (is_stopping past)) (has_capacity script past (targets_in_order w.item) && (not w.repeats || may_repeat script past)) h in
     let second = and_parts (has_capacity script past (targets_in_order w.item)) (not w.repeats || may_repeat script past) first.1 in
@@ -110,20 +112,20 @@ may-repeat script past w repeats h =
 send_by_cycle : (script : Script) (past : List Entry) (q : Repeating) (k : ℕ) (o : Option Item) (n : FrameNo) (r : RequestId) (i : ℕ) (same : Bool) (targets : Four Sent) → queued script past ≡ [] → repeating script past ≡ Some q → IsLegal script past → fits_next script past (next_at q.request k o) n.0 r.0 i same targets ≡ true → OfRepeating script past r.0
 send_by_cycle script past q k None n r i same targets at list legal h = absurd (false≢true h)
 send_by_cycle script past q k (Some item) n r i same targets at list legal h =
-    let w : Next = record { request = q.request; index = k; item = item; repeats = true } in
+    let w : Queued = record { request = q.request; index = k; item = item; repeats = true } in
     let g = goes script past w n.0 r.0 i same targets h in
     let stands = repeating-stands script past q legal list in
     let number : r.0 ≡ q.request = g.request in
     let repeats : is_repeating script past r.0 ≡ true = rw (number, stands.0) refl in
     (rw at refl, repeats, may-repeat script past w refl g.now)
 
-send_by_queue : (script : Script) (past : List Entry) (xs : List Waiting) (q : Option Repeating) (n : FrameNo) (r : RequestId) (i : ℕ) (same : Bool) (targets : Four Sent) → queued script past ≡ xs → repeating script past ≡ q → IsLegal script past → fits_next script past (next_from (first_in xs) (next_repeating q past)) n.0 r.0 i same targets ≡ true → OfQueue script past (Send n r i same targets) ⊎ OfRepeating script past r.0
+send_by_queue : (script : Script) (past : List Entry) (xs : List WaitingItem) (q : Option Repeating) (n : FrameNo) (r : RequestId) (i : ℕ) (same : Bool) (targets : Four Sent) → queued script past ≡ xs → repeating script past ≡ q → IsLegal script past → fits_next script past (next_from (first_in xs) (next_repeating q past)) n.0 r.0 i same targets ≡ true → OfQueue script past (Send n r i same targets) ⊎ OfRepeating script past r.0
 send_by_queue script past [] None n r i same targets at list legal h = absurd (false≢true h)
 send_by_queue script past [] (Some q) n r i same targets at list legal h =
     let k = sent_for q.request past % length q.items in
     inr (send_by_cycle script past q k (slice_get q.items k) n r i same targets at list legal h)
 send_by_queue script past (v ∷ xs) q n r i same targets at list legal h =
-    let w : Next = record { request = v.request; index = v.index; item = v.item; repeats = false } in
+    let w : Queued = record { request = v.request; index = v.index; item = v.item; repeats = false } in
     let g = goes script past w n.0 r.0 i same targets h in
     inl (rw at (refl, first_passes (takes_it (Send n r i same targets)) (v ∷ xs) v refl (taken_by_send n r i same targets v g.request g.index)))
 
@@ -131,7 +133,7 @@ pub send-of : (script : Script) (past : List Entry) (n : FrameNo) (r : RequestId
 send-of script past n r i same targets legal h = send_by_queue script past (queued script past) (repeating script past) n r i same targets refl refl legal h
 
 -- a drop is of the first of the queue
-drop_by_first : (past : List Entry) (xs : List Waiting) (stopping : Bool) (n : FrameNo) (r : RequestId) (i : ℕ) → (if stopping then drop_of past (first_in xs) else None) ≡ Some (Dropped n r i) → list_any (takes_it (Dropped n r i)) xs ≡ true
+drop_by_first : (past : List Entry) (xs : List WaitingItem) (stopping : Bool) (n : FrameNo) (r : RequestId) (i : ℕ) → (if stopping then drop_of past (first_in xs) else None) ≡ Some (Dropped n r i) → list_any (takes_it (Dropped n r i)) xs ≡ true
 drop_by_first past [] true n r i h = absurd (cc)
 drop_by_first past [] false n r i h = absurd (cc)
 drop_by_first past (w ∷ xs) false n r i h = absurd (cc)

@@ -1,7 +1,7 @@
 -- The next item of a valid script has a name that fits.
 use Rattle.std.proofs.Common.{◌≡◌, ℕ, zero, suc, ◌==◌, ◌+◌, ◌%◌, ◌≤◌, Bool, true, false, ◌&&◌, not, List, [], ◌∷◌, ◌++◌, Option, Some, None, refl, arith, inl, inr, length, filter, slice_get, nat_le}
 use Rattle.std.specs.List.{list_all}
-use Rattle.std.proofs.lemmas.Bool.{cases_Bool, false≢true}
+use Rattle.std.proofs.lemmas.Bool.{cases_Bool, false≢true, and_parts, and_from}
 use Rattle.std.proofs.lemmas.List.Folds.{list_all-append}
 use Rattle.cam_types.specs.Script.{command_fits, item_fits}
 use Rattle.cam_types.specs.declared.item.Item.{Item}
@@ -16,15 +16,17 @@ use Rattle.trace_model.specs.Calls.{command_at, command_of, request_count, word_
 use Rattle.trace_model.specs.Legal.{IsLegal}
 use Rattle.trace_model.specs.Numbers.{call_count}
 use Rattle.trace_model.specs.Printable.{is_small}
-use Rattle.trace_model.specs.Queue.{Next, Repeating, Waiting, first_in, is_taken, named, next, next_at, next_from, next_repeating, puts, queued, repeating, sent_for, submitted}
+use Rattle.trace_model.specs.Queue.{first_in, is_taken, named, next, next_at, next_from, next_repeating, puts, queued, repeating, sent_for, submitted}
+use Rattle.cam_types.specs.Requests.{Repeating}
+use Rattle.cam_types.specs.declared.request.Queued.{Queued}
+use Rattle.cam_types.specs.declared.request.WaitingItem.{WaitingItem}
 use Rattle.trace_model.specs.Reply.{acceptance, refusal, reply_with}
-use Rattle.trace_model.proofs.Basics.{and_parts, and_from}
 use Rattle.trace_bounds.proofs.Calls.{by-call, requests_bounded}
-use Rattle.trace_bounds.proofs.Counts.{place-within}
 use Rattle.trace_bounds.proofs.RefusedFits.{small}
 use Rattle.trace_bounds.proofs.Refusals.{refuses, refusal-refuses}
 use Rattle.trace_bounds.proofs.RepeatLemmas.{Stands, repeating-stands}
 use Rattle.trace_bounds.proofs.ValidLemmas.{Valid, at-most, queues_few}
+use Rattle.basic_lemmas.proofs.Counts.{place-within}
 
 -- ---- lists
 
@@ -45,7 +47,7 @@ all-kept p q (x ∷ xs) all =
 
 -- ---- the queue
 
-abbrev pub is_named : Waiting → Bool
+abbrev pub is_named : WaitingItem → Bool
 is_named w = is_small w.request && is_small w.index
 
 named_small : (r i : ℕ) (items : List Item) → is_small r ≡ true → i + length items ≤ 64 → list_all is_named (named r i items) ≡ true
@@ -77,11 +79,11 @@ submitted_small script (Call i w r ∷ past) v legal =
     rw list_all-append (and_from _ _ ih new))
 submitted_small script (e ∷ past) v legal = rw list_all-append (and_from _ _ (submitted_small script past v legal.1) refl)
 
-first_small : (xs : List Waiting) (w : Waiting) → list_all is_named xs ≡ true → first_in xs ≡ Some w → is_named w ≡ true
+first_small : (xs : List WaitingItem) (w : WaitingItem) → list_all is_named xs ≡ true → first_in xs ≡ Some w → is_named w ≡ true
 first_small [] w all h = absurd (cc)
 first_small (x ∷ xs) w all h = let same : x ≡ w = cc in rw same at (and_parts (is_named x) (list_all is_named xs) all).0
 
-pub queued-small : (script : Script) (past : List Entry) (w : Waiting) → Valid script → IsLegal script past → first_in (queued script past) ≡ Some w → is_named w ≡ true
+pub queued-small : (script : Script) (past : List Entry) (w : WaitingItem) → Valid script → IsLegal script past → first_in (queued script past) ≡ Some w → is_named w ≡ true
 queued-small script past w v legal h =
     first_small (queued script past) w (all-kept is_named (λ x. not (is_taken past x)) (submitted script past) (submitted_small script past v legal)) h
 
@@ -97,7 +99,7 @@ command_stands script (Call i w (Submitted q) ∷ past) r c all h =
 command_stands script (Call i w reply ∷ past) r c all h = command_stands script past r c all h
 command_stands script (e ∷ past) r c all h = command_stands script past r c all h
 
-cycle_small : (script : Script) (past : List Entry) (q : Repeating) (k : ℕ) (o : Option Item) (w : Next) → Valid script → IsLegal script past → repeating script past ≡ Some q → slice_get q.items k ≡ o → next_at q.request k o ≡ Some w → (is_small w.request ≡ true) × (is_small w.index ≡ true)
+cycle_small : (script : Script) (past : List Entry) (q : Repeating) (k : ℕ) (o : Option Item) (w : Queued) → Valid script → IsLegal script past → repeating script past ≡ Some q → slice_get q.items k ≡ o → next_at q.request k o ≡ Some w → (is_small w.request ≡ true) × (is_small w.index ≡ true)
 cycle_small script past q k None w v legal list at h = absurd (cc)
 cycle_small script past q k (Some item) w v legal list at h =
     let same : record { request = q.request; index = k; item = item; repeats = true } ≡ w = cc in
@@ -108,7 +110,7 @@ cycle_small script past q k (Some item) w v legal list at h =
     let requests = requests_bounded script past legal in
     rw (← same) (small q.request 512 (omega (arith, stands.1, requests, v.commands)) (omega arith), small k 8 (omega (arith, few, within)) (omega arith))
 
-next_small : (script : Script) (past : List Entry) (f : Option Waiting) (q : Option Repeating) (w : Next) → Valid script → IsLegal script past → first_in (queued script past) ≡ f → repeating script past ≡ q → next_from f (next_repeating q past) ≡ Some w → (is_small w.request ≡ true) × (is_small w.index ≡ true)
+next_small : (script : Script) (past : List Entry) (f : Option WaitingItem) (q : Option Repeating) (w : Queued) → Valid script → IsLegal script past → first_in (queued script past) ≡ f → repeating script past ≡ q → next_from f (next_repeating q past) ≡ Some w → (is_small w.request ≡ true) × (is_small w.index ≡ true)
 next_small script past (Some x) q w v legal first list h =
     let same : record { request = x.request; index = x.index; item = x.item; repeats = false } ≡ w = cc in
     rw (← same) (and_parts (is_small x.request) (is_small x.index) (queued-small script past x v legal first))
@@ -117,5 +119,5 @@ next_small script past None (Some q) w v legal first list h =
     let k = sent_for q.request past % length q.items in
     cycle_small script past q k (slice_get q.items k) w v legal list refl h
 
-pub next-small : (script : Script) (past : List Entry) (w : Next) → Valid script → IsLegal script past → next script past ≡ Some w → (is_small w.request ≡ true) × (is_small w.index ≡ true)
+pub next-small : (script : Script) (past : List Entry) (w : Queued) → Valid script → IsLegal script past → next script past ≡ Some w → (is_small w.request ≡ true) × (is_small w.index ≡ true)
 next-small script past w v legal h = next_small script past (first_in (queued script past)) (repeating script past) w v legal refl refl h

@@ -2,7 +2,7 @@
 use Rattle.std.proofs.Common.{◌≡◌, ℕ, ◌==◌, Bool, true, ◌&&◌, not, List, [], ◌∷◌, Option, Some, None, refl, arith, inl, inr, find, nat_lt, ◌^◌}
 use Rattle.std.specs.Prelude.{is_some}
 use Rattle.std.specs.List.{list_all, list_any}
-use Rattle.std.proofs.lemmas.Bool.{cases_Bool, false≢true}
+use Rattle.std.proofs.lemmas.Bool.{cases_Bool, false≢true, and_parts, and_from}
 use Rattle.std.proofs.lemmas.Bool.Decides.{nat_tests}
 use Rattle.cam_types.specs.Four.{four_list}
 use Rattle.trace_model.specs.declared.entry.Entry.{Entry}
@@ -13,7 +13,6 @@ use Rattle.trace_model.specs.Fence.{fence_after, fence_of}
 use Rattle.trace_model.specs.Frames.{frames, has_shutter, has_target, is_sent, send_of, target_of, targets_in}
 use Rattle.trace_model.specs.Place.{Client, is_at, last_naming, place, place_after}
 use Rattle.trace_model.specs.Printable.{fence_fits, is_byte, is_digest, is_filled, is_printable, is_small, sent_fits}
-use Rattle.trace_model.proofs.Basics.{and_parts, and_from}
 use Rattle.trace_bounds.proofs.Shapes.{found-passes}
 
 -- ---- lists

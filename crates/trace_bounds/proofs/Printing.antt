@@ -3,11 +3,11 @@ use Rattle.std.proofs.Common.{◌≡◌, ℕ, zero, suc, ◌==◌, ◌+◌, ◌*
 use Rattle.std.specs.Prelude.{is_some}
 use Rattle.std.specs.List.{list_all, list_any}
 use Rattle.std.specs.Int.{byte_at, bytes_high_first}
-use Rattle.std.proofs.lemmas.Bool.{cases_Bool, false≢true}
+use Rattle.std.proofs.lemmas.Bool.{cases_Bool, false≢true, and_parts, and_from}
 use Rattle.std.proofs.lemmas.Bool.Decides.{nat_tests}
 use Rattle.std.proofs.lemmas.List.Folds.{list_all-append}
 use Rattle.sha2.specs.Sha256.{sha256, digest_bytes, final_hash, initial_hash_256}
-use Rattle.cam_types.specs.Four.{four_list}
+use Rattle.cam_types.specs.Four.{four_list, four_of}
 use Rattle.cam_types.specs.Metadata.{part_at}
 use Rattle.cam_types.specs.Picture.{picture}
 use Rattle.cam_types.specs.Script.{command_fits, is_valid}
@@ -46,13 +46,14 @@ use Rattle.trace_model.specs.Partial.{may_part, part_count, part_of, partial_due
 use Rattle.trace_model.specs.Picture.{digest, digest_of, digest_on}
 use Rattle.trace_model.specs.Place.{Pool, is_at, is_at_device_by, place}
 use Rattle.trace_model.specs.Printable.{fence_fits, is_byte, is_digest, is_filled, is_printable, is_small, part_fits, reply_fits, sent_fits}
-use Rattle.trace_model.specs.Queue.{Next, Waiting, first_in, next, queued}
+use Rattle.trace_model.specs.Queue.{first_in, next, queued}
+use Rattle.cam_types.specs.declared.request.Queued.{Queued}
+use Rattle.cam_types.specs.declared.request.WaitingItem.{WaitingItem}
 use Rattle.trace_model.specs.Release.{release_due, signal_due}
 use Rattle.trace_model.specs.Reply.{acceptance, made_for, refusal, reply, reply_with}
-use Rattle.trace_model.specs.Send.{are_streams, fits_next, four_of, may_send, takes_from_pool, targets_in_order}
+use Rattle.trace_model.specs.Send.{are_streams, fits_next, may_send, takes_from_pool, targets_in_order}
 use Rattle.trace_model.specs.Shutter.{may_expose, shutter_due}
 use Rattle.trace_model.specs.Stopping.{is_stopped, is_stopping}
-use Rattle.trace_model.proofs.Basics.{and_parts, and_from}
 use Rattle.trace_model.proofs.LawLemmas.{begins-waiting, goes, parts-shape}
 use Rattle.trace_bounds.specs.Bounds.{fence_bound, frame_bound, time_bound}
 use Rattle.trace_bounds.specs.Laws.{is_until}
@@ -152,7 +153,7 @@ targets_print script past (t ∷ targets) (s ∷ ss) v legal printed are bytes p
     let p = and_parts (takes_from_pool past t) (list_all (takes_from_pool past) targets) pool in
     and_from (sent_fits t) (list_all sent_fits targets) (target_prints script past t s v legal printed p.0 a.0 b.0) (targets_print script past targets ss v legal printed a.1 b.1 p.1)
 
-next_prints : (script : Script) (past : List Entry) (o : Option Next) (n : FrameNo) (r : RequestId) (i : ℕ) (same : Bool) (targets : Four Sent) → Valid script → IsLegal script past → list_all is_printable past ≡ true → next script past ≡ o → fits_next script past o n.0 r.0 i same targets ≡ true → is_printable (Send n r i same targets) ≡ true
+next_prints : (script : Script) (past : List Entry) (o : Option Queued) (n : FrameNo) (r : RequestId) (i : ℕ) (same : Bool) (targets : Four Sent) → Valid script → IsLegal script past → list_all is_printable past ≡ true → next script past ≡ o → fits_next script past o n.0 r.0 i same targets ≡ true → is_printable (Send n r i same targets) ≡ true
 next_prints script past None n r i same targets v legal printed at h = absurd (false≢true h)
 next_prints script past (Some w) n r i same targets v legal printed at h =
     let g = goes script past w n.0 r.0 i same targets h in
@@ -167,7 +168,7 @@ next_prints script past (Some w) n r i same targets v legal printed at h =
 send-prints : (script : Script) (past : List Entry) (n : FrameNo) (r : RequestId) (i : ℕ) (same : Bool) (targets : Four Sent) → Valid script → IsLegal script past → list_all is_printable past ≡ true → may_send script past n.0 r.0 i same targets ≡ true → is_printable (Send n r i same targets) ≡ true
 send-prints script past n r i same targets v legal printed h = next_prints script past (next script past) n r i same targets v legal printed refl h
 
-drop_prints : (script : Script) (past : List Entry) (o : Option Waiting) (stopping : Bool) (n : FrameNo) (r : RequestId) (i : ℕ) → Valid script → IsLegal script past → first_in (queued script past) ≡ o → (if stopping then drop_of past o else None) ≡ Some (Dropped n r i) → is_printable (Dropped n r i) ≡ true
+drop_prints : (script : Script) (past : List Entry) (o : Option WaitingItem) (stopping : Bool) (n : FrameNo) (r : RequestId) (i : ℕ) → Valid script → IsLegal script past → first_in (queued script past) ≡ o → (if stopping then drop_of past o else None) ≡ Some (Dropped n r i) → is_printable (Dropped n r i) ≡ true
 drop_prints script past o false n r i v legal first h = absurd (cc)
 drop_prints script past None true n r i v legal first h = absurd (cc)
 drop_prints script past (Some w) true n r i v legal first h =

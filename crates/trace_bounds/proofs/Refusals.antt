@@ -1,7 +1,7 @@
 -- What refuses a command is a refusal.
 use Rattle.std.proofs.Common.{◌≡◌, ℕ, ◌+◌, Bool, true, false, List, [], ◌∷◌, Option, Some, None, refl, find, length, take, nat_lt, count_by, not, ◌&&◌, if◌then◌else◌}
 use Rattle.std.specs.Prelude.{is_some}
-use Rattle.std.specs.List.{list_any}
+use Rattle.std.specs.List.{list_any, position_from}
 use Rattle.cam_types.specs.Picture.{is_size_of}
 use Rattle.cam_types.specs.Metadata.{range_fault}
 use Rattle.cam_types.specs.declared.item.Item.{Item}
@@ -11,11 +11,12 @@ use Rattle.cam_types.specs.declared.script.Command.TheVariants.{Configure, Once,
 use Rattle.cam_types.specs.declared.script.Script.{Script}
 use Rattle.cam_types.specs.declared.stream.StreamSpec.{StreamSpec}
 use Rattle.trace_model.specs.declared.entry.Entry.{Entry}
-use Rattle.trace_model.specs.Calls.{word_of, is_closing, is_closed}
+use Rattle.trace_model.specs.Calls.{word_of, is_closing_word, is_closed}
 use Rattle.trace_model.specs.Configuration.{streams, is_configured}
 use Rattle.trace_model.specs.Entry.{is_refusal}
 use Rattle.trace_model.specs.Queue.{repeating, queued}
-use Rattle.trace_model.specs.Reply.{refused, or_else, where_true, is_configure, state_refusal, with_value, first_repeated, targets_refusal, items_refusal, list_refusal, queue_refusal, is_raw, is_yuv, place_of, at_place, specs_refusal, own_refusal, refusal}
+use Rattle.trace_model.specs.Reply.{is_configure_command, state_refusal, queue_refusal, own_refusal, refusal}
+use Rattle.cam_types.specs.Refusals.{refused, or_else, where_true, with_value, first_repeated, targets_refusal, items_refusal, list_refusal, is_raw, is_yuv, at_place, specs_refusal}
 use Rattle.trace_model.specs.Stopping.{has_failed}
 
 abbrev pub refuses : Option Reply → Bool
@@ -70,7 +71,7 @@ specs-refuse : (specs : List StreamSpec) → refuses (specs_refusal specs) ≡ t
 specs-refuse specs =
     by_specs (not (list_any (λ s. not s.input) specs)) (nat_lt 4 (length specs)) (list_any (λ s. s.input) specs)
     (nat_lt 1 (count_by (λ s. is_raw s.format) specs)) (nat_lt 3 (count_by (λ s. is_yuv s.format) specs))
-    (place_of (λ s. not (is_raw s.format) && not (is_yuv s.format)) 0 specs) (place_of (λ s. not (is_size_of s.format s.width s.height)) 0 specs)
+    (position_from (λ s. not (is_raw s.format) && not (is_yuv s.format)) 0 specs) (position_from (λ s. not (is_size_of s.format s.width s.height)) 0 specs)
 
 queue-refuses : (script : Script) (past : List Entry) (items : List Item) → refuses (queue_refusal script past items) ≡ true
 queue-refuses script past items = where-refuses (nat_lt 256 (length (queued script past) + length items)) 11
@@ -92,7 +93,7 @@ by_state false false true missing = refl
 by_state false false false missing = where-refuses missing 1
 
 state-refuses : (past : List Entry) (c : Command) → refuses (state_refusal past c) ≡ true
-state-refuses past c = by_state (is_closed past) (is_closing (word_of c)) (has_failed past) (not (is_configure c) && not (is_configured past))
+state-refuses past c = by_state (is_closed past) (is_closing_word (word_of c)) (has_failed past) (not (is_configure_command c) && not (is_configured past))
 
 pub refusal-refuses : (script : Script) (past : List Entry) (c : Command) → refuses (refusal script past c) ≡ true
 refusal-refuses script past c = or-refuses (state_refusal past c) (own_refusal script past c) (state-refuses past c) (own-refuses script past c)

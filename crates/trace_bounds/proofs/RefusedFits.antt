@@ -1,8 +1,8 @@
 -- The refusals of a valid script's commands have numbers that fit.
 use Rattle.std.proofs.Common.{◌≡◌, ℕ, zero, suc, ◌==◌, ◌+◌, ◌≤◌, Bool, true, false, ◌&&◌, ◌||◌, not, List, [], ◌∷◌, Option, Some, None, refl, arith, inl, inr, find, length, take, count_by, nat_le, nat_lt, if◌then◌else◌}
 use Rattle.std.specs.Prelude.{is_some}
-use Rattle.std.specs.List.{list_all, list_any}
-use Rattle.std.proofs.lemmas.Bool.{cases_Bool}
+use Rattle.std.specs.List.{list_all, list_any, position_from}
+use Rattle.std.proofs.lemmas.Bool.{cases_Bool, and_parts}
 use Rattle.std.proofs.lemmas.Bool.Decides.{nat_tests}
 use Rattle.cam_types.specs.Metadata.{exposure_tag, is_exposure, is_level, is_pattern, is_sensitivity, level_tag, pattern_tag, range_fault, sensitivity_tag}
 use Rattle.cam_types.specs.Picture.{is_size_of}
@@ -16,13 +16,13 @@ use Rattle.cam_types.specs.declared.script.Command.TheVariants.{Configure, Once,
 use Rattle.cam_types.specs.declared.script.Script.{Script}
 use Rattle.cam_types.specs.declared.stream.StreamSpec.{StreamSpec}
 use Rattle.trace_model.specs.declared.entry.Entry.{Entry}
-use Rattle.trace_model.specs.Calls.{is_closed, is_closing, word_of}
+use Rattle.trace_model.specs.Calls.{is_closed, is_closing_word, word_of}
 use Rattle.trace_model.specs.Configuration.{is_configured, streams}
 use Rattle.trace_model.specs.Printable.{is_byte, is_small, number_fits}
 use Rattle.trace_model.specs.Queue.{queued, repeating}
-use Rattle.trace_model.specs.Reply.{at_place, first_repeated, is_configure, is_raw, is_yuv, items_refusal, list_refusal, or_else, own_refusal, place_of, queue_refusal, refusal, refused, specs_refusal, state_refusal, targets_refusal, where_true, with_value}
+use Rattle.trace_model.specs.Reply.{is_configure_command, own_refusal, queue_refusal, refusal, state_refusal}
+use Rattle.cam_types.specs.Refusals.{refused, or_else, where_true, with_value, first_repeated, targets_refusal, items_refusal, list_refusal, is_raw, is_yuv, at_place, specs_refusal}
 use Rattle.trace_model.specs.Stopping.{has_failed}
-use Rattle.trace_model.proofs.Basics.{and_parts}
 use Rattle.trace_bounds.specs.Typed.{are_bytes, command_typed, item_typed}
 use Rattle.trace_bounds.proofs.Printed.{found-all}
 use Rattle.trace_bounds.proofs.ValidLemmas.{at-most}
@@ -115,7 +115,7 @@ list-fits n (item ∷ items) few all = items-fit n 0 (item ∷ items) (omega (ar
 
 -- ---- configurations
 
-place-small : {T : Type 0} (p : T → Bool) (i : ℕ) (xs : List T) → i + length xs ≤ 64 → number_fits (place_of p i xs) ≡ true
+place-small : {T : Type 0} (p : T → Bool) (i : ℕ) (xs : List T) → i + length xs ≤ 64 → number_fits (position_from p i xs) ≡ true
 place-small p i [] few = refl
 place-small p i (x ∷ xs) few =
     let place = small i 64 (omega (arith, few)) (omega arith) in
@@ -137,7 +137,7 @@ specs-fit : (specs : List StreamSpec) → length specs ≤ 16 → fits_if_any (s
 specs-fit specs few =
     by_specs (not (list_any (λ s. not s.input) specs)) (nat_lt 4 (length specs)) (list_any (λ s. s.input) specs)
     (nat_lt 1 (count_by (λ s. is_raw s.format) specs)) (nat_lt 3 (count_by (λ s. is_yuv s.format) specs))
-    (place_of (λ s. not (is_raw s.format) && not (is_yuv s.format)) 0 specs) (place_of (λ s. not (is_size_of s.format s.width s.height)) 0 specs)
+    (position_from (λ s. not (is_raw s.format) && not (is_yuv s.format)) 0 specs) (position_from (λ s. not (is_size_of s.format s.width s.height)) 0 specs)
     (place-small (λ (s : StreamSpec). not (is_raw s.format) && not (is_yuv s.format)) 0 specs (omega (arith, few))) (place-small (λ (s : StreamSpec). not (is_size_of s.format s.width s.height)) 0 specs (omega (arith, few)))
 
 -- ---- all refusals
@@ -170,5 +170,5 @@ by_state false false false missing = where-fits missing 1 refl
 pub refusal-fits : (script : Script) (past : List Entry) (c : Command) → command_fits c ≡ true → command_typed c ≡ true → fits_if_any (refusal script past c) ≡ true
 refusal-fits script past c fits typed =
     or-fits (state_refusal past c) (own_refusal script past c)
-    (by_state (is_closed past) (is_closing (word_of c)) (has_failed past) (not (is_configure c) && not (is_configured past)))
+    (by_state (is_closed past) (is_closing_word (word_of c)) (has_failed past) (not (is_configure_command c) && not (is_configured past)))
     (own-fits script past c fits typed)

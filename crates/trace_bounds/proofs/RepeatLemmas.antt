@@ -13,12 +13,13 @@ use Rattle.trace_model.specs.declared.entry.Entry.TheVariants.{Call}
 use Rattle.trace_model.specs.Calls.{command_at, command_of, is_submission, request_count, word_of}
 use Rattle.trace_model.specs.Legal.{IsLegal}
 use Rattle.trace_model.specs.Numbers.{call_count}
-use Rattle.trace_model.specs.Queue.{Repeating, repeating}
+use Rattle.trace_model.specs.Queue.{repeating}
+use Rattle.cam_types.specs.Requests.{Repeating}
 use Rattle.trace_model.specs.Reply.{acceptance, refusal, reply_with}
 use Rattle.cam_types.specs.declared.script.Word.{Word}
-use Rattle.trace_bounds.proofs.Counts.{count-cons}
 use Rattle.trace_bounds.proofs.Calls.{by-call}
 use Rattle.trace_bounds.proofs.Refusals.{refuses, refusal-refuses}
+use Rattle.basic_lemmas.proofs.Counts.{count-cons}
 
 -- the request is an accepted repeat of these items
 abbrev pub Stands : Script → List Entry → Repeating → Type 0

@@ -1,7 +1,7 @@
 -- What it says of the past that an entry is due, kind by kind.
 use Rattle.std.proofs.Common.{◌≡◌, ℕ, ◌==◌, ◌<◌, Bool, true, false, ◌&&◌, ◌||◌, not, List, [], ◌∷◌, Option, Some, None, refl, ap, arith, inl, inr, nat_lt, filter, find, if◌then◌else◌}
 use Rattle.std.specs.List.{list_any}
-use Rattle.std.proofs.lemmas.Bool.{cases_Bool}
+use Rattle.std.proofs.lemmas.Bool.{cases_Bool, and_parts}
 use Rattle.std.proofs.lemmas.Bool.Decides.{nat_tests}
 use Rattle.cam_types.specs.declared.number.BufferId.{BufferId}
 use Rattle.cam_types.specs.declared.number.FenceNo.{FenceNo}
@@ -22,7 +22,6 @@ use Rattle.trace_model.specs.Picture.{digest_of}
 use Rattle.trace_model.specs.Place.{Device, Client, is_at, is_at_device_by, place}
 use Rattle.trace_model.specs.Release.{release_due, signal_due}
 use Rattle.trace_model.specs.Shutter.{may_expose, next_time, shutter_at, shutter_due}
-use Rattle.trace_model.proofs.Basics.{and_parts}
 use Rattle.trace_model.proofs.LawLemmas.{at-device}
 
 -- ---- what is given where a test passes

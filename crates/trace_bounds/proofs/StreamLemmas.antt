@@ -3,15 +3,15 @@ use Rattle.std.proofs.Common.{◌≡◌, ℕ, zero, suc, ◌==◌, ◌+◌, ◌*
 use Rattle.std.specs.Prelude.{is_some}
 use Rattle.std.specs.List.{list_all, list_any, range_with_len}
 use Rattle.std.proofs.lemmas.Nat.{mul-le}
-use Rattle.std.proofs.lemmas.Bool.{cases_Bool, false≢true}
+use Rattle.std.proofs.lemmas.Bool.{cases_Bool, false≢true, and_parts}
 use Rattle.std.proofs.lemmas.Bool.Decides.{nat_tests}
-use Rattle.cam_types.specs.Four.{four_list}
+use Rattle.cam_types.specs.Four.{four_list, four_of}
 use Rattle.cam_types.specs.declared.reply.Made.{Made}
 use Rattle.cam_types.specs.declared.reply.Reply.{Reply}
 use Rattle.cam_types.specs.declared.reply.Reply.TheVariants.{Ok, Submitted, Configured, Refused}
 use Rattle.cam_types.specs.declared.script.Command.{Command}
 use Rattle.cam_types.specs.declared.script.Command.TheVariants.{Configure}
-use Rattle.cam_types.specs.declared.script.Profile.{Profile}
+use Rattle.cam_types.specs.declared.profile.Profile.{Profile}
 use Rattle.cam_types.specs.declared.script.Script.{Script}
 use Rattle.cam_types.specs.declared.script.Word.{Word}
 use Rattle.cam_types.specs.declared.stream.Format.{Format}
@@ -19,9 +19,10 @@ use Rattle.cam_types.specs.declared.stream.StreamSpec.{StreamSpec}
 use Rattle.trace_model.specs.declared.entry.Entry.{Entry}
 use Rattle.trace_model.specs.declared.entry.Entry.TheVariants.{Call, Send, Filled, Failed, Release, Early}
 use Rattle.trace_model.specs.declared.entry.Sent.{Sent}
-use Rattle.trace_model.specs.Calls.{begun, command_at, is_waiting, word_of}
+use Rattle.trace_model.specs.Calls.{begun, command_at, is_waiting_command, word_of}
 use Rattle.trace_model.specs.Client.{call_due, is_idle, is_over, may_answer}
-use Rattle.trace_model.specs.Configuration.{buffers_of, max_buffers, made, made_count, numbers_of, streams}
+use Rattle.trace_model.specs.Configuration.{buffers_of, made, made_count, numbers_of, streams}
+use Rattle.cam_types.specs.Profile.{max_buffers}
 use Rattle.trace_model.specs.Entry.{is_refusal, names}
 use Rattle.trace_model.specs.Fence.{fence_of, is_same_fence}
 use Rattle.trace_model.specs.Legal.{IsLegal}
@@ -29,26 +30,22 @@ use Rattle.trace_model.specs.Numbers.{call_count}
 use Rattle.trace_model.specs.Place.{Pool, Device, all_in_pool, is_at, is_at_device_by, place}
 use Rattle.trace_model.specs.Printable.{is_small, made_fits}
 use Rattle.trace_model.specs.Reply.{acceptance, made_for, refusal, reply, reply_with}
-use Rattle.trace_model.specs.Send.{four_of, takes_from_pool}
-use Rattle.trace_model.proofs.Basics.{and_parts}
+use Rattle.trace_model.specs.Send.{takes_from_pool}
 use Rattle.trace_model.proofs.LawLemmas.{at-device, sends-from-pool}
 use Rattle.trace_bounds.specs.Bounds.{configuration_bound}
 use Rattle.trace_bounds.proofs.BufferLemmas.{few-at-device, made-by-calls, most}
 use Rattle.trace_bounds.proofs.Calls.{by-answer, by-call, calls_bounded}
-use Rattle.trace_bounds.proofs.Counts.{place-within}
 use Rattle.trace_bounds.proofs.Printed.{one-of-all}
 use Rattle.trace_bounds.proofs.RefusedFits.{small}
 use Rattle.trace_bounds.proofs.Refusals.{refuses, refusal-refuses}
 use Rattle.trace_bounds.proofs.ValidLemmas.{Valid, at-most}
+use Rattle.basic_lemmas.proofs.Counts.{place-within}
 
 -- ---- numbers of buffers
 
 -- the buffers end below a number that any field holds
 abbrev pub is_low : Made → Bool
 is_low m = nat_le (m.first.0 + m.count) 40000
-
-le-true : (n m : ℕ) → n ≤ m → nat_le n m ≡ true
-le-true n m l = grind (arith, nat_tests)
 
 few-on : (p : Profile) (f : Format) → most p ≤ 16 → max_buffers p f ≤ 16
 few-on p f few = let l = few-at-device p f in steps _ _ l few
@@ -176,7 +173,7 @@ none_out past s b home out own =
 waits-for-pool : (script : Script) (past : List Entry) (specs : List StreamSpec) → may_answer script past (Configure specs) ≡ true → is_refusal (reply script past (Configure specs)) ≡ false → all_in_pool past ≡ true
 waits-for-pool script past specs may accepted =
     let c = Configure specs in
-    let over = (and_parts (not (is_waiting c) || is_some (begun past)) (is_refusal (reply script past c) || is_over script past c) may).1 in
+    let over = (and_parts (not (is_waiting_command c) || is_some (begun past)) (is_refusal (reply script past c) || is_over script past c) may).1 in
     let over' : is_over script past c ≡ true = rw accepted at over in
     (and_parts (is_idle script past) (all_in_pool past) over').1
 

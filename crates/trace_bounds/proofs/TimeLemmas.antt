@@ -1,7 +1,7 @@
 -- The bound on shutter times: there are no more shutters than frames, and each time is at most 0.1 s after the last.
 use Rattle.std.proofs.Common.{◌≡◌, ℕ, ◌==◌, ◌+◌, ◌*◌, ◌≤◌, Bool, true, false, ◌&&◌, ◌||◌, not, List, [], ◌∷◌, refl, arith, inl, inr, length, filter, max, nat_le, count_by}
 use Rattle.std.specs.List.{list_all}
-use Rattle.std.proofs.lemmas.Bool.{cases_Bool, false≢true}
+use Rattle.std.proofs.lemmas.Bool.{cases_Bool, false≢true, and_parts}
 use Rattle.std.proofs.lemmas.Bool.Decides.{nat_tests}
 use Rattle.cam_types.specs.declared.number.FrameNo.{FrameNo}
 use Rattle.cam_types.specs.declared.script.Script.{Script}
@@ -14,13 +14,12 @@ use Rattle.trace_model.specs.Legal.{IsLegal}
 use Rattle.trace_model.specs.Numbers.{next_number}
 use Rattle.trace_model.specs.Shutter.{may_expose, next_time}
 use Rattle.trace_model.specs.Stopping.{is_stopping}
-use Rattle.trace_model.proofs.Basics.{and_parts}
 use Rattle.trace_bounds.specs.Bounds.{time_bound}
 use Rattle.trace_bounds.specs.Laws.{is_until}
 use Rattle.trace_bounds.proofs.Accepted.{frame-moderate}
-use Rattle.trace_bounds.proofs.Counts.{count-cons, filter-fewer}
 use Rattle.trace_bounds.proofs.FrameLemmas.{frames_bounded}
 use Rattle.trace_bounds.proofs.Shapes.{found-kept, shutter-is}
+use Rattle.basic_lemmas.proofs.Counts.{filter-fewer, count-cons}
 
 abbrev pub exposes : Entry → Bool
 exposes (Shutter _ _) = true

@@ -1,17 +1,17 @@
 -- The bounds of a valid script fit the fields of the entries.
 use Rattle.std.proofs.Common.{◌≡◌, ℕ, ◌==◌, ◌*◌, ◌^◌, ◌<◌, ◌≤◌, true, ◌&&◌, List, [], ◌∷◌, arith, inl, inr, length, nat_le, nat_lt, sum_by}
 use Rattle.std.specs.List.{list_all, list_any}
-use Rattle.std.proofs.lemmas.Bool.{cases_Bool}
+use Rattle.std.proofs.lemmas.Bool.{cases_Bool, and_parts}
 use Rattle.std.proofs.lemmas.Nat.{mul-le}
 use Rattle.std.proofs.lemmas.Bool.Decides.{nat_tests}
 use Rattle.std.proofs.lemmas.List.Sums.{sum_by-cons}
 use Rattle.cam_types.specs.Limits.{awaited_limit, command_limit, fault_limit, pick_limit}
-use Rattle.cam_types.specs.Script.{awaited_by, command_fits, is_ending, is_profile_number, is_valid, item_fits, profile_fits}
+use Rattle.cam_types.specs.Script.{awaited_by, command_fits, is_closing_command, is_valid, item_fits}
+use Rattle.cam_types.specs.Profile.{profile_fits, is_profile_number}
 use Rattle.cam_types.specs.declared.script.Command.{Command}
 use Rattle.cam_types.specs.declared.script.Command.TheVariants.{Once, Burst}
-use Rattle.cam_types.specs.declared.script.Profile.{Profile}
+use Rattle.cam_types.specs.declared.profile.Profile.{Profile}
 use Rattle.cam_types.specs.declared.script.Script.{Script}
-use Rattle.trace_model.proofs.Basics.{and_parts}
 use Rattle.trace_bounds.proofs.BufferLemmas.{most}
 use Rattle.trace_bounds.specs.Bounds.{buffer_bound, configuration_bound, early_bound, fence_bound, frame_bound, queued_by, time_bound}
 
@@ -49,7 +49,7 @@ pub record Valid (s : Script) : Type 0 where
 
 pub valid : (s : Script) → is_valid s ≡ true → Valid s
 valid s h =
-    let fifth = nat_le (sum_by awaited_by s.commands) awaited_limit && list_any is_ending s.commands in
+    let fifth = nat_le (sum_by awaited_by s.commands) awaited_limit && list_any is_closing_command s.commands in
     let fourth = list_all command_fits s.commands && fifth in
     let third = nat_le (length s.commands) command_limit && fourth in
     let second = nat_le (length s.picks) pick_limit && third in
@@ -59,7 +59,7 @@ valid s h =
     let b = and_parts (nat_le (length s.picks) pick_limit) third a.1 in
     let c = and_parts (nat_le (length s.commands) command_limit) fourth b.1 in
     let d = and_parts (list_all command_fits s.commands) fifth c.1 in
-    let e = and_parts (nat_le (sum_by awaited_by s.commands) awaited_limit) (list_any is_ending s.commands) d.1 in
+    let e = and_parts (nat_le (sum_by awaited_by s.commands) awaited_limit) (list_any is_closing_command s.commands) d.1 in
     record { profile = profile-most s.version s.profile p.0; commands = at-most (length s.commands) command_limit c.0; fit = d.0; awaited = at-most (sum_by awaited_by s.commands) awaited_limit e.0 }
 
 pub queues_few : (c : Command) → command_fits c ≡ true → queued_by c ≤ 32

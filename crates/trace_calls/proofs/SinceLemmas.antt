@@ -7,14 +7,15 @@ use Rattle.trace_filters.specs.Past.{on_send}
 use Rattle.trace_model.specs.declared.entry.Entry.{Entry}
 use Rattle.trace_model.specs.declared.entry.Entry.TheVariants.{Begin}
 use Rattle.trace_model.specs.Client.{before_begin, done_since_begin, is_empty}
-use Rattle.trace_model.specs.Queue.{Waiting, first_in}
+use Rattle.trace_model.specs.Queue.{first_in}
+use Rattle.cam_types.specs.declared.request.WaitingItem.{WaitingItem}
 use Rattle.trace_calls.specs.Since.{is_begin, is_done_since}
 
 pub before_more : (e : Entry) (past : List Entry) → before_begin (e ∷ past) ≡ cond (is_begin e) past (before_begin past)
 before_more (Begin word) past = refl
 before_more e past = refl
 
-pub empty_first : (items : List Waiting) → is_empty items ≡ not (is_some (first_in items))
+pub empty_first : (items : List WaitingItem) → is_empty items ≡ not (is_some (first_in items))
 empty_first [] = refl
 empty_first (w ∷ items) = refl
 

@@ -1,7 +1,7 @@
 -- What an accepted call of a legal past says of the command that it answers: the streams of an accepted configuration are
 -- offered, and the settings of an accepted request are in their range.
 use Rattle.std.proofs.Common.{◌≡◌, ℕ, zero, suc, ◌==◌, ◌+◌, Bool, true, false, ◌&&◌, not, List, [], ◌∷◌, Option, Some, None, refl, sym, ap, ◌∙◌, arith, find, nat_lt, length, slice_get, count_by, take, is_some, if◌then◌else◌}
-use Rattle.std.specs.List.{list_any}
+use Rattle.std.specs.List.{list_any, position_from}
 use Rattle.std.proofs.lemmas.Bool.{cases_Bool, false≢true}
 use Rattle.cam_types.specs.Metadata.{range_fault}
 use Rattle.cam_types.specs.Picture.{is_offered, is_size_of}
@@ -27,7 +27,8 @@ use Rattle.trace_model.specs.Frames.{item_in, item_of, send_of}
 use Rattle.trace_model.specs.Legal.{IsLegal}
 use Rattle.trace_model.specs.Numbers.{call_count}
 use Rattle.trace_model.specs.Queue.{queued, repeating}
-use Rattle.trace_model.specs.Reply.{acceptance, at_place, first_repeated, is_raw, is_yuv, item_refusal, items_refusal, list_refusal, or_else, own_refusal, place_of, queue_refusal, refused, reply, reply_with, specs_refusal, state_refusal, targets_refusal, where_true, with_value}
+use Rattle.trace_model.specs.Reply.{acceptance, own_refusal, queue_refusal, reply, reply_with, state_refusal}
+use Rattle.cam_types.specs.Refusals.{refused, or_else, where_true, with_value, first_repeated, targets_refusal, item_refusal, items_refusal, list_refusal, is_raw, is_yuv, at_place, specs_refusal}
 
 -- ---- a refusal is none, or refuses
 
@@ -74,10 +75,10 @@ many-raw : List StreamSpec → Option Reply
 many-raw specs = or_else (where_true (nat_lt 1 (count_by (λ s. is_raw s.format) specs)) (refused 26)) (where_true (nat_lt 3 (count_by (λ s. is_yuv s.format) specs)) (refused 27))
 
 abbrev bad-size : List StreamSpec → Option Reply
-bad-size specs = at_place 25 (place_of (λ s. not (is_size_of s.format s.width s.height)) 0 specs)
+bad-size specs = at_place 25 (position_from (λ s. not (is_size_of s.format s.width s.height)) 0 specs)
 
 abbrev bad-format : List StreamSpec → Option Reply
-bad-format specs = at_place 24 (place_of (λ s. not (is_raw s.format) && not (is_yuv s.format)) 0 specs)
+bad-format specs = at_place 24 (position_from (λ s. not (is_raw s.format) && not (is_yuv s.format)) 0 specs)
 
 abbrev bad-count : List StreamSpec → Option Reply → Option Reply
 bad-count specs rest =
@@ -113,8 +114,8 @@ specs-refuse specs =
     let shaped = or_else (bad-format specs) sized in
     ap refuses (specs-parts specs)
     ∙ count-refuses specs shaped
-    (either-refuses (bad-format specs) sized (place-refuses 24 (place_of (λ s. not (is_raw s.format) && not (is_yuv s.format)) 0 specs))
-    (either-refuses (bad-size specs) (many-raw specs) (place-refuses 25 (place_of (λ s. not (is_size_of s.format s.width s.height)) 0 specs)) (many-refuse specs)))
+    (either-refuses (bad-format specs) sized (place-refuses 24 (position_from (λ s. not (is_raw s.format) && not (is_yuv s.format)) 0 specs))
+    (either-refuses (bad-size specs) (many-raw specs) (place-refuses 25 (position_from (λ s. not (is_size_of s.format s.width s.height)) 0 specs)) (many-refuse specs)))
 
 own-refuses : (script : Script) (past : List Entry) (c : Command) → refuses (own_refusal script past c) ≡ true
 own-refuses script past (Configure specs) = specs-refuse specs
@@ -179,12 +180,12 @@ not-here : (code i : ℕ) (b : Bool) (rest : Option ℕ) → at_place code (if b
 not-here code i true rest h = absurd (cc)
 not-here code i false rest h = (refl, h)
 
-nowhere : {T : Type 0} (p : T → Bool) (code i : ℕ) (xs : List T) → at_place code (place_of p i xs) ≡ None → (k : ℕ) (x : T) → slice_get xs k ≡ Some x → p x ≡ false
+nowhere : {T : Type 0} (p : T → Bool) (code i : ℕ) (xs : List T) → at_place code (position_from p i xs) ≡ None → (k : ℕ) (x : T) → slice_get xs k ≡ Some x → p x ≡ false
 nowhere p code i [] h k x at = absurd (cc)
 nowhere p code i (y ∷ xs) h zero x at =
     let same : y ≡ x = cc in
-    ap p (sym same) ∙ (not-here code i (p y) (place_of p (i + 1) xs) h).0
-nowhere p code i (y ∷ xs) h (suc k) x at = nowhere p code (i + 1) xs (not-here code i (p y) (place_of p (i + 1) xs) h).1 k x at
+    ap p (sym same) ∙ (not-here code i (p y) (position_from p (i + 1) xs) h).0
+nowhere p code i (y ∷ xs) h (suc k) x at = nowhere p code (i + 1) xs (not-here code i (p y) (position_from p (i + 1) xs) h).1 k x at
 
 offered : (specs : List StreamSpec) → specs_refusal specs ≡ None → (s : ℕ) (spec : StreamSpec) → slice_get specs s ≡ Some spec → is_offered spec ≡ true
 offered specs h s spec at =

@@ -1,6 +1,6 @@
 use Rattle.std.specs.Prelude.{Option, Some, None}
 use Rattle.trace_filters.specs.declared.queue.Waiting.{Waiting}
-use Rattle.trace_model.specs.Queue.{Waiting as WaitingItem}
+use Rattle.cam_types.specs.declared.request.WaitingItem.{WaitingItem as WaitingItem}
 
 -- The queue as the code has it, and as the definitions of a legal run do. Our own choice.
 

@@ -1,7 +1,7 @@
 //! The client's commands: which are answered, which were accepted, and the items that they submit.
 ghost use Rattle.std.specs.Prelude.{◌≡◌, reverse, option_copied, slice_get, find};
-ghost use Rattle.trace_model.specs.Calls.{submits, word_of, command_at, next_command, is_waiting, begun, items_of, command_of, item_at, is_repeat, is_repeating, accepts, is_closed};
-ghost use Rattle.trace_model.specs.Calls.{is_closing as closes};
+ghost use Rattle.trace_model.specs.Calls.{submits, word_of, command_at, next_command, is_waiting_command, begun, items_of, command_of, item_at, is_repeat, is_repeating, accepts, is_closed};
+ghost use Rattle.trace_model.specs.Calls.{is_closing_word as closes};
 ghost use Rattle.trace_filters.specs.Past.{is_begin_or_call, begun_in, command_in};
 
 use crate::entry::{is_closing, is_refusal, submits};
@@ -43,8 +43,8 @@ pub fn next_command<'s>(script: &'s Script, entries: &[Entry]) -> Option<&'s Com
 }
 
 /// Whether the command begins before it is answered.
-pub fn is_waiting(command: &Command) -> bool
-    ensures { result ≡ is_waiting command.now }
+pub fn is_waiting_command(command: &Command) -> bool
+    ensures { result ≡ is_waiting_command command.now }
 {
     matches!(
         command,

@@ -1,7 +1,8 @@
 //! The streams and buffers of the last accepted configuration.
 ghost use Rattle.std.specs.Prelude.{◌≡◌, reverse, option_copied, find};
 ghost use Rattle.cam_types.specs.Four.{four_list};
-ghost use Rattle.trace_model.specs.Configuration.{streams, made, is_configured, max_buffers, configures};
+ghost use Rattle.trace_model.specs.Configuration.{streams, made, is_configured, configures};
+ghost use Rattle.cam_types.specs.Profile.{max_buffers};
 ghost use Rattle.trace_filters.specs.Past.{streams_in, made_in};
 
 use crate::call::command_at;

@@ -1,8 +1,8 @@
 //! What one entry says.
 ghost use Rattle.std.specs.Prelude.{◌≡◌};
-ghost use Rattle.trace_model.specs.Calls.{is_submission, submits, is_closing};
+ghost use Rattle.trace_model.specs.Calls.{is_submission, submits, is_closing_word};
 ghost use Rattle.trace_model.specs.Configuration.{configures};
-ghost use Rattle.trace_model.specs.Entry.{sends, is_numbering, takes, sends_for, is_shutter, is_partial, is_part, returns, returns_any, is_error_request, is_error_result, is_error_buffer, is_error_of, is_error_device, is_release, signals, is_refusal, is_call, is_stop_word, is_stop};
+ghost use Rattle.trace_model.specs.Entry.{sends, is_numbering, takes, sends_for, is_shutter, is_partial, is_part, returns_target, returns_of_frame, is_error_request, is_error_result, is_error_buffer, is_error_of, is_error_device, is_release, signals, is_refusal, is_call, is_stop_word, is_stop};
 
 use cam_types::{FenceNo, FrameNo, Reply, RequestId, StreamIx, Word};
 use trace_model::Entry;
@@ -76,8 +76,8 @@ pub fn is_part(entry: &Entry, frame: FrameNo, number: u8) -> bool
 }
 
 /// Whether the entry gives back the frame's buffer for the stream, filled or failed.
-pub fn returns(entry: &Entry, frame: FrameNo, stream: StreamIx) -> bool
-    ensures { result ≡ returns frame.0 stream.0 entry.now }
+pub fn returns_target(entry: &Entry, frame: FrameNo, stream: StreamIx) -> bool
+    ensures { result ≡ returns_target frame.0 stream.0 entry.now }
 {
     match entry {
         Entry::Filled {
@@ -95,8 +95,8 @@ pub fn returns(entry: &Entry, frame: FrameNo, stream: StreamIx) -> bool
 }
 
 /// Whether the entry gives back some buffer of the frame.
-pub fn returns_any(entry: &Entry, frame: FrameNo) -> bool
-    ensures { result ≡ returns_any frame.0 entry.now }
+pub fn returns_of_frame(entry: &Entry, frame: FrameNo) -> bool
+    ensures { result ≡ returns_of_frame frame.0 entry.now }
 {
     match entry {
         Entry::Filled { frame: of, .. } | Entry::Failed { frame: of, .. } => of.0 == frame.0,
@@ -236,8 +236,8 @@ pub fn configures(entry: &Entry) -> bool
 }
 
 /// Whether a command with the word closes the service.
-pub fn is_closing(word: Word) -> bool
-    ensures { result ≡ is_closing word }
+pub fn is_closing_word(word: Word) -> bool
+    ensures { result ≡ is_closing_word word }
 {
     matches!(word, Word::Close | Word::Disconnect)
 }

@@ -2,10 +2,10 @@
 ghost use Rattle.std.specs.Prelude.{◌≡◌, not, reverse, count_by, option_to_list};
 ghost use Rattle.std.specs.List.{list_all, list_any};
 ghost use Rattle.trace_filters.specs.Past.{on_send, at_send};
-ghost use Rattle.trace_model.specs.Entry.{is_partial, returns_any};
+ghost use Rattle.trace_model.specs.Entry.{is_partial, returns_of_frame};
 ghost use Rattle.trace_model.specs.Open.{has_part, has_error_result, has_error_buffer, is_metadata_ended, is_returned, all_returned, is_open, is_done, open_count, is_quiet, has_something};
 
-use crate::entry::{is_error_buffer, is_error_result, is_part, is_partial, returns, returns_any};
+use crate::entry::{is_error_buffer, is_error_result, is_part, is_partial, returns, returns_of_frame};
 use crate::frame::{has_error, has_error_request, is_sent, targets_of};
 use cam_types::{FrameNo, StreamIx};
 use trace_model::{Entry, Sent};
@@ -159,9 +159,9 @@ fn has_partial(entries: &[Entry], frame: FrameNo) -> bool
 
 /// Whether a buffer of the frame came back.
 fn has_returned(entries: &[Entry], frame: FrameNo) -> bool
-    ensures { result ≡ list_any (returns_any frame.0) (reverse entries.now) }
+    ensures { result ≡ list_any (returns_of_frame frame.0) (reverse entries.now) }
 {
-    entries.iter().rev().any(|entry| returns_any(entry, frame))
+    entries.iter().rev().any(|entry| returns_of_frame(entry, frame))
 }
 
 /// Whether a metadata result, a buffer or an error of the frame stands.

@@ -1,7 +1,7 @@
 -- Lemmas for the laws in `src/laws.rt`.
 use Rattle.std.proofs.Common.{◌≡◌, ℕ, ◌==◌, ◌+◌, ◌<◌, ◌≤◌, Bool, true, false, ◌&&◌, ◌||◌, not, List, Option, Some, None, refl, sym, ap, ◌∙◌, arith, find, inl, inr, nat_le}
 use Rattle.std.specs.List.{list_any, list_all}
-use Rattle.std.proofs.lemmas.Bool.{cases_Bool, false≢true}
+use Rattle.std.proofs.lemmas.Bool.{cases_Bool, false≢true, and_parts}
 use Rattle.std.proofs.lemmas.Bool.Decides.{nat_tests}
 use Rattle.cam_types.specs.Four.{four_list}
 use Rattle.cam_types.specs.declared.four.Four.{Four}
@@ -22,7 +22,8 @@ use Rattle.trace_model.specs.Entry.{names}
 use Rattle.trace_model.specs.Frames.{frames, each_earlier, has_error_request, shutter_time, target_of}
 use Rattle.trace_model.specs.Laws.{returns_buffer}
 use Rattle.trace_model.specs.Place.{Pool, Device, place, place_after, is_at, sends_with, is_at_device_by, last_naming}
-use Rattle.trace_model.specs.Queue.{Next, next}
+use Rattle.trace_model.specs.Queue.{next}
+use Rattle.cam_types.specs.declared.request.Queued.{Queued}
 use Rattle.trace_model.specs.Client.{begin_of}
 use Rattle.trace_model.specs.Configuration.{buffers_of}
 use Rattle.trace_model.specs.Faults.{request_fault, result_fault}
@@ -36,7 +37,7 @@ use Rattle.trace_model.specs.Release.{release_due}
 use Rattle.trace_model.specs.Send.{may_send, may_go, fits_next, is_same_bool, mark_of, takes_from_pool, are_streams, targets_in_order}
 use Rattle.trace_model.specs.Shutter.{shutter_due, may_expose}
 use Rattle.trace_model.specs.Stopping.{is_stopping}
-use Rattle.trace_model.proofs.Basics.{and_parts, find-none, both-pass, any-never}
+use Rattle.basic_lemmas.proofs.Lists.{find-none, both-pass, any-never}
 
 -- ---- sends
 
@@ -49,9 +50,9 @@ same-mark false true false h k = absurd (false≢true k)
 same-mark false false m h k = refl
 
 -- what it means that an item is sent
-pub record Goes (script : Script) (past : List Entry) (w : Next) (n r i : ℕ) (same : Bool) (targets : Four Sent) : Type 0 where
+pub record Goes (script : Script) (past : List Entry) (w : Queued) (n r i : ℕ) (same : Bool) (targets : Four Sent) : Type 0 where
   pub number : n ≡ next_number past
-  pub request : r ≡ w.request
+  pub request : r ≡ w.request.0
   pub index : i ≡ w.index
   pub now : may_go script past w ≡ true
   pub streams : are_streams (four_list targets) (targets_in_order w.item) ≡ true
@@ -59,9 +60,9 @@ pub record Goes (script : Script) (past : List Entry) (w : Next) (n r i : ℕ) (
   pub pool : list_all (takes_from_pool past) (four_list targets) ≡ true
   pub mark : is_same_bool same (mark_of script past w.item.settings) ≡ true
 
-pub goes : (script : Script) (past : List Entry) (w : Next) (n r i : ℕ) (same : Bool) (targets : Four Sent) → fits_next script past (Some w) n r i same targets ≡ true → Goes script past w n r i same targets
+pub goes : (script : Script) (past : List Entry) (w : Queued) (n r i : ℕ) (same : Bool) (targets : Four Sent) → fits_next script past (Some w) n r i same targets ≡ true → Goes script past w n r i same targets
 goes script past w n r i same targets h =
-    let name = (n == next_number past) && ((r == w.request) && (i == w.index)) in
+    let name = (n == next_number past) && ((r == w.request.0) && (i == w.index)) in
     let pool = is_filled targets && list_all (takes_from_pool past) (four_list targets) in
     let mark = is_same_bool same (mark_of script past w.item.settings) in
     let buffers = are_streams (four_list targets) (targets_in_order w.item) && pool in
@@ -82,7 +83,7 @@ goes script past w n r i same targets h =
       mark = third.1;
     }
 
-fits-one : (script : Script) (past : List Entry) (o : Option Next) (n m r q i j : ℕ) (same mark : Bool) (targets others : Four Sent) → fits_next script past o n r i same targets ≡ true → fits_next script past o m q j mark others ≡ true → (n ≡ m) × (r ≡ q) × (i ≡ j) × (same ≡ mark)
+fits-one : (script : Script) (past : List Entry) (o : Option Queued) (n m r q i j : ℕ) (same mark : Bool) (targets others : Four Sent) → fits_next script past o n r i same targets ≡ true → fits_next script past o m q j mark others ≡ true → (n ≡ m) × (r ≡ q) × (i ≡ j) × (same ≡ mark)
 fits-one script past None n m r q i j same mark targets others h k = absurd (false≢true h)
 fits-one script past (Some w) n m r q i j same mark targets others h k =
     let a = goes script past w n r i same targets h in
@@ -127,7 +128,7 @@ not-in-pool b past t at h k =
     let h' : is_at Device Pool ≡ true = ap (λ p. is_at p Pool) (sym at') ∙ home.0 in
     h'
 
-fits-in-pool : (script : Script) (past : List Entry) (o : Option Next) (n r i : ℕ) (same : Bool) (targets : Four Sent) → fits_next script past o n r i same targets ≡ true → list_all (takes_from_pool past) (four_list targets) ≡ true
+fits-in-pool : (script : Script) (past : List Entry) (o : Option Queued) (n r i : ℕ) (same : Bool) (targets : Four Sent) → fits_next script past o n r i same targets ≡ true → list_all (takes_from_pool past) (four_list targets) ≡ true
 fits-in-pool script past None n r i same targets h = absurd (false≢true h)
 fits-in-pool script past (Some w) n r i same targets h = (goes script past w n r i same targets h).pool
 

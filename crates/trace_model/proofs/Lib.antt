@@ -1,2 +1,1 @@
-pub mod Basics
 pub mod LawLemmas

@@ -35,14 +35,14 @@ abbrev pub next_command : Script → List Entry → Option Command
 next_command script past = command_at script (call_count past)
 
 -- the waiting commands, which begin before they are answered
-abbrev pub is_waiting : Command → Bool
-is_waiting (Configure _) = true
-is_waiting Wait = true
-is_waiting (Await _) = true
-is_waiting Flush = true
-is_waiting Close = true
-is_waiting Disconnect = true
-is_waiting _ = false
+abbrev pub is_waiting_command : Command → Bool
+is_waiting_command (Configure _) = true
+is_waiting_command Wait = true
+is_waiting_command (Await _) = true
+is_waiting_command Flush = true
+is_waiting_command Close = true
+is_waiting_command Disconnect = true
+is_waiting_command _ = false
 
 -- the word of the command that has begun and has no call yet
 abbrev pub begun : List Entry → Option Word
@@ -94,11 +94,11 @@ abbrev pub accepts : (Word → Bool) → Entry → Bool
 accepts p (Call _ word reply) = not (is_refusal reply) && p word
 accepts p _ = false
 
-abbrev pub is_closing : Word → Bool
-is_closing WordClose = true
-is_closing WordDisconnect = true
-is_closing _ = false
+abbrev pub is_closing_word : Word → Bool
+is_closing_word WordClose = true
+is_closing_word WordDisconnect = true
+is_closing_word _ = false
 
 -- an accepted close or disconnect stands: the service is closed for good
 abbrev pub is_closed : List Entry → Bool
-is_closed past = list_any (accepts is_closing) past
+is_closed past = list_any (accepts is_closing_word) past

@@ -4,19 +4,20 @@ use Rattle.cam_types.specs.declared.script.Command.TheVariants.{Configure, Wait,
 use Rattle.cam_types.specs.declared.script.Script.{Script}
 use Rattle.trace_model.specs.declared.entry.Entry.{Entry}
 use Rattle.trace_model.specs.declared.entry.Entry.TheVariants.{Begin, Call}
-use Rattle.trace_model.specs.Calls.{begun, is_waiting, next_command, word_of}
+use Rattle.trace_model.specs.Calls.{begun, is_waiting_command, next_command, word_of}
 use Rattle.trace_model.specs.Entry.{is_refusal}
 use Rattle.trace_model.specs.Frames.{frames, is_repeating_frame}
 use Rattle.trace_model.specs.Numbers.{call_count}
 use Rattle.trace_model.specs.Open.{is_done, is_quiet}
 use Rattle.trace_model.specs.Place.{all_in_pool}
-use Rattle.trace_model.specs.Queue.{Waiting, queued}
+use Rattle.trace_model.specs.Queue.{queued}
+use Rattle.cam_types.specs.declared.request.WaitingItem.{WaitingItem}
 use Rattle.trace_model.specs.Reply.{reply}
 
 -- When a command begins and when it is answered (camera3.h, configure_streams: no capture in process and every buffer
 -- back; flush returns when nothing is left in the device).
 
-abbrev pub is_empty : List Waiting → Bool
+abbrev pub is_empty : List WaitingItem → Bool
 is_empty [] = true
 is_empty _ = false
 
@@ -46,7 +47,7 @@ is_over script past (Await k) = nat_le k (done_since_begin script past)
 is_over script past _ = true
 
 abbrev pub begin_of : List Entry → Option Command → Option Entry
-begin_of past (Some c) = if is_waiting c && not (is_some (begun past)) then Some (Begin (word_of c)) else None
+begin_of past (Some c) = if is_waiting_command c && not (is_some (begun past)) then Some (Begin (word_of c)) else None
 begin_of past None = None
 
 -- the begin that is due: the next command waits and hasn't begun
@@ -56,7 +57,7 @@ begin_due script past = begin_of past (next_command script past)
 -- a waiting command is answered after it began; a refusal waits for nothing
 abbrev pub may_answer : Script → List Entry → Command → Bool
 may_answer script past c =
-    (not (is_waiting c) || is_some (begun past)) && (is_refusal (reply script past c) || is_over script past c)
+    (not (is_waiting_command c) || is_some (begun past)) && (is_refusal (reply script past c) || is_over script past c)
 
 abbrev pub call_of : Script → List Entry → Option Command → Option Entry
 call_of script past (Some c) = if may_answer script past c then Some (Call (call_count past) (word_of c) (reply script past c)) else None

@@ -5,10 +5,7 @@ use Rattle.cam_types.specs.declared.reply.Made.{Made}
 use Rattle.cam_types.specs.declared.reply.Reply.TheVariants.{Configured}
 use Rattle.cam_types.specs.declared.script.Command.{Command}
 use Rattle.cam_types.specs.declared.script.Command.TheVariants.{Configure}
-use Rattle.cam_types.specs.declared.script.Profile.{Profile}
 use Rattle.cam_types.specs.declared.script.Script.{Script}
-use Rattle.cam_types.specs.declared.stream.Format.{Format}
-use Rattle.cam_types.specs.declared.stream.Format.TheVariants.{Raw16, Yuv, Other}
 use Rattle.cam_types.specs.declared.stream.StreamSpec.{StreamSpec}
 use Rattle.trace_model.specs.declared.entry.Entry.{Entry}
 use Rattle.trace_model.specs.declared.entry.Entry.TheVariants.{Call}
@@ -62,14 +59,3 @@ made_by _ = 0
 
 abbrev pub made_count : List Entry → ℕ
 made_count past = sum_by made_by past
-
--- how many buffers of a stream may be at the device: the stream's max_buffers (camera3.h, camera3_stream), of the
--- device's profile
-abbrev pub max_buffers : Profile → Format → ℕ
-max_buffers p Raw16 = p.raw
-max_buffers p Yuv = p.yuv
-max_buffers p (Other _) = 0
-
-abbrev pub max_buffers_of : Profile → Option StreamSpec → ℕ
-max_buffers_of p (Some spec) = max_buffers p spec.format
-max_buffers_of p None = 0

@@ -53,18 +53,18 @@ brings n s (Failed m t _ _) = (m.0 == n) && (t.0 == s)
 brings n s _ = false
 
 -- the entry gives it back, filled, failed or early
-abbrev pub returns : ℕ → ℕ → Entry → Bool
-returns n s (Filled m t _ _ _) = (m.0 == n) && (t.0 == s)
-returns n s (Failed m t _ _) = (m.0 == n) && (t.0 == s)
-returns n s (Early m t _ _) = (m.0 == n) && (t.0 == s)
-returns n s _ = false
+abbrev pub returns_target : ℕ → ℕ → Entry → Bool
+returns_target n s (Filled m t _ _ _) = (m.0 == n) && (t.0 == s)
+returns_target n s (Failed m t _ _) = (m.0 == n) && (t.0 == s)
+returns_target n s (Early m t _ _) = (m.0 == n) && (t.0 == s)
+returns_target n s _ = false
 
 -- the entry gives back some buffer of frame n
-abbrev pub returns_any : ℕ → Entry → Bool
-returns_any n (Filled m _ _ _ _) = m.0 == n
-returns_any n (Failed m _ _ _) = m.0 == n
-returns_any n (Early m _ _ _) = m.0 == n
-returns_any n _ = false
+abbrev pub returns_of_frame : ℕ → Entry → Bool
+returns_of_frame n (Filled m _ _ _ _) = m.0 == n
+returns_of_frame n (Failed m _ _ _) = m.0 == n
+returns_of_frame n (Early m _ _ _) = m.0 == n
+returns_of_frame n _ = false
 
 abbrev pub is_error_request : ℕ → Entry → Bool
 is_error_request n (ErrorRequest m) = m.0 == n

@@ -7,7 +7,7 @@ use Rattle.trace_model.specs.declared.entry.Entry.{Entry}
 use Rattle.trace_model.specs.declared.entry.Entry.TheVariants.{Call, Send, Shutter, Partial, Filled, Failed, ErrorResult, Release, Signal, Early, Late}
 use Rattle.trace_model.specs.Complete.{device_fences, released}
 use Rattle.trace_model.specs.Configuration.{is_buffer}
-use Rattle.trace_model.specs.Entry.{takes, is_part, is_error_request, is_error_result, returns, signals, releases_fence, is_early_with, is_late_with}
+use Rattle.trace_model.specs.Entry.{takes, is_part, is_error_request, is_error_result, returns_target, signals, releases_fence, is_early_with, is_late_with}
 use Rattle.trace_model.specs.Fence.{early_fence_of, is_there}
 use Rattle.trace_model.specs.Frames.{frames, targets_of, has_error_request}
 use Rattle.trace_model.specs.Open.{has_part, has_error_result}
@@ -42,9 +42,9 @@ ends_metadata n e = is_part n 3 e || (is_error_result n e || is_error_request n 
 -- each item of an accepted once or burst is sent or dropped once; a sent frame has one end of its metadata and one
 -- return of each buffer
 pub record EndsOnce (script : Script) (past : List Entry) : Type 0 where
-  pub items : IsTrue (list_all (λ w. count_by (takes w.request w.index) past == 1) (submitted script past))
+  pub items : IsTrue (list_all (λ w. count_by (takes w.request.0 w.index) past == 1) (submitted script past))
   pub metadata : IsTrue (list_all (λ n. count_by (ends_metadata n) past == 1) (frames past))
-  pub buffers : IsTrue (list_all (λ n. list_all (λ t. count_by (returns n t.stream.0) past == 1) (targets_of n past)) (frames past))
+  pub buffers : IsTrue (list_all (λ n. list_all (λ t. count_by (returns_target n t.stream.0) past == 1) (targets_of n past)) (frames past))
 
 -- ---- shutters rise (camera3.h, camera3_shutter_msg)
 

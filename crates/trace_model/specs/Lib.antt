@@ -24,3 +24,4 @@ pub mod Legal
 pub mod Complete
 pub mod Printable
 pub mod Laws
+pub mod Summary

@@ -2,7 +2,7 @@ use Rattle.std.specs.Prelude.{ℕ, ◌==◌, Bool, ◌&&◌, ◌||◌, not, List
 use Rattle.std.specs.List.{list_any, list_all}
 use Rattle.trace_model.specs.declared.entry.Entry.{Entry}
 use Rattle.trace_model.specs.declared.entry.Entry.TheVariants.{Early}
-use Rattle.trace_model.specs.Entry.{is_part, is_partial, brings, returns, returns_any, is_error_result, is_error_buffer}
+use Rattle.trace_model.specs.Entry.{is_part, is_partial, brings, returns_target, returns_of_frame, is_error_result, is_error_buffer}
 use Rattle.trace_model.specs.Fence.{is_late}
 use Rattle.trace_model.specs.Frames.{frames, is_sent, targets_of, has_error, has_error_request}
 
@@ -24,7 +24,7 @@ is_metadata_ended n past = has_part n 3 past || (has_error_result n past || has_
 
 -- the buffer of frame n for stream s came back, filled, failed or early
 abbrev pub is_returned : ℕ → ℕ → List Entry → Bool
-is_returned n s past = list_any (returns n s) past
+is_returned n s past = list_any (returns_target n s) past
 
 -- the device fences with which it came back early
 abbrev pub early_fences : ℕ → ℕ → List Entry → List ℕ
@@ -57,4 +57,4 @@ is_quiet past = list_all (λ n. not (is_open n past)) (frames past)
 
 -- something of frame n stands: a metadata result, a buffer or an error
 abbrev pub has_something : ℕ → List Entry → Bool
-has_something n past = list_any (is_partial n) past || (list_any (returns_any n) past || has_error n past)
+has_something n past = list_any (is_partial n) past || (list_any (returns_of_frame n) past || has_error n past)

@@ -1,6 +1,7 @@
 use Rattle.std.specs.Prelude.{ℕ, ◌==◌, ◌+◌, Bool, true, false, ◌&&◌, ◌||◌, not, List, [], ◌∷◌, Option, Some, None, nat_lt, filter, find, length, take, slice_get, if◌then◌else◌}
 use Rattle.std.specs.List.{list_any, list_all}
-use Rattle.cam_types.specs.Four.{four_list}
+use Rattle.cam_types.specs.Four.{four_list, four_of}
+use Rattle.cam_types.specs.Limits.{repeating_ahead}
 use Rattle.cam_types.specs.declared.four.Four.{Four}
 use Rattle.cam_types.specs.declared.item.Item.{Item}
 use Rattle.cam_types.specs.declared.item.Settings.{Settings}
@@ -14,14 +15,16 @@ use Rattle.trace_model.specs.declared.entry.Entry.{Entry}
 use Rattle.trace_model.specs.declared.entry.Entry.TheVariants.{Call, Send}
 use Rattle.trace_model.specs.declared.entry.Sent.{Sent}
 use Rattle.trace_model.specs.Calls.{begun, item_at, is_repeating, next_command}
-use Rattle.trace_model.specs.Configuration.{buffers_of, streams, max_buffers_of}
+use Rattle.trace_model.specs.Configuration.{buffers_of, streams}
+use Rattle.cam_types.specs.Profile.{max_buffers_of}
 use Rattle.trace_model.specs.Fence.{fence_of, is_same_fence}
 use Rattle.trace_model.specs.Frames.{settings_in}
 use Rattle.trace_model.specs.Numbers.{next_number}
 use Rattle.trace_model.specs.Open.{open_count}
 use Rattle.trace_model.specs.Printable.{is_filled}
 use Rattle.trace_model.specs.Place.{Pool, Device, place, is_at}
-use Rattle.trace_model.specs.Queue.{Next, next}
+use Rattle.trace_model.specs.Queue.{next}
+use Rattle.cam_types.specs.declared.request.Queued.{Queued}
 use Rattle.trace_model.specs.Stopping.{is_stopping}
 
 -- When an item may be sent to the device (camera3.h, process_capture_request; configure_streams on max_buffers).
@@ -73,7 +76,7 @@ awaited script past = awaited_in (begun past) (next_command script past)
 
 -- a repeating item may be sent: at most 64 of them after a call, and as many more as an await waits for (our own choice)
 abbrev pub may_repeat : Script → List Entry → Bool
-may_repeat script past = not (holds_back (begun past)) && nat_lt (repeated_since_call script past) (64 + awaited script past)
+may_repeat script past = not (holds_back (begun past)) && nat_lt (repeated_since_call script past) (repeating_ahead + awaited script past)
 
 -- the device takes a further frame for these streams: no more are open than the profile's depth (our own choice)
 abbrev pub has_capacity : Script → List Entry → List ℕ → Bool
@@ -99,18 +102,18 @@ abbrev pub mark_of : Script → List Entry → Settings → Bool
 mark_of script past s = are_last (last_settings script past) s
 
 -- nothing stands against sending this item now, whatever buffers it takes
-abbrev pub may_go : Script → List Entry → Next → Bool
+abbrev pub may_go : Script → List Entry → Queued → Bool
 may_go script past next =
-    not (is_stopping past) && (has_capacity script past (targets_in_order next.item) && (not next.repeats || may_repeat script past))
+    not (is_stopping past) && (has_capacity script past (targets_in_order next.item) && (not next.repeating || may_repeat script past))
 
 abbrev pub is_same_bool : Bool → Bool → Bool
 is_same_bool true b = b
 is_same_bool false b = not b
 
-abbrev pub fits_next : Script → List Entry → Option Next → ℕ → ℕ → ℕ → Bool → Four Sent → Bool
+abbrev pub fits_next : Script → List Entry → Option Queued → ℕ → ℕ → ℕ → Bool → Four Sent → Bool
 fits_next script past None n r i same targets = false
 fits_next script past (Some next) n r i same targets =
-    ((n == next_number past) && ((r == next.request) && (i == next.index)))
+    ((n == next_number past) && ((r == next.request.0) && (i == next.index)))
     && (may_go script past next
     && ((are_streams (four_list targets) (targets_in_order next.item) && (is_filled targets && list_all (takes_from_pool past) (four_list targets)))
     && is_same_bool same (mark_of script past next.item.settings)))
@@ -130,10 +133,6 @@ target_with past s None = None
 abbrev pub least_target : List Entry → ℕ → Option Sent
 least_target past s = target_with past s (least_in_pool past s)
 
--- the value at a place of a list, if there is one
-abbrev pub four_of : {T : Type 0} → List T → Four T
-four_of xs = record { a = slice_get xs 0; b = slice_get xs 1; c = slice_get xs 2; d = slice_get xs 3 }
-
 abbrev pub with_target : Option Sent → Option (List Sent) → Option (List Sent)
 with_target (Some t) (Some targets) = Some (t ∷ targets)
 with_target _ _ = None
@@ -143,12 +142,12 @@ abbrev pub least_targets : List Entry → List ℕ → Option (List Sent)
 least_targets past [] = Some []
 least_targets past (s ∷ streams) = with_target (least_target past s) (least_targets past streams)
 
-abbrev pub send_with : Script → List Entry → Next → Option (List Sent) → Option Entry
+abbrev pub send_with : Script → List Entry → Queued → Option (List Sent) → Option Entry
 send_with script past next None = None
 send_with script past next (Some targets) =
-    Some (Send (record { 0 = next_number past }) (record { 0 = next.request }) next.index (mark_of script past next.item.settings) (four_of targets))
+    Some (Send (record { 0 = next_number past }) next.request next.index (mark_of script past next.item.settings) (four_of targets))
 
-abbrev pub send_next : Script → List Entry → Option Next → Option Entry
+abbrev pub send_next : Script → List Entry → Option Queued → Option Entry
 send_next script past None = None
 send_next script past (Some next) = if may_go script past next then send_with script past next (least_targets past (targets_in_order next.item)) else None
 

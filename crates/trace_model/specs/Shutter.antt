@@ -1,4 +1,5 @@
 use Rattle.std.specs.Prelude.{ℕ, ◌+◌, Bool, ◌&&◌, ◌||◌, not, List, [], ◌∷◌, Option, Some, None, max, find}
+use Rattle.cam_types.specs.Limits.{first_shutter, frame_time}
 use Rattle.cam_types.specs.declared.script.Script.{Script}
 use Rattle.trace_model.specs.declared.entry.Entry.{Entry}
 use Rattle.trace_model.specs.declared.entry.Entry.TheVariants.{Shutter}
@@ -11,8 +12,8 @@ use Rattle.trace_model.specs.Stopping.{is_stopping}
 
 -- the first shutter is at one second; each next one follows the last by 33,333,333 ns, or its exposure if that is more
 abbrev pub next_time : Script → List Entry → ℕ
-next_time script [] = 1000000000
-next_time script (Shutter n time ∷ past) = time + max 33333333 (settings_of script past n.0).exposure
+next_time script [] = first_shutter
+next_time script (Shutter n time ∷ past) = time + max frame_time (settings_of script past n.0).exposure
 next_time script (_ ∷ past) = next_time script past
 
 -- frame n is the next for the sensor: all before it had their shutter or failed

@@ -1,6 +1,6 @@
-use cam_types::{
-    BufferId, FenceNo, Four, FrameNo, Listing, Part, Reply, RequestId, StreamIx, Word,
-};
+//! The lines of a trace as values.
+
+use cam_types::{BufferId, FenceNo, Four, FrameNo, Part, Reply, RequestId, StreamIx, Word};
 
 /// A buffer that a frame is sent with: for which stream, and with which acquire fence.
 #[derive(Clone, Copy, Debug, PartialEq, Eq)]
@@ -100,6 +100,3 @@ pub enum Entry {
         digest: [u8; 32],
     },
 }
-
-/// The entries of a trace, in order.
-pub type TraceList = Listing<Entry>;

@@ -4,10 +4,12 @@
 
 mod entry;
 mod laws;
+mod list;
 
-pub use entry::{Entry, Sent, TraceList};
+pub use entry::{Entry, Sent};
 pub use laws::{
     a_sent_buffer_stays_at_the_device, an_error_request_ends_the_metadata,
     nothing_begins_while_stopping, nothing_is_legal_before_the_first_entry, one_call_is_due,
     one_send_is_due,
 };
+pub use list::TraceList;

@@ -4,18 +4,20 @@ use Rattle.trace_model.specs.declared.entry.Entry.{Entry}
 use Rattle.trace_model.specs.declared.entry.Entry.TheVariants.{Call}
 use Rattle.trace_model.specs.Calls.{command_at}
 use Rattle.trace_model.specs.Entry.{is_refusal}
-use Rattle.trace_model.specs.Queue.{Next, Repeating, repeating_of, is_repeat_word, is_clearing, request_in}
+use Rattle.trace_model.specs.Queue.{repeating_of, is_repeat_word, is_clearing_word, request_in}
+use Rattle.cam_types.specs.Requests.{Repeating}
+use Rattle.cam_types.specs.declared.request.Queued.{Queued}
 use Rattle.trace_next.specs.declared.next.NextItem.{NextItem}
 
 -- The next item as the code has it, and the entry that says which list repeats. Our own choice.
 
 -- the next item that the value stands for
-abbrev pub as_next : NextItem → Next
+abbrev pub as_next : NextItem → Queued
 as_next n = record { request = n.request.0; index = n.index; item = n.item; repeats = n.repeats }
 
 -- the entry accepts a command that sets or clears the repeating list
 abbrev pub sets_repeating : Entry → Bool
-sets_repeating (Call _ word reply) = not (is_refusal reply) && (is_repeat_word word || is_clearing word)
+sets_repeating (Call _ word reply) = not (is_refusal reply) && (is_repeat_word word || is_clearing_word word)
 sets_repeating _ = false
 
 -- the repeating list that the entry leaves

@@ -1,7 +1,7 @@
 //! What is sent next: the first of the queue, or where it is empty the repeating list's item in turn.
 ghost use Rattle.std.specs.Prelude.{◌≡◌, Some, is_some, reverse, find, option_copied, option_map};
 ghost use Rattle.trace_filters.specs.Queued.{as_waiting};
-ghost use Rattle.trace_model.specs.Queue.{is_clearing, is_repeat_word, next, next_repeating, repeating, repeating_of, request_in};
+ghost use Rattle.trace_model.specs.Queue.{is_clearing_word, is_repeat_word, next, next_repeating, repeating, repeating_of, request_in};
 ghost use Rattle.trace_model.specs.Calls.{is_repeat};
 ghost use Rattle.trace_next.specs.Turns.{as_next, repeating_in, sets_repeating};
 
@@ -29,8 +29,8 @@ fn is_repeat_word(word: Word) -> bool
 }
 
 /// Whether a command with the word clears the repeating list.
-fn is_clearing(word: Word) -> bool
-    ensures { result ≡ is_clearing word }
+fn is_clearing_word(word: Word) -> bool
+    ensures { result ≡ is_clearing_word word }
 {
     matches!(
         word,
@@ -44,7 +44,7 @@ fn sets_repeating(entry: &Entry) -> bool
 {
     match entry {
         Entry::Call { word, reply, .. } => {
-            !is_refusal(reply) && (is_repeat_word(*word) || is_clearing(*word))
+            !is_refusal(reply) && (is_repeat_word(*word) || is_clearing_word(*word))
         }
         _ => false,
     }

@@ -2,7 +2,8 @@
 ghost use Rattle.std.specs.Prelude.{◌≡◌, ◌++◌, reverse, filter, length, slice_get, option_to_list, option_copied};
 ghost use Rattle.std.specs.List.{range_with_len};
 ghost use Rattle.cam_types.specs.Four.{four_list};
-ghost use Rattle.trace_model.specs.Configuration.{numbers_of, max_buffers_of, made, streams};
+ghost use Rattle.trace_model.specs.Configuration.{numbers_of, made, streams};
+ghost use Rattle.cam_types.specs.Profile.{max_buffers_of};
 ghost use Rattle.trace_model.specs.Place.{Device, place, is_at};
 ghost use Rattle.trace_model.specs.Send.{at_device_count, has_room};
 

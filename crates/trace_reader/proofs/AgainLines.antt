@@ -5,7 +5,7 @@ use Rattle.std.specs.List.{list_all}
 use Rattle.std.proofs.lemmas.Bool.{and_parts, ltb-true, eqb-true, le-ltb, false≢true}
 use Rattle.std.proofs.lemmas.List.{length-append}
 use Rattle.std.proofs.lemmas.Fmt.{decimal_digit}
-use Rattle.cam_types.specs.Four.{four_list}
+use Rattle.cam_types.specs.Four.{four_list, four_of}
 use Rattle.cam_types.specs.declared.four.Four.{Four}
 use Rattle.cam_types.specs.declared.part.Part.{Part}
 use Rattle.cam_types.specs.declared.part.Part.TheVariants.{Look, Light, Time}
@@ -21,7 +21,6 @@ use Rattle.metadata.proofs.Whole.{all_again}
 use Rattle.meta_rules.specs.Parts.{part_entries, part_in}
 use Rattle.meta_rules.proofs.Parts.{part_packed, part_numbers, part_again}
 use Rattle.trace_model.specs.Printable.{is_small, is_byte, fence_fits, is_filled, sent_fits, made_fits, reply_fits, part_fits, is_digest, is_printable}
-use Rattle.trace_model.specs.Send.{four_of}
 use Rattle.trace_model.specs.declared.entry.Entry.{Entry}
 use Rattle.trace_model.specs.declared.entry.Entry.TheVariants.{Begin, Call, Send, Dropped, Shutter, Partial, Filled, Failed, ErrorRequest, ErrorResult, ErrorBuffer, ErrorDevice, Release, Signal}
 use Rattle.trace_model.specs.declared.entry.Sent.{Sent}

@@ -2,7 +2,7 @@
 use Rattle.std.proofs.Common.{◌≡◌, ℕ, Bool, true, false, cond, List, [], ◌∷◌, length, Option, None, Some, Result, Ok, Err, refl, ap, ◌∙◌, arith}
 use Rattle.std.proofs.lemmas.Bool.{lt-ltb}
 use Rattle.cam_types.specs.declared.four.Four.{Four}
-use Rattle.trace_model.specs.Send.{four_of}
+use Rattle.cam_types.specs.Four.{four_of}
 use Rattle.trace_reader.specs.declared.cause.Cause.{Cause}
 use Rattle.trace_reader.specs.declared.cause.Cause.TheVariants.{BadLine}
 use Rattle.trace_reader.specs.Values.{◌>>=◌, both}

@@ -13,7 +13,7 @@ use Rattle.metadata.specs.Reading.{list_of}
 use Rattle.metadata.specs.declared.entry.Entry.{Entry as MetaEntry}
 use Rattle.metadata.specs.declared.refused.PackedRefused.{PackedRefused}
 use Rattle.trace_model.specs.Printable.{is_waiting_word, is_configure_word, is_submitting_word}
-use Rattle.trace_model.specs.Send.{four_of}
+use Rattle.cam_types.specs.Four.{four_of}
 use Rattle.trace_model.specs.declared.entry.Entry.{Entry}
 use Rattle.trace_model.specs.declared.entry.Entry.TheVariants.{Begin, Call, Send, Dropped, Shutter, Partial, Filled, Failed, ErrorRequest, ErrorResult, ErrorBuffer, ErrorDevice, Release, Signal}
 use Rattle.trace_reader.specs.declared.cause.Cause.{Cause}

@@ -6,14 +6,14 @@ use Rattle.std.proofs.lemmas.List.Elements.{filter-append}
 use Rattle.cam_types.specs.declared.item.Item.{Item}
 use Rattle.trace_model.specs.declared.entry.Entry.{Entry}
 use Rattle.trace_model.specs.Entry.{takes}
-use Rattle.trace_model.specs.Queue.{Waiting, named, is_taken}
-use Rattle.trace_model.specs.Reply.{place_of}
+use Rattle.trace_model.specs.Queue.{named, is_taken}
+use Rattle.cam_types.specs.declared.request.WaitingItem.{WaitingItem}
 
-pub place_found : {T : Type 0} (p : T → Bool) (i : ℕ) (xs : List T) → place_of p i xs ≡ position_from p i xs
+pub place_found : {T : Type 0} (p : T → Bool) (i : ℕ) (xs : List T) → position_from p i xs ≡ position_from p i xs
 place_found p i [] = refl
 place_found p i (x ∷ xs) = ap (cond (p x) (Some i)) (place_found p (i + 1) xs)
 
-pub kept_more : (p : Waiting → Bool) (xs ys : List Waiting) → length (filter p (xs ++ ys)) ≡ length (filter p xs) + length (filter p ys)
+pub kept_more : (p : WaitingItem → Bool) (xs ys : List WaitingItem) → length (filter p (xs ++ ys)) ≡ length (filter p xs) + length (filter p ys)
 kept_more p xs ys = ap length (filter-append p xs ys) ∙ length-append (filter p xs) (filter p ys)
 
 -- an item that is left counts one, another none

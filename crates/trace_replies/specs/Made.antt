@@ -1,7 +1,7 @@
 use Rattle.std.specs.Prelude.{ℕ, ◌+◌, Option, Some, None}
 use Rattle.cam_types.specs.declared.reply.Made.{Made}
 use Rattle.cam_types.specs.declared.stream.StreamSpec.{StreamSpec}
-use Rattle.trace_model.specs.Configuration.{max_buffers}
+use Rattle.cam_types.specs.Profile.{max_buffers}
 
 -- The buffers that an accepted configuration makes, stream by stream. Our own choice.
 

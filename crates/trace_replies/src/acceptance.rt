@@ -1,11 +1,11 @@
 //! What accepting a command gives.
 ghost use Rattle.std.specs.Prelude.{◌≡◌, ◌↔◌, ◌==◌, ◌&&◌, ◌+◌, ◌≤◌, ◌<◌, ◌^◌, reverse, option_copied, option_to_list, sum_by, IsTrue};
 ghost use Rattle.cam_types.specs.declared.reply.Made.{Made as SomeMade};
-ghost use Rattle.cam_types.specs.Four.{four_list};
+ghost use Rattle.cam_types.specs.Four.{four_list, four_of};
 ghost use Rattle.trace_model.specs.Calls.{request_count};
-ghost use Rattle.trace_model.specs.Configuration.{max_buffers, made_by, made_count};
+ghost use Rattle.trace_model.specs.Configuration.{made_by, made_count};
+ghost use Rattle.cam_types.specs.Profile.{max_buffers};
 ghost use Rattle.trace_model.specs.Reply.{acceptance, made_for};
-ghost use Rattle.trace_model.specs.Send.{four_of};
 ghost use Rattle.trace_replies.specs.Made.{made_at, after};
 
 use cam_types::{

@@ -2,7 +2,7 @@
 ghost use Rattle.std.specs.Prelude.{◌≡◌, ◌&&◌, ◌^◌, ◌<◌, length, not, count_by, IfSome};
 ghost use Rattle.std.specs.List.{list_any, position_from};
 ghost use Rattle.cam_types.specs.Picture.{is_size_of};
-ghost use Rattle.trace_model.specs.Reply.{is_raw, is_yuv, specs_refusal};
+ghost use Rattle.cam_types.specs.Refusals.{is_raw, is_yuv, specs_refusal};
 
 use crate::refused::{
     BAD_FORMAT, BAD_SIZE, INPUT_STREAM, NO_OUTPUT, TOO_MANY, TOO_MANY_RAW, TOO_MANY_YUV, refused,

@@ -1,7 +1,7 @@
 //! Refusals of items.
 ghost use Rattle.std.specs.Prelude.{◌≡◌, ◌==◌, ◌<◌, ◌^◌, [], not, nat_lt, find, take, length, reverse, option_copied};
 ghost use Rattle.std.specs.List.{list_any};
-ghost use Rattle.trace_model.specs.Reply.{targets_refusal, item_refusal, items_refusal, list_refusal, first_repeated};
+ghost use Rattle.cam_types.specs.Refusals.{first_repeated, targets_refusal, item_refusal, items_refusal, list_refusal};
 
 use crate::refused::{
     BAD_SETTING, EMPTY_LIST, NO_TARGETS, REPEATED_STREAM, UNKNOWN_STREAM, refused, refused_at,

@@ -1,6 +1,6 @@
 //! All refusals of a command.
 ghost use Rattle.std.specs.Prelude.{◌≡◌, reverse};
-ghost use Rattle.trace_model.specs.Reply.{is_configure, own_refusal, refusal, state_refusal};
+ghost use Rattle.trace_model.specs.Reply.{is_configure_command, own_refusal, refusal, state_refusal};
 
 use crate::configuration::specs_refusal;
 use crate::item::{items_refusal, list_refusal};
@@ -17,8 +17,8 @@ use trace_filters::stopping::has_failed;
 use trace_model::Entry;
 use trace_next::next::repeats;
 
-fn is_configure(command: &Command) -> bool
-    ensures { result ≡ is_configure command.now }
+fn is_configure_command(command: &Command) -> bool
+    ensures { result ≡ is_configure_command command.now }
 {
     matches!(command, Command::Configure(_))
 }
@@ -35,7 +35,7 @@ pub fn state_refusal(entries: &[Entry], command: &Command) -> Option<Reply>
         Some(refused(DEVICE_FAILED))
     } else {
         where_true(
-            !is_configure(command) && !is_configured(entries),
+            !is_configure_command(command) && !is_configured(entries),
             NOT_CONFIGURED,
         )
     }

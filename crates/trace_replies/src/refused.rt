@@ -1,6 +1,6 @@
 //! Refusals, with the numbers that they carry.
 ghost use Rattle.std.specs.Prelude.{◌≡◌};
-ghost use Rattle.trace_model.specs.Reply.{refused, refused_at, where_true, with_value};
+ghost use Rattle.cam_types.specs.Refusals.{refused, refused_at, where_true, with_value};
 
 use cam_types::Reply;
 

@@ -16,7 +16,8 @@ use Rattle.trace_model.specs.Frames.{settings_of, shutter_time}
 use Rattle.trace_model.specs.Numbers.{next_number, next_fence}
 use Rattle.trace_model.specs.Partial.{part_count, part_of, partial_due, may_part}
 use Rattle.trace_model.specs.Place.{Client, place, is_at}
-use Rattle.trace_model.specs.Queue.{Waiting, queued, first_in}
+use Rattle.trace_model.specs.Queue.{queued, first_in}
+use Rattle.cam_types.specs.declared.request.WaitingItem.{WaitingItem}
 use Rattle.trace_model.specs.Release.{release_due}
 use Rattle.trace_model.specs.Shutter.{shutter_at, shutter_due, next_time}
 use Rattle.trace_model.specs.Stopping.{is_stopping}
@@ -52,7 +53,7 @@ request_number a r e = ap (λ (z : RequestId). z.0) e
 fence_number : (a : ℕ) (f : FenceNo) → record { 0 = a } ≡ f → a ≡ f.0
 fence_number a f e = ap (λ (z : FenceNo). z.0) e
 
-drop_named : (past : List Entry) (w : Option Waiting) (n : FrameNo) (r : RequestId) (i : ℕ) → IsTrue (is_named past w n.0 r.0 i) ↔ (drop_of past w ≡ Some (Dropped n r i))
+drop_named : (past : List Entry) (w : Option WaitingItem) (n : FrameNo) (r : RequestId) (i : ℕ) → IsTrue (is_named past w n.0 r.0 i) ↔ (drop_of past w ≡ Some (Dropped n r i))
 drop_named past None n r i = (λ h. absurd (false≢true h), λ e. absurd (cc))
 drop_named past (Some w) n r i =
     Decides-like _ (λ h. ap Some (drop_same (next_number past) w.request w.index n r i h.0 h.1.0 h.1.1)) (λ e. (frame_number (next_number past) n (cc), (request_number w.request r (cc), cc))) (Decides-and _ _ (Decides-eqb (next_number past) n.0) (Decides-and _ _ (Decides-eqb w.request r.0) (Decides-eqb w.index i)))

@@ -5,14 +5,15 @@ use Rattle.trace_model.specs.Fence.{is_signalled}
 use Rattle.trace_model.specs.Frames.{frames}
 use Rattle.trace_model.specs.Numbers.{next_number, next_fence}
 use Rattle.trace_model.specs.Place.{Client, place, is_at}
-use Rattle.trace_model.specs.Queue.{Waiting, queued, first_in}
+use Rattle.trace_model.specs.Queue.{queued, first_in}
+use Rattle.cam_types.specs.declared.request.WaitingItem.{WaitingItem}
 use Rattle.trace_model.specs.Shutter.{next_time, may_expose}
 use Rattle.trace_model.specs.Stopping.{is_stopping}
 
 -- Whether an entry with these numbers is the one that is due, as a test of its numbers. Our own choice: each test is
 -- proved to say what `trace_model` says of the entry.
 
-abbrev pub is_named : List Entry → Option Waiting → ℕ → ℕ → ℕ → Bool
+abbrev pub is_named : List Entry → Option WaitingItem → ℕ → ℕ → ℕ → Bool
 is_named past (Some w) n r i = (next_number past == n) && ((w.request == r) && (w.index == i))
 is_named past None n r i = false
 

@@ -1,5 +1,5 @@
 use Rattle.std.proofs.Common.{◌≡◌, [], reverse, take, drop}
-use Rattle.trace_model.specs.Reply.{first_repeated}
+use Rattle.cam_types.specs.Refusals.{first_repeated}
 use Rattle.trace_replies.proofs.item.first_repeated.Given as goal
 
 abbrev pub invariant-loop-place : goal.invariant-loop-place

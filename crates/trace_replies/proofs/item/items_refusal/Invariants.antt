@@ -1,5 +1,5 @@
 use Rattle.std.proofs.Common.{◌≡◌, drop}
-use Rattle.trace_model.specs.Reply.{items_refusal}
+use Rattle.cam_types.specs.Refusals.{items_refusal}
 use Rattle.trace_replies.proofs.item.items_refusal.Given as goal
 
 abbrev pub invariant-loop-place : goal.invariant-loop-place

@@ -1,0 +1,4 @@
+pub mod Tests
+pub mod Lists
+pub mod Counts
+pub mod Ranges

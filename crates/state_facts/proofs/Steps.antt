@@ -1,0 +1,118 @@
+-- The whole state after an entry is what the entry makes of the state before it.
+use Rattle.std.proofs.Common.{◌≡◌, ℕ, ◌==◌, ◌+◌, Bool, true, false, List, [], ◌∷◌, Option, Some, None, refl, sym, ap, ◌∙◌, inl, inr, max}
+use Rattle.std.proofs.lemmas.Bool.{and_parts, cases_Bool, eqb-true, false≢true, or_right}
+use Rattle.cam_types.specs.declared.four.Four.{Four}
+use Rattle.cam_types.specs.declared.item.Settings.{Settings}
+use Rattle.cam_types.specs.declared.number.FrameNo.{FrameNo}
+use Rattle.cam_types.specs.declared.number.RequestId.{RequestId}
+use Rattle.cam_types.specs.declared.reply.Reply.TheVariants.{Configured}
+use Rattle.cam_types.specs.declared.script.Script.{Script}
+use Rattle.trace_model.specs.declared.entry.Entry.{Entry}
+use Rattle.trace_model.specs.declared.entry.Entry.TheVariants.{Call, Send, Shutter, Partial, ErrorResult}
+use Rattle.trace_model.specs.declared.entry.Sent.{Sent}
+use Rattle.trace_model.specs.Calls.{is_repeating, item_at}
+use Rattle.trace_model.specs.Entry.{is_error_of, is_error_result, is_part}
+use Rattle.trace_model.specs.Frames.{has_error, has_shutter, is_sent, settings_in}
+use Rattle.trace_model.specs.Legal.{IsLegal}
+use Rattle.trace_model.specs.Open.{has_error_result, has_part, is_open}
+use Rattle.trace_model.specs.Queue.{next}
+use Rattle.cam_types.specs.declared.request.Queued.{Queued}
+use Rattle.trace_model.specs.Send.{last_settings, may_send}
+use Rattle.trace_model.specs.Shutter.{next_time}
+use Rattle.frame_laws.proofs.Parts.{part-is}
+use Rattle.frame_laws.proofs.Shutters.{exposed, no-request}
+use Rattle.queue_facts.specs.Turns.{Turns, next_of, turns}
+use Rattle.queue_facts.proofs.Readings.{next_is}
+use Rattle.queue_facts.proofs.Steps.{noted_is as queue_is}
+use Rattle.buffer_facts.specs.Homes.{Homes}
+use Rattle.buffer_facts.proofs.Steps.{noted_is as buffers_are}
+use Rattle.client_facts.specs.Clients.{Clients, clients}
+use Rattle.client_facts.specs.Clients as client
+use Rattle.client_facts.proofs.Steps.{noted_is as client_is}
+use Rattle.row_facts.specs.Rows.{Row, find_row, finishes_in, row, rows, sent_settings}
+use Rattle.row_facts.specs.Rows as frame
+use Rattle.row_facts.proofs.Readings.{finishes_is, found_is}
+use Rattle.row_facts.proofs.Steps.{noted_is as rows_are}
+use Rattle.state_facts.specs.States.{State, clock_after, last_after, noted, repeats_next, settings_next, settings_row, state}
+use Rattle.state_facts.proofs.Items.{IsNext, is-next}
+use Rattle.basic_lemmas.proofs.Lists.{any-less}
+
+-- ---- what the next item says of a send
+
+next-says : (script : Script) (past : List Entry) (r i : ℕ) (o : Option Queued) → IsNext script past r i o → (settings_in (item_at script past r i) ≡ settings_next o) × (is_repeating script past r ≡ repeats_next o)
+next-says script past r i (Some w) h = (ap settings_in h.0, h.1)
+next-says script past r i None h = absurd h
+
+send-says : (script : Script) (past : List Entry) (n : FrameNo) (r : RequestId) (i : ℕ) (same : Bool) (targets : Four Sent) → IsLegal script past → may_send script past n.0 r.0 i same targets ≡ true → (settings_in (item_at script past r.0 i) ≡ settings_next (next_of (turns script past))) × (is_repeating script past r.0 ≡ repeats_next (next_of (turns script past)))
+send-says script past n r i same targets legal may =
+    let says = next-says script past r.0 i (next script past) (is-next script past n.0 r.0 i same targets legal may) in
+    (says.0 ∙ ap settings_next (next_is script past), says.1 ∙ ap repeats_next (next_is script past))
+
+-- so what a part of the state makes of an entry is told by the next item
+rows-after : (script : Script) (past : List Entry) (e : Entry) → IsLegal script (e ∷ past) → rows script (e ∷ past) ≡ frame.noted (settings_next (next_of (turns script past))) (repeats_next (next_of (turns script past))) e (rows script past)
+rows-after script past (Send n r i same targets) legal =
+    let says = send-says script past n r i same targets legal.1 legal.0 in
+    rows_are script past (Send n r i same targets) legal ∙ two-args (λ s b. frame.noted s b (Send n r i same targets) (rows script past)) _ _ _ _ says.0 says.1
+  where
+    two-args : (f : Settings → Bool → List Row) (s t : Settings) (a b : Bool) → s ≡ t → a ≡ b → f s a ≡ f t b
+    two-args f s t a b x y = rw (x, y) refl
+rows-after script past e legal = rows_are script past e legal
+
+client-after : (script : Script) (past : List Entry) (e : Entry) → IsLegal script (e ∷ past) → clients script (e ∷ past) ≡ client.noted script (repeats_next (next_of (turns script past))) (finishes_in e (rows script past)) e (clients script past)
+client-after script past (Send n r i same targets) legal =
+    let says = send-says script past n r i same targets legal.1 legal.0 in
+    client_is script past (Send n r i same targets) legal ∙ ap (λ b. client.noted script b false (Send n r i same targets) (clients script past)) says.1
+client-after script past e legal = client_is script past e legal ∙ told script past e (finishes_is script past e legal)
+  where
+    told : (script : Script) (past : List Entry) (e : Entry) → client.finishes script past e ≡ finishes_in e (rows script past) → client.noted script (client.repeats script past e) (client.finishes script past e) e (clients script past) ≡ client.noted script (client.repeats script past e) (finishes_in e (rows script past)) e (clients script past)
+    told script past e h = ap (λ b. client.noted script (client.repeats script past e) b e (clients script past)) h
+
+last-after : (script : Script) (past : List Entry) (e : Entry) → IsLegal script (e ∷ past) → last_settings script (e ∷ past) ≡ last_after (settings_next (next_of (turns script past))) e (last_settings script past)
+last-after script past (Send n r i same targets) legal = ap Some (send-says script past n r i same targets legal.1 legal.0).0
+last-after script past (Call i word (Configured each)) legal = refl
+last-after script past (Call i word _) legal = refl
+last-after script past _ legal = refl
+
+-- ---- the clock
+
+pub part-shutter : (script : Script) (past : List Entry) (n : ℕ) → IsLegal script past → has_part n 3 past ≡ true → has_shutter n past ≡ true
+part-shutter script [] n legal h = absurd (false≢true h)
+part-shutter script (Partial m k part ∷ past) n legal h =
+    elim (cases_Bool (is_part n 3 (Partial m k part))) [
+      | inl here ↦ (let at = eqb-true m.0 n (and_parts (m.0 == n) (k == 3) here).0 in let shutter = (part-is script past m k part legal.0).shutter in rw at at shutter)
+      | inr other ↦ (let h' = rw other at h in part-shutter script past n legal.1 h')
+    ]
+part-shutter script (Shutter m time ∷ past) n legal h = or_right (m.0 == n) (has_shutter n past) (part-shutter script past n legal.1 h)
+part-shutter script (e ∷ past) n legal h = part-shutter script past n legal.1 h
+
+result-is-error : (n : ℕ) (e : Entry) → is_error_result n e ≡ true → is_error_of n e ≡ true
+result-is-error n (ErrorResult m) h = h
+result-is-error n _ h = absurd (false≢true h)
+
+no-result : (n : ℕ) (past : List Entry) → has_error n past ≡ false → has_error_result n past ≡ false
+no-result n past h = any-less (is_error_of n) (is_error_result n) past (result-is-error n) h
+
+-- a frame that is exposed is open
+pub exposed-open : (script : Script) (past : List Entry) (n : ℕ) → IsLegal script past → is_sent n past ≡ true → has_shutter n past ≡ false → has_error n past ≡ false → is_open n past ≡ true
+exposed-open script past n legal sent dark sound =
+    let part : has_part n 3 past ≡ false = elim (cases_Bool (has_part n 3 past)) [ inl yes' ↦ absurd (false≢true (sym dark ∙ part-shutter script past n legal yes')) | inr no' ↦ no' ] in
+    let request = no-request n past sound in
+    let result = no-result n past sound in
+    rw (sent, part, request, result) refl
+
+clock-after : (script : Script) (past : List Entry) (e : Entry) → IsLegal script (e ∷ past) → next_time script (e ∷ past) ≡ clock_after (rows script past) e (next_time script past)
+clock-after script past (Shutter n time) legal =
+    let is = exposed script past n time legal.0 in
+    let open_ = exposed-open script past n.0 legal.1 is.0 is.1 is.2 in
+    let found : find_row n.0 (rows script past) ≡ Some (row script past n.0) = found_is script past n.0 ∙ rw open_ refl in
+    ap (λ (o : Option Row). time + max 33333333 (settings_row o).exposure) (sym found)
+clock-after script past _ legal = refl
+
+-- ---- all of it
+
+same-state : (a b : Turns) (c d : Homes) (x y : Clients) (r s : List Row) (k l : Option Settings) (t u : ℕ) → a ≡ b → c ≡ d → x ≡ y → r ≡ s → k ≡ l → t ≡ u → ◌≡◌ {A = State} (record { queue = a; buffers = c; client = x; rows = r; last = k; clock = t }) (record { queue = b; buffers = d; client = y; rows = s; last = l; clock = u })
+same-state a b c d x y r s k l t u e1 e2 e3 e4 e5 e6 = rw (e1, e2, e3, e4, e5, e6) refl
+
+pub noted_is : (script : Script) (past : List Entry) (e : Entry) → IsLegal script (e ∷ past) → state script (e ∷ past) ≡ noted script e (state script past)
+noted_is script past e legal =
+    same-state _ _ _ _ _ _ _ _ _ _ _ _ (queue_is script past e legal) (buffers_are script past e legal) (client-after script past e legal) (rows-after script past e legal) (last-after script past e legal) (clock-after script past e legal)

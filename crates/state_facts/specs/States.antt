@@ -1,0 +1,140 @@
+use Rattle.std.specs.Prelude.{ℕ, ◌==◌, ◌+◌, Bool, false, ◌&&◌, ◌||◌, not, List, [], ◌∷◌, Option, Some, None, max, nat_lt, length, slice_get, if◌then◌else◌}
+use Rattle.std.specs.List.{list_any, list_all}
+use Rattle.cam_types.specs.Four.{four_list, four_of}
+use Rattle.cam_types.specs.declared.four.Four.{Four}
+use Rattle.cam_types.specs.declared.item.Settings.{Settings}
+use Rattle.cam_types.specs.declared.reply.Reply.TheVariants.{Configured}
+use Rattle.cam_types.specs.declared.script.Script.{Script}
+use Rattle.trace_model.specs.declared.entry.Entry.{Entry}
+use Rattle.trace_model.specs.declared.entry.Entry.TheVariants.{Call, Send, Dropped, Shutter}
+use Rattle.trace_model.specs.declared.entry.Sent.{Sent}
+use Rattle.cam_types.specs.Profile.{max_buffers_of}
+use Rattle.trace_model.specs.Fence.{is_same_fence}
+use Rattle.trace_model.specs.Frames.{no_settings}
+use Rattle.trace_model.specs.Place.{Pool, is_at}
+use Rattle.trace_model.specs.Printable.{is_filled}
+use Rattle.trace_model.specs.Queue.{first_in}
+use Rattle.cam_types.specs.declared.request.Queued.{Queued}
+use Rattle.cam_types.specs.declared.request.WaitingItem.{WaitingItem}
+use Rattle.trace_model.specs.Send.{are_last, are_streams, is_same_bool, last_settings, targets_in_order, with_target}
+use Rattle.trace_model.specs.Shutter.{next_time}
+use Rattle.queue_facts.specs.Turns.{Turns, next_of, turns}
+use Rattle.queue_facts.specs.Turns as queue
+use Rattle.buffer_facts.specs.Homes.{Homes, at_device_in, fence_in, homes, least_in, place_in, stream_in}
+use Rattle.buffer_facts.specs.Homes as buffers
+use Rattle.client_facts.specs.Clients.{Clients, clients}
+use Rattle.client_facts.specs.Clients as client
+use Rattle.client_facts.specs.Replies.{may_repeat_in, stopping_in}
+use Rattle.row_facts.specs.Rows.{Row, find_row, finishes_in, rows}
+use Rattle.row_facts.specs.Rows as frame
+
+-- The whole state, and what each entry makes of it.
+
+pub record State : Type 0 where
+  pub queue : Turns
+  pub buffers : Homes
+  pub client : Clients
+  pub rows : List Row
+  pub last : Option Settings
+  pub clock : ℕ
+
+-- the state that a past leaves
+abbrev pub state : Script → List Entry → State
+state script past = record {
+  queue = turns script past;
+  buffers = homes past;
+  client = clients script past;
+  rows = rows script past;
+  last = last_settings script past;
+  clock = next_time script past;
+}
+
+abbrev pub settings_next : Option Queued → Settings
+settings_next (Some w) = w.item.settings
+settings_next None = no_settings
+
+abbrev pub repeats_next : Option Queued → Bool
+repeats_next (Some w) = w.repeats
+repeats_next None = false
+
+abbrev pub settings_row : Option Row → Settings
+settings_row (Some r) = r.settings
+settings_row None = no_settings
+
+abbrev pub last_after : Settings → Entry → Option Settings → Option Settings
+last_after settings (Call _ _ (Configured _)) old = None
+last_after settings (Send _ _ _ _ _) old = Some settings
+last_after settings _ old = old
+
+abbrev pub clock_after : List Row → Entry → ℕ → ℕ
+clock_after rs (Shutter n time) old = time + max 33333333 (settings_row (find_row n.0 rs)).exposure
+clock_after rs _ old = old
+
+-- the state after an entry, from the state before it alone
+abbrev pub noted : Script → Entry → State → State
+noted script e s =
+    let next = next_of s.queue in
+    record {
+      queue = queue.noted script e s.queue;
+      buffers = buffers.noted e s.buffers;
+      client = client.noted script (repeats_next next) (finishes_in e s.rows) e s.client;
+      rows = frame.noted (settings_next next) (repeats_next next) e s.rows;
+      last = last_after (settings_next next) e s.last;
+      clock = clock_after s.rows e s.clock;
+    }
+
+-- ---- sends and drops
+
+abbrev pub has_room_in : Script → State → ℕ → Bool
+has_room_in script s t = nat_lt (at_device_in s.buffers t) (max_buffers_of script.profile (slice_get s.client.streams t))
+
+abbrev pub takes_in : State → Sent → Bool
+takes_in s t =
+    list_any (λ b. b == t.buffer.0) (stream_in s.buffers t.stream.0)
+    && (is_at (place_in s.buffers t.buffer.0) Pool && is_same_fence t.fence (fence_in s.buffers t.buffer.0))
+
+abbrev pub may_go_in : Script → State → Queued → Bool
+may_go_in script s next =
+    not (stopping_in s.client)
+    && ((nat_lt (length s.rows) script.profile.depth && list_all (has_room_in script s) (targets_in_order next.item)) && (not next.repeats || may_repeat_in script s.client))
+
+abbrev pub fits_in : Script → State → Option Queued → ℕ → ℕ → ℕ → Bool → Four Sent → Bool
+fits_in script s None n r i same targets = false
+fits_in script s (Some next) n r i same targets =
+    ((n == s.queue.numbers) && ((r == next.request) && (i == next.index)))
+    && (may_go_in script s next
+    && ((are_streams (four_list targets) (targets_in_order next.item) && (is_filled targets && list_all (takes_in s) (four_list targets)))
+    && is_same_bool same (are_last s.last next.item.settings)))
+
+-- a send is allowed
+abbrev pub may_send_in : Script → State → ℕ → ℕ → ℕ → Bool → Four Sent → Bool
+may_send_in script s n r i same targets = fits_in script s (next_of s.queue) n r i same targets
+
+abbrev pub target_in : State → ℕ → Option ℕ → Option Sent
+target_in s t (Some b) = Some (record { stream = record { 0 = t }; buffer = record { 0 = b }; fence = fence_in s.buffers b })
+target_in s t None = None
+
+abbrev pub targets_in : State → List ℕ → Option (List Sent)
+targets_in s [] = Some []
+targets_in s (t ∷ streams) = with_target (target_in s t (least_in s.buffers t)) (targets_in s streams)
+
+abbrev pub send_of : State → Queued → Option (List Sent) → Option Entry
+send_of s next None = None
+send_of s next (Some targets) =
+    Some (Send (record { 0 = s.queue.numbers }) (record { 0 = next.request }) next.index (are_last s.last next.item.settings) (four_of targets))
+
+abbrev pub send_next_in : Script → State → Option Queued → Option Entry
+send_next_in script s None = None
+send_next_in script s (Some next) = if may_go_in script s next then send_of s next (targets_in s (targets_in_order next.item)) else None
+
+-- the send that is due
+abbrev pub send_in : Script → State → Option Entry
+send_in script s = send_next_in script s (next_of s.queue)
+
+abbrev pub drop_with : ℕ → Option WaitingItem → Option Entry
+drop_with n (Some w) = Some (Dropped (record { 0 = n }) (record { 0 = w.request }) w.index)
+drop_with n None = None
+
+-- the drop that is due
+abbrev pub drop_in : State → Option Entry
+drop_in s = if stopping_in s.client then drop_with s.queue.numbers (first_in s.queue.waiting) else None
