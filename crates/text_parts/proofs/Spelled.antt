@@ -1,15 +1,15 @@
 -- What a number spells is that number, and what is read as a number is its spelling.
-use Rattle.std.proofs.Common.{◌≡◌, ℕ, zero, suc, ◌<◌, ◌≤◌, ◌^◌, true, false, ◌&&◌, not, eqb, ltb, List, [], ◌∷◌, ◌++◌, length, get_or, Some, refl, sym, ap, ◌∙◌, inl, inr, arith}
+use Rattle.std.proofs.Common.{◌≡◌, ℕ, zero, suc, ◌<◌, ◌≤◌, ◌^◌, true, false, ◌&&◌, not, eqb, leb, ltb, List, [], ◌∷◌, ◌++◌, length, get_or, Some, refl, sym, ap, ◌∙◌, inl, inr, arith}
 use Rattle.std.specs.Prelude.{decimal, bytes_eq}
 use Rattle.std.specs.List.{flat_map, list_all}
 use Rattle.std.specs.Char.{is_ascii_digit}
 use Rattle.std.specs.Str.{all_ascii_digits}
 use Rattle.std.specs.Str.Parse.{digits_value}
-use Rattle.std.proofs.lemmas.Bool.{cases_eq, cases_Bool, and_parts, and_from, lt-ltb, ltb-true, not-true, false≢true}
+use Rattle.std.proofs.lemmas.Bool.{cases_eq, cases_Bool, and_parts, and_from, le-leb, lt-ltb, ltb-true, not-true, false≢true}
 use Rattle.std.proofs.lemmas.Bool.Decides.{nat_tests}
 use Rattle.std.proofs.lemmas.Fmt.{decimal_nonempty, decimal_digit, first_decimal, digits_decimal, digits_value-decimal, decimal-digits_value}
 use Rattle.std.proofs.lemmas.Str.Parse.{IsNumeralModel, numerals_by_value, tells_all_ascii_digits}
-use Rattle.text_parts.specs.Numbers.{is_number, number_below}
+use Rattle.text_parts.specs.Numbers.{is_number, number_below, number_within}
 use Rattle.text_parts.specs.Words.{is_plain, is_word}
 use Rattle.basic_lemmas.proofs.Lists.{all-where}
 use Rattle.text_parts.proofs.Joined.{avoids, avoids-append, plain-append, word-from}
@@ -35,6 +35,16 @@ unfolding number_below
 number-again limit n l w =
     let small : n < 2 ^ 64 = omega arith in
     rw (decimal-is-number n small, digits_value-decimal own n small, lt-ltb n limit l) refl
+
+pub within-again : (least greatest n : ℕ) → least ≤ n → n ≤ greatest → greatest < 2 ^ 64 → number_within least greatest (decimal n) ≡ Some n
+unfolding number_within
+within-again least greatest n l g w =
+    let small : n < 2 ^ 64 = omega arith in
+    rw (decimal-is-number n small, digits_value-decimal own n small, le-leb least n l, le-leb n greatest g) refl
+
+pub number-within : (least greatest : ℕ) (w : List ℕ) (n : ℕ) → number_within least greatest w ≡ Some n → (leb least n ≡ true) × (leb n greatest ≡ true)
+unfolding number_within
+number-within least greatest w n h = grind arith
 
 -- ---- and back
 
