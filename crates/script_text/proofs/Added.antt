@@ -10,7 +10,7 @@ use Rattle.script_text.specs.declared.cause.LineRefused.TheVariants.{Bad, NoMemo
 use Rattle.script_text.specs.Lines.{◌>>=◌, CommandLine}
 use Rattle.script_text.specs.Within.{limited, within}
 use Rattle.script_text.specs.Reader.{Refuses}
-use Rattle.script_text.specs.Grammar.{Begun, counts_within, script_within, with_line, added, then_added}
+use Rattle.script_text.specs.Grammar.{Begun, counts_within, with_line, added, then_added}
 
 last-fails : (cs : List Command) (c : Command) → within c ≡ false → list_all within (cs ++ c ∷ []) ≡ false
 last-fails [] c h = rw h refl

@@ -1,5 +1,5 @@
 -- Lines that are spelled are read again.
-use Rattle.std.proofs.Common.{◌≡◌, ℕ, ◌≤◌, ◌<◌, ◌^◌, true, false, eqb, ltb, leb, List, [], ◌∷◌, map, Some, Ok, refl, arith}
+use Rattle.std.proofs.Common.{◌≡◌, ℕ, ◌^◌, true, false, eqb, ltb, leb, List, [], ◌∷◌, map, Some, Ok, refl, arith}
 use Rattle.std.specs.Prelude.{codes, decimal, bytes_eq}
 use Rattle.std.specs.List.{list_all}
 use Rattle.std.proofs.lemmas.Bool.{and_parts, and_from, ltb-true, leb-true}
@@ -19,7 +19,6 @@ use Rattle.command_words.specs.Words.{word_of, word_text}
 use Rattle.command_words.proofs.Texts.{word-again, a-word}
 use Rattle.cam_types.specs.declared.profile.Profile.{Profile}
 use Rattle.cam_types.specs.Profile.{is_profile, is_profile_number}
-use Rattle.text_parts.specs.Numbers.{number_within}
 use Rattle.text_parts.specs.Words.{is_word}
 use Rattle.text_parts.proofs.Spelled.{number-again, number-word, within-again}
 use Rattle.script_text.proofs.AgainValues.{spec-again, spec-word, item-again, item-word, all-again, all-words}

@@ -1,14 +1,11 @@
 -- Values that are spelled are read again.
-use Rattle.std.proofs.Common.{◌≡◌, ℕ, zero, suc, ◌-◌, ◌<◌, ◌≤◌, ◌^◌, Bool, true, false, ◌&&◌, not, cond, eqb, ltb, leb, List, [], ◌∷◌, ◌++◌, length, take, drop, map, replicate, Option, Some, refl, sym, ap, ◌∙◌, inl, inr, arith}
-use Rattle.std.specs.Prelude.{codes, decimal, bytes_eq, nat_eq}
+use Rattle.std.proofs.Common.{◌≡◌, ℕ, zero, suc, ◌-◌, ◌<◌, ◌≤◌, ◌^◌, Bool, true, false, ◌&&◌, not, cond, eqb, ltb, leb, List, [], ◌∷◌, ◌++◌, length, take, drop, map, replicate, Option, Some, refl, sym, ap, ◌∙◌, arith}
+use Rattle.std.specs.Prelude.{codes, decimal, nat_eq}
 use Rattle.std.specs.List.{flat_map, join_by, list_all, starts_with}
 use Rattle.std.specs.Char.{is_ascii_digit}
-use Rattle.std.specs.Str.{all_ascii_digits}
-use Rattle.std.proofs.lemmas.Bool.{cases_eq, and_parts, and_from, eq-eqb, ltb-true, leb-true, eqb-true, not-true}
+use Rattle.std.proofs.lemmas.Bool.{and_parts, and_from, eq-eqb, ltb-true, leb-true, eqb-true, not-true}
 use Rattle.std.proofs.lemmas.Bool.Decides.{nat_tests}
 use Rattle.std.proofs.lemmas.List.{length-take, take-append-drop, length-drop}
-use Rattle.std.proofs.lemmas.List.Folds.{list_all-append}
-use Rattle.std.proofs.lemmas.Fmt.{decimal_nonempty}
 use Rattle.cam_types.specs.declared.item.Item.{Item}
 use Rattle.cam_types.specs.declared.item.Settings.{Settings}
 use Rattle.cam_types.specs.declared.item.Targets.{Targets}
@@ -16,7 +13,6 @@ use Rattle.cam_types.specs.declared.stream.Format.{Format}
 use Rattle.cam_types.specs.declared.stream.Format.TheVariants.{Raw16, Yuv, Other}
 use Rattle.cam_types.specs.declared.stream.StreamSpec.{StreamSpec}
 use Rattle.script_spelling.specs.Fits.{settings_fit, targets_fit, item_fits, format_fits, spec_fits}
-use Rattle.text_parts.specs.Cuts.{in_two}
 use Rattle.text_parts.specs.Numbers.{number_below}
 use Rattle.script_text.specs.Values.{all_of, format_of, side_of, stream_of, spec_of, four_numbers, settings_of, targets, joined_targets, targets_of, item_of}
 use Rattle.script_spelling.specs.Spelling.{settings_text, targets_text, item_text, format_text, spec_text}

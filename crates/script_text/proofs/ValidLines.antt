@@ -18,7 +18,7 @@ use Rattle.cam_types.specs.declared.stream.StreamSpec.{StreamSpec}
 use Rattle.cam_types.specs.Script.{is_closing_command, awaited_by}
 use Rattle.script_spelling.specs.Fits.{item_fits, spec_fits, command_fits, fault_fits, fits}
 use Rattle.script_text.specs.declared.cause.Cause.{Cause}
-use Rattle.script_text.specs.declared.cause.Cause.TheVariants.{NotAscii, Version, UnknownWord, Limit, FaultAfterCommand}
+use Rattle.script_text.specs.declared.cause.Cause.TheVariants.{NotAscii, UnknownWord, Limit, FaultAfterCommand}
 use Rattle.script_text.specs.declared.cause.ScriptRefused.{ScriptRefused}
 use Rattle.script_text.specs.declared.cause.ScriptRefused.TheVariants.{Bad}
 use Rattle.script_text.specs.Grammar.{is_printable}
@@ -31,7 +31,7 @@ use Rattle.cam_types.specs.Profile.{is_profile, is_profile_number, profile_fits}
 use Rattle.cam_types.specs.declared.profile.Profile.{Profile}
 use Rattle.text_parts.proofs.Spelled.{number-below, number-within}
 use Rattle.script_text.specs.Within.{item_within, within}
-use Rattle.script_text.specs.Grammar.{closed, Begun, begun, empty, counts_within, script_within, with_line, is_late, version_number, version_of, first_line, is_comment, text_limit, added, then_added, after_words, after_line, after, at_line, at_end, script_from, script_of}
+use Rattle.script_text.specs.Grammar.{closed, Begun, empty, counts_within, script_within, with_line, is_late, version_number, version_of, first_line, is_comment, text_limit, added, then_added, after_words, after_line, after, at_line, at_end, script_from, script_of}
 use Rattle.script_text.proofs.Valid.{spec-fits, all-fit, item-fits, is_u32}
 
 -- ---- steps that gave a value

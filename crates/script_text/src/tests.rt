@@ -210,7 +210,7 @@ fn keeps_limits(rt: HostRuntime) -> Result<(), Fail> {
 
 /// The one spelling of the script that a text means.
 fn respelled(rt: &HostRuntime, text: &str) -> Result<String, Fail> {
-    let script = read(rt.alloc(), text.as_bytes()).ok().ok_or("no script")?;
+    let script = read(rt.alloc(), text.as_bytes())?;
     let printed = print(rt.alloc(), &script)?;
     let printed = String::from_utf8(printed).ok().ok_or("no text")?;
     Ok(printed)

@@ -1,4 +1,4 @@
-use Rattle.std.proofs.Common.{◌≡◌, ◌≤◌, true, length, arith}
+use Rattle.std.proofs.Common.{◌≡◌, ◌≤◌, length}
 use Rattle.script_spelling.specs.Spelling.{text_of}
 use Rattle.script_text.specs.Grammar.{text_limit}
 use Rattle.script_text.proofs.Again.{text-again}
