@@ -7,14 +7,14 @@ ghost use Rattle.trace_model.specs.Legal.{IsLegal};
 use crate::filled::{Fill, is_filled_due};
 use cam_types::Script;
 use picture_digest::Canvas;
-use trace_calls::answer::is_call_due;
+use judge_calls::answer::is_call_due;
 use trace_model::Entry;
-use trace_rules::rule::{
+use judge_rules::rule::{
     is_begin_due, is_dropped_due, is_error_buffer_due, is_error_device_due, is_error_request_due,
     is_error_result_due, is_failed_due, is_partial_due, is_release_due, is_shutter_due,
     is_signal_due,
 };
-use trace_sends::rule::is_send_due;
+use judge_sends::rule::is_send_due;
 
 /// Whether the entry, if it isn't a filled buffer, is due.
 fn is_due(script: &Script, entries: &[Entry], entry: &Entry) -> bool

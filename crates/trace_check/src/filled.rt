@@ -11,10 +11,10 @@ ghost use Rattle.trace_model.specs.Picture.{digest_of};
 
 use cam_types::{BufferId, FenceNo, FrameNo, Script, Settings, StreamIx, StreamSpec};
 use picture_digest::Canvas;
-use trace_filters::configuration::streams;
-use trace_filters::frame::item_of;
+use judge_filters::configuration::streams;
+use judge_filters::frame::item_of;
 use trace_model::Entry;
-use trace_rules::rule::is_fill_due;
+use judge_rules::rule::is_fill_due;
 
 /// A buffer that came back with its picture, as its entry says.
 #[derive(Clone, Copy, Debug, PartialEq, Eq)]

@@ -1,0 +1,91 @@
+//! All refusals of a command.
+ghost use Rattle.std.specs.Prelude.{◌≡◌, reverse};
+ghost use Rattle.trace_model.specs.Reply.{is_configure_command, own_refusal, refusal, state_refusal};
+
+use crate::configuration::specs_refusal;
+use crate::item::{items_refusal, list_refusal};
+use crate::queue::queue_refusal;
+use crate::refused::{
+    CLOSED, DEVICE_FAILED, NOT_CONFIGURED, NOT_REPEATING, REPEATING, refused, where_true,
+};
+use cam_types::{Command, Item, ItemList, Reply, Script};
+use std::slice;
+use judge_filters::call::{is_closed, word_of};
+use judge_filters::configuration::{is_configured, streams};
+use judge_entries::entry::is_closing;
+use judge_filters::stopping::has_failed;
+use trace_model::Entry;
+use judge_filters::next::repeats;
+
+fn is_configure_command(command: &Command) -> bool
+    ensures { result ≡ is_configure_command command.now }
+{
+    matches!(command, Command::Configure(_))
+}
+
+/// The refusal that the service's state gives.
+pub fn state_refusal(entries: &[Entry], command: &Command) -> Option<Reply>
+    ensures { result ≡ state_refusal (reverse entries.now) command.now }
+{
+    if is_closed(entries) {
+        Some(refused(CLOSED))
+    } else if is_closing(word_of(command)) {
+        None
+    } else if has_failed(entries) {
+        Some(refused(DEVICE_FAILED))
+    } else {
+        where_true(
+            !is_configure_command(command) && !is_configured(entries),
+            NOT_CONFIGURED,
+        )
+    }
+}
+
+/// The refusal of a `once`.
+fn once_refusal(script: &Script, entries: &[Entry], item: &Item) -> Option<Reply>
+    ensures { result ≡ own_refusal script.now (reverse entries.now) (Command.Once item.now) }
+{
+    let items = slice::from_ref(item);
+    match items_refusal(streams(script, entries).len(), items) {
+        Some(refused) => Some(refused),
+        None => queue_refusal(script, entries, items),
+    }
+}
+
+/// The refusal of a `burst`.
+fn burst_refusal(script: &Script, entries: &[Entry], items: &ItemList) -> Option<Reply>
+    ensures { result ≡ own_refusal script.now (reverse entries.now) (Command.Burst items.now) }
+{
+    match list_refusal(streams(script, entries).len(), items) {
+        Some(refused) => Some(refused),
+        None => queue_refusal(script, entries, items.as_slice()),
+    }
+}
+
+/// The refusal that a command's own items, streams or conditions give.
+pub fn own_refusal(script: &Script, entries: &[Entry], command: &Command) -> Option<Reply>
+    ensures { result ≡ own_refusal script.now (reverse entries.now) command.now }
+{
+    match command {
+        Command::Configure(specs) => specs_refusal(specs),
+        Command::Once(item) => once_refusal(script, entries, item),
+        Command::Burst(items) => burst_refusal(script, entries, items),
+        Command::Repeat(items) => list_refusal(streams(script, entries).len(), items),
+        Command::Stop => where_true(!repeats(script, entries), NOT_REPEATING),
+        Command::Await(_) => where_true(!repeats(script, entries), NOT_REPEATING),
+        Command::Wait => where_true(repeats(script, entries), REPEATING),
+        Command::Flush => None,
+        Command::Close => None,
+        Command::Disconnect => None,
+    }
+}
+
+/// The first refusal of the command whose condition holds.
+pub fn refusal(script: &Script, entries: &[Entry], command: &Command) -> Option<Reply>
+    ensures { result ≡ refusal script.now (reverse entries.now) command.now }
+{
+    match state_refusal(entries, command) {
+        Some(refused) => Some(refused),
+        None => own_refusal(script, entries, command),
+    }
+}
