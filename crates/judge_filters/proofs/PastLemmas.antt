@@ -19,12 +19,6 @@ use Rattle.trace_model.specs.Entry.{is_shutter}
 use Rattle.trace_model.specs.Frames.{shutter_time}
 use Rattle.judge_filters.specs.Past.{is_begin_or_call, begun_in, command_in, streams_in, made_in, time_in}
 
-pub four_any : {T : Type 0} (p : T → Bool) (f : Four T) → list_any p (four_list f) ≡ (list_any p (option_to_list f.a) || (list_any p (option_to_list f.b) || (list_any p (option_to_list f.c) || list_any p (option_to_list f.d))))
-four_any p f = grind (arith, common_steps)
-
-pub four_all : {T : Type 0} (p : T → Bool) (f : Four T) → list_all p (four_list f) ≡ (list_all p (option_to_list f.a) && (list_all p (option_to_list f.b) && (list_all p (option_to_list f.c) && list_all p (option_to_list f.d))))
-four_all p f = grind (arith, common_steps)
-
 pub begun_found : (past : List Entry) → begun past ≡ begun_in (find is_begin_or_call past)
 begun_found [] = refl
 begun_found (Begin word ∷ past) = refl

@@ -6,14 +6,8 @@ use Rattle.trace_model.specs.Calls.{command_at}
 use Rattle.trace_model.specs.Entry.{is_refusal}
 use Rattle.trace_model.specs.Queue.{repeating_of, is_repeat_word, is_clearing_word, request_in}
 use Rattle.cam_types.specs.Requests.{Repeating}
-use Rattle.cam_types.specs.declared.request.Queued.{Queued}
-use Rattle.judge_filters.specs.declared.next.NextItem.{NextItem}
 
--- The next item as the code has it, and the entry that says which list repeats. Our own choice.
-
--- the next item that the value stands for
-abbrev pub as_next : NextItem → Queued
-as_next n = record { request = n.request.0; index = n.index; item = n.item; repeats = n.repeats }
+-- The entry that says which list repeats. Our own choice.
 
 -- the entry accepts a command that sets or clears the repeating list
 abbrev pub sets_repeating : Entry → Bool

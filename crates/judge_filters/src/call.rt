@@ -1,61 +1,13 @@
-//! The client's commands: which are answered, which were accepted, and the items that they submit.
-ghost use Rattle.std.specs.Prelude.{◌≡◌, reverse, option_copied, slice_get, find};
-ghost use Rattle.trace_model.specs.Calls.{submits, word_of, command_at, next_command, is_waiting_command, begun, items_of, command_of, item_at, is_repeat, is_repeating, accepts, is_closed};
+//! The client's commands: which has begun, which were accepted, and whether the service is closed.
+ghost use Rattle.std.specs.Prelude.{◌≡◌, reverse, option_copied, find};
+ghost use Rattle.trace_model.specs.Calls.{submits, begun, command_of, item_at, is_repeating, accepts, is_closed};
 ghost use Rattle.trace_model.specs.Calls.{is_closing_word as closes};
 ghost use Rattle.judge_filters.specs.Past.{is_begin_or_call, begun_in, command_in};
 
-use judge_entries::entry::{is_closing, is_refusal, submits};
-use judge_entries::number::call_count;
 use cam_types::{Command, Item, RequestId, Script, Word};
+use judge_entries::command::{command_at, is_repeat, item_of};
+use judge_entries::entry::{is_closing_word, is_refusal, submits};
 use trace_model::Entry;
-
-/// A command's word.
-pub fn word_of(command: &Command) -> Word
-    ensures { result ≡ word_of command.now }
-{
-    match command {
-        Command::Configure(_) => Word::Configure,
-        Command::Once(_) => Word::Once,
-        Command::Burst(_) => Word::Burst,
-        Command::Repeat(_) => Word::Repeat,
-        Command::Stop => Word::Stop,
-        Command::Wait => Word::Wait,
-        Command::Await(_) => Word::Await,
-        Command::Flush => Word::Flush,
-        Command::Close => Word::Close,
-        Command::Disconnect => Word::Disconnect,
-    }
-}
-
-/// The script's command at the place.
-pub fn command_at(script: &Script, place: u32) -> Option<&Command>
-    ensures { option_copied result ≡ command_at script.now place }
-{
-    script.commands.get(place)
-}
-
-/// The command that is called next.
-pub fn next_command<'s>(script: &'s Script, entries: &[Entry]) -> Option<&'s Command>
-    ensures { option_copied result ≡ next_command script.now (reverse entries.now) }
-{
-    let commands = script.commands.as_slice();
-    commands.get(call_count(entries))
-}
-
-/// Whether the command begins before it is answered.
-pub fn is_waiting_command(command: &Command) -> bool
-    ensures { result ≡ is_waiting_command command.now }
-{
-    matches!(
-        command,
-        Command::Configure(_)
-            | Command::Wait
-            | Command::Await(_)
-            | Command::Flush
-            | Command::Close
-            | Command::Disconnect
-    )
-}
 
 /// Whether the entry is a begin or a call.
 pub fn is_begin_or_call(entry: &Entry) -> bool
@@ -86,18 +38,6 @@ pub fn begun(entries: &[Entry]) -> Option<Word>
     ensures { result ≡ begun (reverse entries.now) }
 {
     begun_in(last_begin_or_call(entries))
-}
-
-/// The items that the command submits at a place.
-fn item_of(command: Option<&Command>, place: u32) -> Option<Item>
-    ensures { result ≡ slice_get (items_of (option_copied command.entry)) place }
-{
-    match command {
-        Some(Command::Once(item)) => { if place == 0 { Some(*item) } else { None } }
-        Some(Command::Burst(items)) => items.get(place).copied(),
-        Some(Command::Repeat(items)) => items.get(place).copied(),
-        _ => None,
-    }
 }
 
 /// The script's command that a call answers.
@@ -139,10 +79,7 @@ pub fn item_at(script: &Script, entries: &[Entry], request: RequestId, place: u3
 pub fn is_repeating(script: &Script, entries: &[Entry], request: RequestId) -> bool
     ensures { result ≡ is_repeating script.now (reverse entries.now) request.0 }
 {
-    matches!(
-        command_of(script, entries, request),
-        Some(Command::Repeat(_))
-    )
+    is_repeat(command_of(script, entries, request))
 }
 
 /// Whether the entry accepts a close or a disconnect.
@@ -150,7 +87,7 @@ fn closes(entry: &Entry) -> bool
     ensures { result ≡ accepts closes entry.now }
 {
     match entry {
-        Entry::Call { word, reply, .. } => !is_refusal(reply) && is_closing(*word),
+        Entry::Call { word, reply, .. } => !is_refusal(reply) && is_closing_word(*word),
         _ => false,
     }
 }

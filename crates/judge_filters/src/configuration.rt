@@ -2,12 +2,11 @@
 ghost use Rattle.std.specs.Prelude.{◌≡◌, reverse, option_copied, find};
 ghost use Rattle.cam_types.specs.Four.{four_list};
 ghost use Rattle.trace_model.specs.Configuration.{streams, made, is_configured, configures};
-ghost use Rattle.cam_types.specs.Profile.{max_buffers};
 ghost use Rattle.judge_filters.specs.Past.{streams_in, made_in};
 
-use crate::call::command_at;
+use cam_types::{Command, Four, Made, Reply, Script, StreamSpec};
+use judge_entries::command::command_at;
 use judge_entries::entry::configures;
-use cam_types::{Command, Format, Four, Made, Reply, Script, StreamSpec};
 use trace_model::Entry;
 
 /// The last entry that accepts a configuration.
@@ -71,15 +70,4 @@ pub fn is_configured(entries: &[Entry]) -> bool
     ensures { result ≡ is_configured (reverse entries.now) }
 {
     entries.iter().rev().any(|entry| configures(entry))
-}
-
-/// How many buffers of a stream of the format may be at the device.
-pub fn max_buffers(format: Format) -> u32
-    ensures { result ≡ max_buffers format }
-{
-    match format {
-        Format::Raw16 => 3,
-        Format::Yuv => 4,
-        Format::Other(_) => 0,
-    }
 }

@@ -3,12 +3,14 @@ ghost use Rattle.std.specs.Prelude.{◌≡◌, reverse, find, option_copied};
 ghost use Rattle.cam_types.specs.Four.{four_list};
 ghost use Rattle.judge_filters.specs.Past.{time_in};
 ghost use Rattle.trace_model.specs.Entry.{is_shutter};
-ghost use Rattle.trace_model.specs.Frames.{is_sent, send_of, targets_of, target_of, has_target, item_of, settings_in, settings_of, is_repeating_frame, has_shutter, has_error_request, has_error, shutter_time};
+ghost use Rattle.trace_model.specs.Frames.{is_sent, send_of, targets_of, target_of, has_target, item_of, settings_in};
+ghost use Rattle.trace_model.specs.Frames.{settings_of, is_repeating_frame, has_shutter, has_error_request, has_error};
+ghost use Rattle.trace_model.specs.Frames.{shutter_time};
 
 use crate::call::{is_repeating, item_at};
+use cam_types::{Four, FrameNo, Item, Script, Settings, StreamIx};
 use judge_entries::entry::{is_error_of, is_error_request, is_shutter, sends};
 use judge_entries::target::{has_stream, target_for};
-use cam_types::{Four, FrameNo, Item, Script, Settings, StreamIx};
 use trace_model::{Entry, Sent};
 
 /// Whether the frame was sent.

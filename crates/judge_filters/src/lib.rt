@@ -4,16 +4,15 @@
 
 pub mod call;
 pub mod configuration;
-pub mod entry;
-pub mod fault;
 pub mod fence;
 pub mod frame;
-pub mod number;
+pub mod next;
 pub mod open;
 pub mod order;
 pub mod place;
 pub mod queue;
 pub mod stopping;
-pub mod target;
+#[cfg(test)]
+mod next_tests;
 #[cfg(test)]
 mod tests;

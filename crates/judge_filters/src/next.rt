@@ -1,25 +1,15 @@
 //! What is sent next: the first of the queue, or where it is empty the repeating list's item in turn.
-ghost use Rattle.std.specs.Prelude.{◌≡◌, Some, is_some, reverse, find, option_copied, option_map};
-ghost use Rattle.judge_filters.specs.Queued.{as_waiting};
-ghost use Rattle.trace_model.specs.Queue.{is_clearing_word, is_repeat_word, next, next_repeating, repeating, repeating_of, request_in};
-ghost use Rattle.trace_model.specs.Calls.{is_repeat};
-ghost use Rattle.judge_filters.specs.Turns.{as_next, repeating_in, sets_repeating};
+ghost use Rattle.std.specs.Prelude.{◌≡◌, ◌<◌, ◌^◌, Some, is_some, length, reverse, find, option_copied};
+ghost use Rattle.judge_filters.specs.Turns.{repeating_in, sets_repeating};
+ghost use Rattle.trace_model.specs.Queue.{is_clearing_word, is_repeat_word, next, next_repeating, repeating};
+ghost use Rattle.trace_model.specs.Queue.{repeating_of, request_in};
 
-use cam_types::{Command, Item, Reply, RequestId, Script, Word};
-use judge_filters::call::command_at;
+use crate::queue::first_queued;
+use cam_types::{Command, Item, Queued, Reply, RequestId, Script, Word};
+use judge_entries::command::{command_at, is_repeat};
 use judge_entries::entry::is_refusal;
 use judge_entries::number::sent_for;
-use judge_filters::queue::first_queued;
 use trace_model::Entry;
-
-/// An item with the name that its call gave it, and whether it is of a repeating list.
-#[derive(Clone, Copy, Debug, PartialEq, Eq)]
-pub struct NextItem {
-    pub request: RequestId,
-    pub index: usize,
-    pub item: Item,
-    pub repeats: bool,
-}
 
 /// Whether a command with the word sets the repeating list.
 fn is_repeat_word(word: Word) -> bool
@@ -58,7 +48,7 @@ fn last_setting(entries: &[Entry]) -> Option<&Entry>
 
 /// The number of the request that was accepted, 0 where none was.
 fn request_in(reply: &Reply) -> RequestId
-    ensures { result.0 ≡ request_in reply.now }
+    ensures { result ≡ request_in reply.now }
 {
     match reply {
         Reply::Submitted(request) => *request,
@@ -67,37 +57,41 @@ fn request_in(reply: &Reply) -> RequestId
 }
 
 /// The item of the request's list whose turn it is.
-fn in_turn(entries: &[Entry], request: RequestId, items: &[Item]) -> Option<NextItem>
-    ensures { option_map as_next result ≡ next_repeating (Some (record { request = request.0; items = items.now })) (reverse entries.now) }
+fn in_turn(entries: &[Entry], request: RequestId, items: &[Item]) -> Option<Queued>
+    requires { length items.now < 2 ^ 32 }
+    ensures { result ≡ next_repeating (Some (record { request = request; items = items.now })) (reverse entries.now) }
 {
     if items.is_empty() {
         return None;
     }
     let index = sent_for(entries, request) % items.len();
     match items.get(index) {
-        Some(item) => Some(NextItem {
+        Some(item) => Some(Queued {
             request,
-            index,
+            index: index as u32,
             item: *item,
-            repeats: true,
+            repeating: true,
         }),
         None => None,
     }
 }
 
 /// The item whose turn it is, of the list that the command repeats.
-fn in_turn_of(entries: &[Entry], request: RequestId, command: Option<&Command>) -> Option<NextItem>
-    ensures { option_map as_next result ≡ next_repeating (repeating_of (option_copied command.entry) request.0) (reverse entries.now) }
+fn in_turn_of(entries: &[Entry], request: RequestId, command: Option<&Command>) -> Option<Queued>
+    ensures { result ≡ next_repeating (repeating_of (option_copied command.entry) request) (reverse entries.now) }
 {
     match command {
-        Some(Command::Repeat(items)) => in_turn(entries, request, items.as_slice()),
+        Some(Command::Repeat(items)) => {
+            let _count = items.len();
+            in_turn(entries, request, items.as_slice())
+        }
         _ => None,
     }
 }
 
 /// The item whose turn it is, of the list that the call leaves.
-fn in_turn_after(script: &Script, entries: &[Entry], call: Option<&Entry>) -> Option<NextItem>
-    ensures { option_map as_next result ≡ next_repeating (repeating_in script.now (option_copied call.entry)) (reverse entries.now) }
+fn in_turn_after(script: &Script, entries: &[Entry], call: Option<&Entry>) -> Option<Queued>
+    ensures { result ≡ next_repeating (repeating_in script.now (option_copied call.entry)) (reverse entries.now) }
 {
     match call {
         Some(Entry::Call { index, word, reply }) => {
@@ -113,8 +107,8 @@ fn in_turn_after(script: &Script, entries: &[Entry], call: Option<&Entry>) -> Op
 
 /// The repeating list's item in turn.
 #[tactic(auto, using(crate::proofs::PastLemmas::repeating_found))]
-pub fn next_repeating(script: &Script, entries: &[Entry]) -> Option<NextItem>
-    ensures { option_map as_next result ≡ next_repeating (repeating script.now (reverse entries.now)) (reverse entries.now) }
+pub fn next_repeating(script: &Script, entries: &[Entry]) -> Option<Queued>
+    ensures { result ≡ next_repeating (repeating script.now (reverse entries.now)) (reverse entries.now) }
 {
     in_turn_after(script, entries, last_setting(entries))
 }
@@ -124,17 +118,11 @@ fn leaves_a_list(script: &Script, call: Option<&Entry>) -> bool
     ensures { result ≡ is_some (repeating_in script.now (option_copied call.entry)) }
 {
     match call {
-        Some(Entry::Call { index, word, .. }) => is_repeat_word(*word)
-            && is_repeat(command_at(script, *index)),
+        Some(Entry::Call { index, word, .. }) => {
+            is_repeat_word(*word) && is_repeat(command_at(script, *index))
+        }
         _ => false,
     }
-}
-
-/// Whether the command repeats a list.
-fn is_repeat(command: Option<&Command>) -> bool
-    ensures { result ≡ is_repeat (option_copied command.entry) }
-{
-    matches!(command, Some(Command::Repeat(_)))
 }
 
 /// Whether there is a repeating list.
@@ -146,15 +134,15 @@ pub fn repeats(script: &Script, entries: &[Entry]) -> bool
 }
 
 /// The next item.
-pub fn next_item(script: &Script, entries: &[Entry]) -> Option<NextItem>
-    ensures { option_map as_next result ≡ next script.now (reverse entries.now) }
+pub fn next_item(script: &Script, entries: &[Entry]) -> Option<Queued>
+    ensures { result ≡ next script.now (reverse entries.now) }
 {
     match first_queued(script, entries) {
-        Some(waiting) => Some(NextItem {
+        Some(waiting) => Some(Queued {
             request: waiting.request,
             index: waiting.index,
             item: waiting.item,
-            repeats: false,
+            repeating: false,
         }),
         None => next_repeating(script, entries),
     }

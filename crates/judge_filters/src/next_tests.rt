@@ -1,5 +1,5 @@
 //! The items of two requests and a repeating list, one after the other.
-use super::next::{next_item, repeats};
+use crate::next::{next_item, repeats};
 use cam_types::{
     Command, CommandList, FaultList, Four, FrameNo, Item, ItemList, NoMemory, PickList, Reply,
     RequestId, Script, Settings, Targets, Word,
@@ -34,6 +34,8 @@ fn once_and_a_list(alloc: Global) -> Result<Script, NoMemory> {
     commands.push(Command::Repeat(items))?;
     commands.push(Command::Stop)?;
     Ok(Script {
+        profile: Profile::PLAIN,
+        early: false,
         faults: FaultList::new(alloc),
         picks: PickList::new(alloc),
         commands,
@@ -86,7 +88,7 @@ fn the_queue_goes_before_the_list(rt: HostRuntime) -> Result<(), Fail> {
     for (count, wanted, list) in rows {
         let entries = &trace[..count];
         let next = next_item(&script, entries);
-        assert!(rt; next.map(|next| (next.item.settings.level, next.repeats)) == wanted);
+        assert!(rt; next.map(|next| (next.item.settings.level, next.repeating)) == wanted);
         assert!(rt; repeats(&script, entries) == list);
     }
     Ok(())

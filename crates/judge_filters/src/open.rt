@@ -1,13 +1,18 @@
 //! When the device is done with a frame.
 ghost use Rattle.std.specs.Prelude.{◌≡◌, not, reverse, count_by, option_to_list};
 ghost use Rattle.std.specs.List.{list_all, list_any};
-ghost use Rattle.judge_filters.specs.Past.{on_send, at_send};
-ghost use Rattle.trace_model.specs.Entry.{is_partial, returns_of_frame};
-ghost use Rattle.trace_model.specs.Open.{has_part, has_error_result, has_error_buffer, is_metadata_ended, is_returned, all_returned, is_open, is_done, open_count, is_quiet, has_something};
+ghost use Rattle.judge_filters.specs.Past.{on_send, at_send, on_early};
+ghost use Rattle.trace_model.specs.Entry.{brings, is_partial, returns_of_frame};
+ghost use Rattle.trace_model.specs.Fence.{is_late};
+ghost use Rattle.trace_model.specs.Open.{has_part, has_error_result, has_error_buffer, is_metadata_ended, is_returned};
+ghost use Rattle.trace_model.specs.Open.{is_settled, all_settled, is_open, is_done, open_count, is_quiet, has_something};
 
-use judge_entries::entry::{is_error_buffer, is_error_result, is_part, is_partial, returns, returns_of_frame};
+use crate::fence::is_late;
 use crate::frame::{has_error, has_error_request, is_sent, targets_of};
 use cam_types::{FrameNo, StreamIx};
+use judge_entries::entry::{
+    brings, is_error_buffer, is_error_result, is_part, is_partial, returns_of_frame, returns_target,
+};
 use trace_model::{Entry, Sent};
 
 /// Whether the frame's metadata result of the number came.
@@ -48,49 +53,92 @@ pub fn is_metadata_ended(entries: &[Entry], frame: FrameNo) -> bool
         || (has_error_result(entries, frame) || has_error_request(entries, frame))
 }
 
-/// Whether the frame's buffer for the stream came back.
+/// Whether the frame's buffer for the stream came back, filled, failed or early.
 pub fn is_returned(entries: &[Entry], frame: FrameNo, stream: StreamIx) -> bool
     ensures { result ≡ is_returned frame.0 stream.0 (reverse entries.now) }
 {
     entries
         .iter()
         .rev()
-        .any(|entry| returns(entry, frame, stream))
+        .any(|entry| returns_target(entry, frame, stream))
 }
 
-fn is_target_returned(entries: &[Entry], frame: FrameNo, target: Option<Sent>) -> bool
-    ensures { result ≡ list_all (λ t. is_returned frame.0 t.stream.0 (reverse entries.now)) (option_to_list target) }
+/// Whether the frame's buffer for the stream came back filled or failed.
+fn is_brought(entries: &[Entry], frame: FrameNo, stream: StreamIx) -> bool
+    ensures { result ≡ list_any (brings frame.0 stream.0) (reverse entries.now) }
+{
+    entries
+        .iter()
+        .rev()
+        .any(|entry| brings(entry, frame, stream))
+}
+
+/// Whether the entry gives the frame's buffer for the stream back early, with a device fence that is signalled.
+fn is_early_and_there(entries: &[Entry], frame: FrameNo, stream: StreamIx, entry: &Entry) -> bool
+    ensures { result ≡ on_early frame.0 stream.0 (λ d. is_late d (reverse entries.now)) entry.now }
+{
+    match entry {
+        Entry::Early {
+            frame: of,
+            stream: on,
+            fence,
+            ..
+        } => (of.0 == frame.0 && on.0 == stream.0) && is_late(entries, *fence),
+        _ => false,
+    }
+}
+
+/// Whether the frame's buffer for the stream came back early, and its device fence is signalled.
+fn is_filled_late(entries: &[Entry], frame: FrameNo, stream: StreamIx) -> bool
+    ensures { result ≡ list_any (on_early frame.0 stream.0 (λ d. is_late d (reverse entries.now))) (reverse entries.now) }
+{
+    entries
+        .iter()
+        .rev()
+        .any(|entry| is_early_and_there(entries, frame, stream, entry))
+}
+
+/// Whether the device is done with the frame's buffer for the stream.
+#[tactic(auto, using(crate::proofs::FrameLemmas::fences_any))]
+pub fn is_settled(entries: &[Entry], frame: FrameNo, stream: StreamIx) -> bool
+    ensures { result ≡ is_settled frame.0 stream.0 (reverse entries.now) }
+{
+    is_brought(entries, frame, stream) || is_filled_late(entries, frame, stream)
+}
+
+fn is_target_settled(entries: &[Entry], frame: FrameNo, target: Option<Sent>) -> bool
+    ensures { result ≡ list_all (λ t. is_settled frame.0 t.stream.0 (reverse entries.now)) (option_to_list target) }
 {
     match target {
-        Some(sent) => is_returned(entries, frame, sent.stream),
+        Some(sent) => is_settled(entries, frame, sent.stream),
         None => true,
     }
 }
 
-/// Whether every buffer of the frame came back.
-#[tactic(auto, using(crate::proofs::PastLemmas::four_all))]
-pub fn all_returned(entries: &[Entry], frame: FrameNo) -> bool
-    ensures { result ≡ all_returned frame.0 (reverse entries.now) }
+/// Whether the device is done with every buffer of the frame.
+#[tactic(auto, using(judge_entries::proofs::General::four_all))]
+pub fn all_settled(entries: &[Entry], frame: FrameNo) -> bool
+    ensures { result ≡ all_settled frame.0 (reverse entries.now) }
 {
     let targets = targets_of(entries, frame);
-    is_target_returned(entries, frame, targets.a)
-        && (is_target_returned(entries, frame, targets.b)
-            && (is_target_returned(entries, frame, targets.c)
-                && is_target_returned(entries, frame, targets.d)))
+    is_target_settled(entries, frame, targets.a)
+        && (is_target_settled(entries, frame, targets.b)
+            && (is_target_settled(entries, frame, targets.c)
+                && is_target_settled(entries, frame, targets.d)))
 }
 
-/// Whether the frame is open: it was sent, and its metadata hasn't ended or a buffer of it is out.
+/// Whether the frame is open: it was sent, and its metadata hasn't ended or the device isn't done with a buffer of it.
 pub fn is_open(entries: &[Entry], frame: FrameNo) -> bool
     ensures { result ≡ is_open frame.0 (reverse entries.now) }
 {
-    is_sent(entries, frame) && !(is_metadata_ended(entries, frame) && all_returned(entries, frame))
+    is_sent(entries, frame) && !(is_metadata_ended(entries, frame) && all_settled(entries, frame))
 }
 
 /// Whether the frame was open and isn't any more.
 pub fn is_done(entries: &[Entry], frame: FrameNo) -> bool
     ensures { result ≡ is_done frame.0 (reverse entries.now) }
 {
-    is_sent(entries, frame) && (is_metadata_ended(entries, frame) && all_returned(entries, frame))
+    is_sent(entries, frame) && (is_metadata_ended(entries, frame) && all_settled(entries, frame))
 }
 
 /// Whether the entry sends a frame that is open.

@@ -1,15 +1,22 @@
 //! What holds of all frames that were sent under a smaller number.
-ghost use Rattle.std.specs.Prelude.{◌≡◌, ◌||◌, not, reverse, nat_lt};
+ghost use Rattle.std.specs.Prelude.{◌≡◌, reverse};
 ghost use Rattle.std.specs.List.{list_all};
-ghost use Rattle.judge_filters.specs.Past.{at_send};
+ghost use Rattle.judge_filters.specs.Past.{at_earlier, is_exposed};
 ghost use Rattle.trace_model.specs.Filled.{lets_pass};
-ghost use Rattle.trace_model.specs.Frames.{each_earlier, has_shutter, has_error_request};
+ghost use Rattle.trace_model.specs.Frames.{each_earlier};
 ghost use Rattle.trace_model.specs.Open.{is_metadata_ended};
 
 use crate::frame::{has_error_request, has_shutter, has_target};
 use crate::open::{has_error_buffer, is_metadata_ended, is_returned};
 use cam_types::{FrameNo, StreamIx};
 use trace_model::Entry;
+
+/// Whether the frame had its shutter or failed whole.
+fn is_exposed(entries: &[Entry], frame: FrameNo) -> bool
+    ensures { result ≡ is_exposed (reverse entries.now) frame.0 }
+{
+    has_shutter(entries, frame) || has_error_request(entries, frame)
+}
 
 /// Whether the frame doesn't hold later buffers of the stream back.
 pub fn lets_pass(entries: &[Entry], stream: StreamIx, frame: FrameNo) -> bool
@@ -21,19 +28,18 @@ pub fn lets_pass(entries: &[Entry], stream: StreamIx, frame: FrameNo) -> bool
 }
 
 fn is_exposed_before(entries: &[Entry], frame: FrameNo, entry: &Entry) -> bool
-    ensures { result ≡ at_send (λ m. not (nat_lt m frame.0) || (has_shutter m (reverse entries.now) || has_error_request m (reverse entries.now))) entry.now }
+    ensures { result ≡ at_earlier frame.0 (is_exposed (reverse entries.now)) entry.now }
 {
     match entry {
         Entry::Send { frame: earlier, .. } => {
-            frame.0 <= earlier.0
-                || (has_shutter(entries, *earlier) || has_error_request(entries, *earlier))
+            frame.0 <= earlier.0 || is_exposed(entries, *earlier)
         }
         _ => true,
     }
 }
 
 fn all_exposed_before(entries: &[Entry], frame: FrameNo) -> bool
-    ensures { result ≡ list_all (at_send (λ m. not (nat_lt m frame.0) || (has_shutter m (reverse entries.now) || has_error_request m (reverse entries.now)))) (reverse entries.now) }
+    ensures { result ≡ list_all (at_earlier frame.0 (is_exposed (reverse entries.now))) (reverse entries.now) }
 {
     entries
         .iter()
@@ -42,15 +48,15 @@ fn all_exposed_before(entries: &[Entry], frame: FrameNo) -> bool
 }
 
 /// Whether each earlier frame had its shutter or failed whole.
-#[tactic(auto, using(crate::proofs::FrameLemmas::frames_all))]
+#[tactic(auto, using(crate::proofs::FrameLemmas::earlier_all))]
 pub fn earlier_exposed(entries: &[Entry], frame: FrameNo) -> bool
-    ensures { result ≡ each_earlier frame.0 (λ m. has_shutter m (reverse entries.now) || has_error_request m (reverse entries.now)) (reverse entries.now) }
+    ensures { result ≡ each_earlier frame.0 (is_exposed (reverse entries.now)) (reverse entries.now) }
 {
     all_exposed_before(entries, frame)
 }
 
 fn is_metadata_ended_before(entries: &[Entry], frame: FrameNo, entry: &Entry) -> bool
-    ensures { result ≡ at_send (λ m. not (nat_lt m frame.0) || (is_metadata_ended m (reverse entries.now))) entry.now }
+    ensures { result ≡ at_earlier frame.0 (λ m. is_metadata_ended m (reverse entries.now)) entry.now }
 {
     match entry {
         Entry::Send { frame: earlier, .. } => {
@@ -61,7 +67,7 @@ fn is_metadata_ended_before(entries: &[Entry], frame: FrameNo, entry: &Entry) ->
 }
 
 fn all_metadata_ended_before(entries: &[Entry], frame: FrameNo) -> bool
-    ensures { result ≡ list_all (at_send (λ m. not (nat_lt m frame.0) || (is_metadata_ended m (reverse entries.now)))) (reverse entries.now) }
+    ensures { result ≡ list_all (at_earlier frame.0 (λ m. is_metadata_ended m (reverse entries.now))) (reverse entries.now) }
 {
     entries
         .iter()
@@ -70,7 +76,7 @@ fn all_metadata_ended_before(entries: &[Entry], frame: FrameNo) -> bool
 }
 
 /// Whether each earlier frame's metadata ended.
-#[tactic(auto, using(crate::proofs::FrameLemmas::frames_all))]
+#[tactic(auto, using(crate::proofs::FrameLemmas::earlier_all))]
 pub fn earlier_metadata_ended(entries: &[Entry], frame: FrameNo) -> bool
     ensures { result ≡ each_earlier frame.0 (λ m. is_metadata_ended m (reverse entries.now)) (reverse entries.now) }
 {
@@ -78,7 +84,7 @@ pub fn earlier_metadata_ended(entries: &[Entry], frame: FrameNo) -> bool
 }
 
 fn is_let_pass_before(entries: &[Entry], stream: StreamIx, frame: FrameNo, entry: &Entry) -> bool
-    ensures { result ≡ at_send (λ m. not (nat_lt m frame.0) || (lets_pass (reverse entries.now) stream.0 m)) entry.now }
+    ensures { result ≡ at_earlier frame.0 (lets_pass (reverse entries.now) stream.0) entry.now }
 {
     match entry {
         Entry::Send { frame: earlier, .. } => {
@@ -89,7 +95,7 @@ fn is_let_pass_before(entries: &[Entry], stream: StreamIx, frame: FrameNo, entry
 }
 
 fn all_let_pass_before(entries: &[Entry], stream: StreamIx, frame: FrameNo) -> bool
-    ensures { result ≡ list_all (at_send (λ m. not (nat_lt m frame.0) || (lets_pass (reverse entries.now) stream.0 m))) (reverse entries.now) }
+    ensures { result ≡ list_all (at_earlier frame.0 (lets_pass (reverse entries.now) stream.0)) (reverse entries.now) }
 {
     entries
         .iter()
@@ -98,9 +104,9 @@ fn all_let_pass_before(entries: &[Entry], stream: StreamIx, frame: FrameNo) -> b
 }
 
 /// Whether no earlier frame holds back later buffers of the stream.
-#[tactic(auto, using(crate::proofs::FrameLemmas::frames_all))]
+#[tactic(auto, using(crate::proofs::FrameLemmas::earlier_all))]
 pub fn earlier_let_pass(entries: &[Entry], stream: StreamIx, frame: FrameNo) -> bool
-    ensures { result ≡ each_earlier frame.0 (λ m. lets_pass (reverse entries.now) stream.0 m) (reverse entries.now) }
+    ensures { result ≡ each_earlier frame.0 (lets_pass (reverse entries.now) stream.0) (reverse entries.now) }
 {
     all_let_pass_before(entries, stream, frame)
 }

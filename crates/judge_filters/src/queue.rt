@@ -1,26 +1,17 @@
 //! What is to be captured next: the queue, and the repeating list.
-ghost use Rattle.std.specs.Prelude.{◌≡◌, ◌<◌, ◌^◌, not, reverse, filter, length, option_copied, option_map};
+ghost use Rattle.std.specs.Prelude.{◌≡◌, ◌<◌, ◌^◌, not, reverse, filter, length};
 ghost use Rattle.std.specs.List.{list_any};
-ghost use Rattle.judge_filters.specs.Queued.{as_waiting, or_first};
+ghost use Rattle.judge_filters.specs.Past.{or_first};
 ghost use Rattle.trace_model.specs.Entry.{takes};
-ghost use Rattle.trace_model.specs.Queue.{queued_items, named, puts, queued, is_taken, first_in};
+ghost use Rattle.trace_model.specs.Queue.{named, puts, queued, is_taken, first_in};
 
-use crate::call::command_at;
+use cam_types::{Item, Reply, RequestId, Script, WaitingItem};
+use judge_entries::command::{command_at, queued_items};
 use judge_entries::entry::takes;
-use cam_types::{Command, Item, Reply, RequestId, Script};
-use std::slice;
 use trace_model::Entry;
 
-/// An item of the queue, with the name that its call gave it.
-#[derive(Clone, Copy, Debug, PartialEq, Eq)]
-pub struct Waiting {
-    pub request: RequestId,
-    pub index: usize,
-    pub item: Item,
-}
-
 /// Whether a send or a drop names the item.
-pub fn is_taken(entries: &[Entry], request: RequestId, place: usize) -> bool
+pub fn is_taken(entries: &[Entry], request: RequestId, place: u32) -> bool
     ensures { result ≡ list_any (takes request.0 place) (reverse entries.now) }
 {
     entries
@@ -29,30 +20,16 @@ pub fn is_taken(entries: &[Entry], request: RequestId, place: usize) -> bool
         .any(|entry| takes(entry, request, place))
 }
 
-/// What an accepted command puts into the queue.
-pub fn queued_items(command: Option<&Command>) -> &[Item]
-    ensures items { result.now ≡ queued_items (option_copied command.entry) }
-    ensures few { length result.now < 2 ^ 32 }
-{
-    match command {
-        Some(Command::Once(item)) => slice::from_ref(item),
-        Some(Command::Burst(items)) => {
-            let _count = items.len();
-            items.as_slice()
-        }
-        _ => &[],
-    }
-}
-
 /// The first of a request's items that isn't taken.
-fn first_left(entries: &[Entry], request: RequestId, items: &[Item]) -> Option<Waiting>
-    ensures { option_map as_waiting result ≡ first_in (filter (λ w. not (is_taken (reverse entries.now) w)) (named request.0 0 items.now)) }
+fn first_left(entries: &[Entry], request: RequestId, items: &[Item]) -> Option<WaitingItem>
+    requires { length items.now < 2 ^ 32 }
+    ensures { result ≡ first_in (filter (λ w. not (is_taken (reverse entries.now) w)) (named request 0 items.now)) }
 {
     for (index, item) in items.iter().enumerate() {
-        if !is_taken(entries, request, index) {
-            return Some(Waiting {
+        if !is_taken(entries, request, index as u32) {
+            return Some(WaitingItem {
                 request,
-                index,
+                index: index as u32,
                 item: *item,
             });
         }
@@ -61,8 +38,8 @@ fn first_left(entries: &[Entry], request: RequestId, items: &[Item]) -> Option<W
 }
 
 /// The first of the items that the entry puts into the queue that isn't taken.
-fn first_put(script: &Script, entries: &[Entry], entry: &Entry) -> Option<Waiting>
-    ensures { option_map as_waiting result ≡ first_in (filter (λ w. not (is_taken (reverse entries.now) w)) (puts script.now entry.now)) }
+fn first_put(script: &Script, entries: &[Entry], entry: &Entry) -> Option<WaitingItem>
+    ensures { result ≡ first_in (filter (λ w. not (is_taken (reverse entries.now) w)) (puts script.now entry.now)) }
 {
     match entry {
         Entry::Call {
@@ -76,12 +53,12 @@ fn first_put(script: &Script, entries: &[Entry], entry: &Entry) -> Option<Waitin
 
 /// The item where there is one, else the first of those that the entry puts into the queue that isn't taken.
 fn or_first_put(
-    first: Option<Waiting>,
+    first: Option<WaitingItem>,
     script: &Script,
     entries: &[Entry],
     entry: &Entry,
-) -> Option<Waiting>
-    ensures { option_map as_waiting result ≡ or_first (option_map as_waiting first) (first_in (filter (λ w. not (is_taken (reverse entries.now) w)) (puts script.now entry.now))) }
+) -> Option<WaitingItem>
+    ensures { let left = filter (λ w. not (is_taken (reverse entries.now) w)) (puts script.now entry.now) in result ≡ or_first first (first_in left) }
 {
     match first {
         Some(_) => first,
@@ -91,8 +68,8 @@ fn or_first_put(
 
 /// The first item of the queue.
 #[tactic(auto, using(crate::proofs::QueueLemmas::first_more))]
-pub fn first_queued(script: &Script, entries: &[Entry]) -> Option<Waiting>
-    ensures { option_map as_waiting result ≡ first_in (queued script.now (reverse entries.now)) }
+pub fn first_queued(script: &Script, entries: &[Entry]) -> Option<WaitingItem>
+    ensures { result ≡ first_in (queued script.now (reverse entries.now)) }
 {
     let mut first = None;
     for entry in entries {

@@ -3,8 +3,8 @@ ghost use Rattle.std.specs.Prelude.{◌≡◌, reverse};
 ghost use Rattle.trace_model.specs.Stopping.{has_failed, is_stopping, is_stopped};
 
 use crate::call::begun;
-use judge_entries::entry::{is_error_device, is_stop, is_stop_word, sends};
 use cam_types::FrameNo;
+use judge_entries::entry::{is_error_device, is_stop, is_stop_word, sends};
 use trace_model::Entry;
 
 /// Whether the device failed.

@@ -74,7 +74,7 @@ fn what_the_past_says(rt: HostRuntime) -> Result<(), Fail> {
         assert!(rt; begun(past) == *word, "begun after {count}");
         assert!(rt; open_count(past) == *open, "open after {count}");
         assert!(rt;
-            is_in_pool(past, BufferId(0)) == *pool,
+            is_in_pool(past, 0) == *pool,
             "pool after {count}"
         );
         assert!(rt;
