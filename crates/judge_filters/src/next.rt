@@ -106,7 +106,7 @@ fn in_turn_after(script: &Script, entries: &[Entry], call: Option<&Entry>) -> Op
 }
 
 /// The repeating list's item in turn.
-#[tactic(auto, using(crate::proofs::PastLemmas::repeating_found))]
+#[tactic(auto, using(crate::proofs::RepeatLemmas::repeating_found))]
 pub fn next_repeating(script: &Script, entries: &[Entry]) -> Option<Queued>
     ensures { result ≡ next_repeating (repeating script.now (reverse entries.now)) (reverse entries.now) }
 {
@@ -126,8 +126,8 @@ fn leaves_a_list(script: &Script, call: Option<&Entry>) -> bool
 }
 
 /// Whether there is a repeating list.
-#[tactic(auto, using(crate::proofs::PastLemmas::repeating_found))]
-pub fn repeats(script: &Script, entries: &[Entry]) -> bool
+#[tactic(auto, using(crate::proofs::RepeatLemmas::repeating_found))]
+pub fn is_list_repeating(script: &Script, entries: &[Entry]) -> bool
     ensures { result ≡ is_some (repeating script.now (reverse entries.now)) }
 {
     leaves_a_list(script, last_setting(entries))

@@ -1,7 +1,7 @@
 //! The items of two requests and a repeating list, one after the other.
-use crate::next::{next_item, repeats};
+use crate::next::{is_list_repeating, next_item};
 use cam_types::{
-    Command, CommandList, FaultList, Four, FrameNo, Item, ItemList, NoMemory, PickList, Reply,
+    Command, CommandList, FaultList, Four, FrameNo, Item, ItemList, NoMemory, PickList, Profile, Reply,
     RequestId, Script, Settings, Targets, Word,
 };
 use std::alloc::Global;
@@ -34,6 +34,7 @@ fn once_and_a_list(alloc: Global) -> Result<Script, NoMemory> {
     commands.push(Command::Repeat(items))?;
     commands.push(Command::Stop)?;
     Ok(Script {
+        version: 1,
         profile: Profile::PLAIN,
         early: false,
         faults: FaultList::new(alloc),
@@ -89,7 +90,7 @@ fn the_queue_goes_before_the_list(rt: HostRuntime) -> Result<(), Fail> {
         let entries = &trace[..count];
         let next = next_item(&script, entries);
         assert!(rt; next.map(|next| (next.item.settings.level, next.repeating)) == wanted);
-        assert!(rt; repeats(&script, entries) == list);
+        assert!(rt; is_list_repeating(&script, entries) == list);
     }
     Ok(())
 }
