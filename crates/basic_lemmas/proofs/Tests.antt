@@ -76,6 +76,10 @@ pub given-where : {X : Type 0} (b : Bool) (x y : X) → (if b then Some x else N
 given-where true x y h = (refl, cc)
 given-where false x y h = absurd (cc)
 
+-- the test passes where something is given
+pub passed-where : {X : Type 0} (b : Bool) (x y : X) → (if b then Some x else None) ≡ Some y → b ≡ true
+passed-where b x y h = (given-where b x y h).0
+
 -- ---- numbers
 
 pub eq-turned : (d f : ℕ) → (f == d) ≡ false → (d == f) ≡ false

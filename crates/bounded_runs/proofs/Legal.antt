@@ -77,10 +77,10 @@ client_allowed script past (Some d) e at h =
     let due : begin_due script past ≡ Some e = at ∙ h in
     begin_shape (λ d. begin_due script past ≡ Some d → IsAllowed script past d) past (next_command script past) e due (λ c k. k) due
 
-pub drop_shape : (P : Entry → Type 0) (past : List Entry) (b : Bool) (o : Option WaitingItem) (e : Entry) → (if b then drop_of past o else None) ≡ Some e → ((w : WaitingItem) → P (Dropped (record { 0 = next_number past }) (record { 0 = w.request }) w.index)) → P e
+pub drop_shape : (P : Entry → Type 0) (past : List Entry) (b : Bool) (o : Option WaitingItem) (e : Entry) → (if b then drop_of past o else None) ≡ Some e → ((w : WaitingItem) → P (Dropped (record { 0 = next_number past }) (w.request) w.index)) → P e
 drop_shape P past false o e h each = absurd (cc)
 drop_shape P past true None e h each = absurd (cc)
-drop_shape P past true (Some w) e h each = let same : Dropped (record { 0 = next_number past }) (record { 0 = w.request }) w.index ≡ e = cc in rw same at (each w)
+drop_shape P past true (Some w) e h each = let same : Dropped (record { 0 = next_number past }) (w.request) w.index ≡ e = cc in rw same at (each w)
 
 drop_allowed : (script : Script) (past : List Entry) (e : Entry) → drop_due script past ≡ Some e → IsAllowed script past e
 drop_allowed script past e h =
@@ -266,21 +266,21 @@ four_filled (a ∷ (b ∷ [])) = refl
 four_filled (a ∷ (b ∷ (c ∷ []))) = refl
 four_filled (a ∷ (b ∷ (c ∷ (d ∷ xs)))) = refl
 
-send_fits : (script : Script) (past : List Entry) (w : Queued) (ts : List Sent) → may_go script past w ≡ true → AreTargets past (targets_in_order w.item) ts → fits_next script past (Some w) (next_number past) w.request w.index (mark_of script past w.item.settings) (four_of ts) ≡ true
+send_fits : (script : Script) (past : List Entry) (w : Queued) (ts : List Sent) → may_go script past w ≡ true → AreTargets past (targets_in_order w.item) ts → fits_next script past (Some w) (next_number past) w.request.0 w.index (mark_of script past w.item.settings) (four_of ts) ≡ true
 send_fits script past w ts may are =
     let short = filter-short (λ s. list_any (λ t. t == s) (take w.item.targets.count w.item.targets.list)) (0 ∷ (1 ∷ (2 ∷ (3 ∷ [])))) in
     let long = are.2 in
     let few : length ts ≤ 4 = omega (arith, long, short) in
     let list = four_list_of ts few in
-    rw (list, eq-eqb (next_number past) (next_number past) refl, eq-eqb w.request w.request refl, eq-eqb w.index w.index refl, may, are.0, are.1, four_filled ts, same_bool (mark_of script past w.item.settings)) refl
+    rw (list, eq-eqb (next_number past) (next_number past) refl, eq-eqb w.request.0 w.request.0 refl, eq-eqb w.index w.index refl, may, are.0, are.1, four_filled ts, same_bool (mark_of script past w.item.settings)) refl
 
 sends_with_targets : (script : Script) (past : List Entry) (w : Queued) (o : Option (List Sent)) (e : Entry) → next script past ≡ Some w → may_go script past w ≡ true → least_targets past (targets_in_order w.item) ≡ o → send_with script past w o ≡ Some e → IsAllowed script past e
 sends_with_targets script past w None e at may found h = absurd (cc)
 sends_with_targets script past w (Some ts) e at may found h =
-    let same : SendEntry (record { 0 = next_number past }) (record { 0 = w.request }) w.index (mark_of script past w.item.settings) (four_of ts) ≡ e = cc in
+    let same : SendEntry (record { 0 = next_number past }) (w.request) w.index (mark_of script past w.item.settings) (four_of ts) ≡ e = cc in
     let fits = send_fits script past w ts may (least_are past (targets_in_order w.item) ts found) in
-    let it : IsAllowed script past (SendEntry (record { 0 = next_number past }) (record { 0 = w.request }) w.index (mark_of script past w.item.settings) (four_of ts)) = rw at fits in
-    of_same (IsAllowed script past) (SendEntry (record { 0 = next_number past }) (record { 0 = w.request }) w.index (mark_of script past w.item.settings) (four_of ts)) e same it
+    let it : IsAllowed script past (SendEntry (record { 0 = next_number past }) (w.request) w.index (mark_of script past w.item.settings) (four_of ts)) = rw at fits in
+    of_same (IsAllowed script past) (SendEntry (record { 0 = next_number past }) (w.request) w.index (mark_of script past w.item.settings) (four_of ts)) e same it
 
 send_of_next : (script : Script) (past : List Entry) (o : Option Queued) (e : Entry) → next script past ≡ o → send_next script past o ≡ Some e → IsAllowed script past e
 send_of_next script past None e at h = absurd (cc)

@@ -1,4 +1,3 @@
-pub mod Lists
 pub mod Returns
 pub mod Own
 pub mod Conserved

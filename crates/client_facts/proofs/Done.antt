@@ -27,7 +27,6 @@ use Rattle.trace_model.specs.Numbers.{next_number}
 use Rattle.trace_model.specs.Open.{all_settled, has_error_result, has_part, has_something, is_done, is_metadata_ended, is_open, is_settled}
 use Rattle.trace_model.specs.Send.{may_send}
 use Rattle.trace_bounds.proofs.Shapes.{late-is}
-use Rattle.frame_laws.proofs.Lists.{where-given}
 use Rattle.frame_laws.proofs.Metadata.{ended-by, result-fails}
 use Rattle.frame_laws.proofs.Parts.{part-is}
 use Rattle.frame_laws.proofs.Sends.{all-sent, send-number, sent-below}
@@ -37,7 +36,7 @@ use Rattle.queue_facts.proofs.Names.{names_request, unnamed}
 use Rattle.client_facts.specs.Clients.{ends_early, ends_frame, finishes, one_if}
 use Rattle.client_facts.proofs.Settled.{not-its, settled-early, settled-signalled, settled-stays}
 use Rattle.client_facts.proofs.Counts.{falls, filter-agree, one-more}
-use Rattle.basic_lemmas.proofs.Tests.{or-alone}
+use Rattle.basic_lemmas.proofs.Tests.{or-alone, passed-where}
 use Rattle.basic_lemmas.proofs.Lists.{any-behind, all-where, all-agree}
 
 -- ---- frames
@@ -153,7 +152,7 @@ ends-sent script past (ErrorResult j) n legal may h =
     rw at at sent
 ends-sent script past (ErrorRequest j) n legal may h =
     let at = eqb-true j.0 n h in
-    let open_ = (and_parts (is_open j.0 past && not (has_something j.0 past)) _ (where-given (may_fail_request script past j.0) (ErrorRequest (record { 0 = j.0 })) (ErrorRequest j) may)).0 in
+    let open_ = (and_parts (is_open j.0 past && not (has_something j.0 past)) _ (passed-where (may_fail_request script past j.0) (ErrorRequest (record { 0 = j.0 })) (ErrorRequest j) may)).0 in
     let sent = (and_parts (is_sent j.0 past) _ (and_parts (is_open j.0 past) (not (has_something j.0 past)) open_).0).0 in
     rw at at sent
 ends-sent script past _ n legal may h = absurd (false≢true h)

@@ -23,7 +23,6 @@ use Rattle.cam_types.specs.declared.request.WaitingItem.{WaitingItem}
 use Rattle.trace_model.specs.Send.{awaited, awaited_in, may_send, repeated_since_call}
 use Rattle.trace_bounds.proofs.FrameLemmas.{send-of, takes_it}
 use Rattle.trace_bounds.proofs.Printed.{one-of-all}
-use Rattle.frame_laws.proofs.Lists.{where-given}
 use Rattle.frame_laws.proofs.Submitted.{is_settled, settled}
 use Rattle.frame_facts.proofs.Done.{counted}
 use Rattle.frame_facts.proofs.Pairs.{count-length, count-where}
@@ -31,7 +30,7 @@ use Rattle.frame_facts.proofs.Rows.{not_sent}
 use Rattle.buffer_laws.proofs.Sends.{frames-sent, not-the-next, send-number}
 use Rattle.due_facts.proofs.Quiet.{quiet-done}
 use Rattle.basic_lemmas.proofs.Lists.{all-filtered}
-use Rattle.basic_lemmas.proofs.Tests.{and-true}
+use Rattle.basic_lemmas.proofs.Tests.{and-true, passed-where}
 use Rattle.basic_lemmas.proofs.Counts.{count-cons}
 
 -- ---- a send is counted only where it may repeat
@@ -44,8 +43,8 @@ queue_settled script past n r i same targets legal any =
   where
     by : (w : WaitingItem) → is_settled script past w ≡ true → takes_it (Send n r i same targets) w ≡ true → is_repeating script past r.0 ≡ false
     by w h taken =
-        let not' = not-true (is_repeating script past w.request) (and_parts _ (not (is_repeating script past w.request)) h).1 in
-        let at = eqb-true r.0 w.request (and_parts (r.0 == w.request) (i == w.index) taken).0 in
+        let not' = not-true (is_repeating script past w.request.0) (and_parts _ (not (is_repeating script past w.request.0)) h).1 in
+        let at = eqb-true r.0 w.request.0 (and_parts (r.0 == w.request.0) (i == w.index) taken).0 in
         rw at not'
 
 send_counts : (script : Script) (past : List Entry) (n : FrameNo) (r : RequestId) (i : ℕ) (same : Bool) (targets : Four Sent) → IsLegal script past → may_send script past n.0 r.0 i same targets ≡ true → (is_repeating script past r.0 ≡ false) ⊎ (repeated_since_call script past < 64 + awaited script past)
@@ -80,7 +79,7 @@ before-begun script (e ∷ past) legal none = before-begun script past legal.1 n
 begins_first : (past : List Entry) (o : Option Command) (w : Word) → begin_of past o ≡ Some (Begin w) → begun past ≡ None
 begins_first past None w h = absurd (cc)
 begins_first past (Some c) w h =
-    let given = where-given (is_waiting_command c && not (is_some (begun past))) (Begin (word_of c)) (Begin w) h in
+    let given = passed-where (is_waiting_command c && not (is_some (begun past))) (Begin (word_of c)) (Begin w) h in
     none_of (begun past) (not-true (is_some (begun past)) (and_parts (is_waiting_command c) (not (is_some (begun past))) given).1)
   where
     none_of : (o : Option Word) → is_some o ≡ false → o ≡ None

@@ -19,10 +19,10 @@ use Rattle.trace_model.specs.Partial.{may_part, part_count, part_of}
 use Rattle.trace_model.specs.Place.{is_at_device_by}
 use Rattle.trace_model.specs.Stopping.{is_stopped}
 use Rattle.trace_bounds.proofs.Shapes.{early-is, filled-is}
-use Rattle.frame_laws.proofs.Lists.{where-given}
 use Rattle.frame_laws.proofs.Parts.{part-is}
 use Rattle.buffer_laws.proofs.Returns.{early-well, filled-well}
 use Rattle.basic_lemmas.proofs.Lists.{any-where}
+use Rattle.basic_lemmas.proofs.Tests.{passed-where}
 
 pub record IsCaused (script : Script) (past : List Entry) (n : ℕ) : Type 0 where
   pub began : (has_shutter n past || has_error_request n past) ≡ true
@@ -63,7 +63,7 @@ something_step n e past = six (is_partial n e) (list_any (is_partial n) past) (r
 
 part_given : (script : Script) (past : List Entry) (n k : ℕ) (o : Option ℕ) (e : Entry) → part_of script past n k o ≡ Some e → may_part script past n k ≡ true
 part_given script past n k None e h = absurd (cc)
-part_given script past n k (Some time) e h = where-given (may_part script past n k) (Partial (record { 0 = n }) k (part_at k (settings_of script past n) time)) e h
+part_given script past n k (Some time) e h = passed-where (may_part script past n k) (Partial (record { 0 = n }) k (part_at k (settings_of script past n) time)) e h
 
 no_fault : (a b f c : Bool) → ((not a && (not b && not f)) && c) ≡ true → not f ≡ true
 no_fault false false false c h = refl
@@ -81,7 +81,7 @@ in_part script past n h =
 failed_cause : (past : List Entry) (n s : ℕ) (o : Option Sent) (e : Entry) → failed_of past n s o ≡ Some e → (has_error_request n past || has_error_buffer n s past) ≡ true
 failed_cause past n s None e h = absurd (cc)
 failed_cause past n s (Some t) e h =
-    let given = where-given (is_at_device_by n s t.buffer.0 past && (has_error_request n past || has_error_buffer n s past)) (Failed (record { 0 = n }) (record { 0 = s }) t.buffer (fence_left t.fence past)) e h in
+    let given = passed-where (is_at_device_by n s t.buffer.0 past && (has_error_request n past || has_error_buffer n s past)) (Failed (record { 0 = n }) (record { 0 = s }) t.buffer (fence_left t.fence past)) e h in
     (and_parts (is_at_device_by n s t.buffer.0 past) (has_error_request n past || has_error_buffer n s past) given).1
 
 whole : (script : Script) (past : List Entry) (n : ℕ) → has_error_request n past ≡ true → IsCaused script past n
@@ -161,13 +161,13 @@ cause_of script past (Failed m s b f) n legal before h =
 cause_of script past (ErrorRequest m) n legal before h = whole script (ErrorRequest m ∷ past) n (or_left (m.0 == n) (has_error_request n past) h)
 cause_of script past (ErrorResult m) n legal before h =
     let at : m.0 ≡ n = eqb-true m.0 n h in
-    let may = where-given (may_fail_result script past m.0) (ErrorResult (record { 0 = m.0 })) (ErrorResult m) legal.0 in
+    let may = passed-where (may_fail_result script past m.0) (ErrorResult (record { 0 = m.0 })) (ErrorResult m) legal.0 in
     let first = and_parts (may_fail_in_part script past m.0 && not (is_metadata_ended m.0 past)) (each_earlier m.0 (λ j. is_metadata_ended j past) past && (result_fault script m.0 || is_cut_short past m.0)) may in
     let second = and_parts (may_fail_in_part script past m.0) (not (is_metadata_ended m.0 past)) first.0 in
     still_caused script past (ErrorResult m) n (rw (← at) (in_part script past m.0 second.0))
 cause_of script past (ErrorBuffer m s) n legal before h =
     let at : m.0 ≡ n = eqb-true m.0 n h in
-    let may = where-given (may_fail_buffer script past m.0 s.0) (ErrorBuffer (record { 0 = m.0 }) (record { 0 = s.0 })) (ErrorBuffer m s) legal.0 in
+    let may = passed-where (may_fail_buffer script past m.0 s.0) (ErrorBuffer (record { 0 = m.0 }) (record { 0 = s.0 })) (ErrorBuffer m s) legal.0 in
     let first = and_parts (has_target m.0 s.0 past && (may_fail_in_part script past m.0 && not (has_error_request m.0 past))) ((not (has_error_buffer m.0 s.0 past) && not (is_returned m.0 s.0 past)) && (buffer_fault script m.0 s.0 || is_cut_short past m.0)) may in
     let second = and_parts (has_target m.0 s.0 past) (may_fail_in_part script past m.0 && not (has_error_request m.0 past)) first.0 in
     let third = and_parts (may_fail_in_part script past m.0) (not (has_error_request m.0 past)) second.1 in

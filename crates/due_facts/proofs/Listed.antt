@@ -55,7 +55,7 @@ abbrev pub AreQueued : Script → List Entry → (WaitingItem → Bool) → Type
 AreQueued script past p = list_all p (queued script past) ≡ true
 
 old_kept : (script : Script) (past : List Entry) (e : Entry) (p : WaitingItem → Bool) → AreQueued script past p → list_all p (filter (λ w. not (is_taken (e ∷ past) w)) (submitted script past)) ≡ true
-old_kept script past e p all = fewer p (λ w. not (is_taken past w)) (λ w. not (is_taken (e ∷ past) w)) (submitted script past) (λ w h. untaken (takes w.request w.index e) (is_taken past w) h) all
+old_kept script past e p all = fewer p (λ w. not (is_taken past w)) (λ w. not (is_taken (e ∷ past) w)) (submitted script past) (λ w h. untaken (takes w.request.0 w.index e) (is_taken past w) h) all
 
 queue_kept : (script : Script) (past : List Entry) (e : Entry) (p : WaitingItem → Bool) → puts script e ≡ [] → AreQueued script past p → AreQueued script (e ∷ past) p
 queue_kept script past e p none all = rw (none, append-nil (submitted script past)) (old_kept script past e p all)

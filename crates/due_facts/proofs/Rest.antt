@@ -81,7 +81,7 @@ module _ (script : Script) (past : List Entry) (able : IsAble script.profile) (l
         | inr on ↦ (
             let all = rw at at (queue-served script past legal) in
             let served = (and_parts (is_served script past v.item) (list_all (λ w. is_served script past w.item) vs) all).0 in
-            let w : Queued = record { request = v.request; index = v.index; item = v.item; repeats = false } in
+            let w : Queued = record { request = v.request; index = v.index; item = v.item; repeating = false } in
             Sends (send-goes script past able legal quiet home w (rw at refl) served on refl)
             )
       ]
@@ -90,10 +90,10 @@ module _ (script : Script) (past : List Entry) (able : IsAble script.profile) (l
   list_goes : (q : Repeating) → queued script past ≡ [] → repeating script past ≡ Some q → is_stopping past ≡ false → may_repeat script past ≡ true → RestOf script past
   list_goes q none list on may =
       let all = list-served script past legal q list in
-      let i = sent_for q.request past % length q.items in
-      let there = within_some q.items i (mod_below (sent_for q.request past) (length q.items) all.0) in
+      let i = sent_for q.request.0 past % length q.items in
+      let there = within_some q.items i (mod_below (sent_for q.request.0 past) (length q.items) all.0) in
       let served = at-all (is_served script past) q.items i there.0 all.1 there.1 in
-      let w : Queued = record { request = q.request; index = i; item = there.0; repeats = true } in
+      let w : Queued = record { request = q.request; index = i; item = there.0; repeating = true } in
       Sends (send-goes script past able legal quiet home w (rw (none, list, there.1) refl) served on may)
 
   await_repeats : (k : ℕ) → begun past ≡ Some WordAwait → next_command script past ≡ Some (Await k) → nat_le k (done_since_begin script past) ≡ false → may_repeat script past ≡ true

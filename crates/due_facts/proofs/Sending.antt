@@ -54,7 +54,7 @@ module _ (script : Script) (past : List Entry) (able : IsAble script.profile) (l
   with_some w None h = absurd (false≢true h)
   with_some w (Some ts) h = refl
 
-  pub send-goes : (w : Queued) → next script past ≡ Some w → is_served script past w.item ≡ true → is_stopping past ≡ false → (not w.repeats || may_repeat script past) ≡ true → is_some (send_due script past) ≡ true
+  pub send-goes : (w : Queued) → next script past ≡ Some w → is_served script past w.item ≡ true → is_stopping past ≡ false → (not w.repeating || may_repeat script past) ≡ true → is_some (send_due script past) ≡ true
   send-goes w at served' on repeats =
       let served = (and_parts (list_all (serves script past) (targets_in_order w.item)) (some_of (targets_in_order w.item)) served').0 in
       let rooms : list_all (has_room script past) (targets_in_order w.item) ≡ true = all-where (serves script past) (has_room script past) (targets_in_order w.item) (λ s h. room s h) served in

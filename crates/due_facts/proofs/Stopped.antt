@@ -18,7 +18,7 @@ use Rattle.trace_model.proofs.LawLemmas.{goes}
 
 goes_on : (script : Script) (past : List Entry) (o : Option Queued) (n r i : ℕ) (same : Bool) (targets : Four Sent) → fits_next script past o n r i same targets ≡ true → is_stopping past ≡ false
 goes_on script past None n r i same targets h = absurd (false≢true h)
-goes_on script past (Some w) n r i same targets h = not-true (is_stopping past) (and_parts (not (is_stopping past)) (has_capacity script past (targets_in_order w.item) && (not w.repeats || may_repeat script past)) (goes script past w n r i same targets h).now).0
+goes_on script past (Some w) n r i same targets h = not-true (is_stopping past) (and_parts (not (is_stopping past)) (has_capacity script past (targets_in_order w.item) && (not w.repeating || may_repeat script past)) (goes script past w n r i same targets h).now).0
 
 pub stopping-stops : (script : Script) (past : List Entry) (n : ℕ) → IsLegal script past → is_sent n past ≡ true → is_stopping past ≡ true → is_stopped n past ≡ true
 stopping-stops script [] n legal sent stopping = absurd (false≢true sent)

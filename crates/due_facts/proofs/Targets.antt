@@ -24,17 +24,17 @@ use Rattle.due_facts.proofs.Served.{is_served, serves, some_of}
 cycle_served : (script : Script) (past : List Entry) (q : Repeating) (k : ℕ) (o : Option Item) (w : Queued) → list_all (is_served script past) q.items ≡ true → slice_get q.items k ≡ o → next_at q.request k o ≡ Some w → is_served script past w.item ≡ true
 cycle_served script past q k None w all at h = absurd (cc)
 cycle_served script past q k (Some item) w all at h =
-    let same : record { request = q.request; index = k; item = item; repeats = true } ≡ w = cc in
+    let same : record { request = q.request; index = k; item = item; repeating = true } ≡ w = cc in
     rw (← same) (at-all (is_served script past) q.items k item all at)
 
 next_by : (script : Script) (past : List Entry) (xs : List WaitingItem) (q : Option Repeating) (w : Queued) → IsLegal script past → queued script past ≡ xs → repeating script past ≡ q → next_from (first_in xs) (next_repeating q past) ≡ Some w → is_served script past w.item ≡ true
 next_by script past (v ∷ vs) q w legal at list h =
-    let same : record { request = v.request; index = v.index; item = v.item; repeats = false } ≡ w = cc in
+    let same : record { request = v.request; index = v.index; item = v.item; repeating = false } ≡ w = cc in
     let all = rw at at (queue-served script past legal) in
     rw (← same) (and_parts (is_served script past v.item) (list_all (λ x. is_served script past x.item) vs) all).0
 next_by script past [] None w legal at list h = absurd (cc)
 next_by script past [] (Some q) w legal at list h =
-    let k = sent_for q.request past % length q.items in
+    let k = sent_for q.request.0 past % length q.items in
     cycle_served script past q k (slice_get q.items k) w (list-served script past legal q list).1 refl h
 
 abbrev pub has_some : List Sent → Bool

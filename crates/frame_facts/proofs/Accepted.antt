@@ -39,8 +39,8 @@ repeating_accepted script past r legal h =
 
 queued_accepted : (script : Script) (past : List Entry) (n : FrameNo) (r : RequestId) (i : ℕ) (same : Bool) (targets : Four Sent) (w : WaitingItem) → is_settled script past w ≡ true → takes_it (Send n r i same targets) w ≡ true → r.0 < request_count past
 queued_accepted script past n r i same targets w h taken =
-    let less = ltb-true w.request (request_count past) (and_parts (nat_lt w.request (request_count past)) (not (is_repeating script past w.request)) h).0 in
-    let at = eqb-true r.0 w.request (and_parts (r.0 == w.request) (i == w.index) taken).0 in
+    let less = ltb-true w.request.0 (request_count past) (and_parts (nat_lt w.request.0 (request_count past)) (not (is_repeating script past w.request.0)) h).0 in
+    let at = eqb-true r.0 w.request.0 (and_parts (r.0 == w.request.0) (i == w.index) taken).0 in
     omega (arith, less, at)
 
 -- a send is for an accepted request

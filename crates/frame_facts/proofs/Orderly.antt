@@ -31,8 +31,8 @@ use Rattle.basic_lemmas.proofs.Counts.{filter-short}
 capacity_by : (script : Script) (past : List Entry) (o : Option Queued) (n r i : ℕ) (same : Bool) (targets : Four Sent) → fits_next script past o n r i same targets ≡ true → open_count past < script.profile.depth
 capacity_by script past None n r i same targets h = absurd (false≢true h)
 capacity_by script past (Some w) n r i same targets h =
-    let first = and_parts (not (is_stopping past)) (has_capacity script past (targets_in_order w.item) && (not w.repeats || may_repeat script past)) (goes script past w n r i same targets h).now in
-    let second = and_parts (has_capacity script past (targets_in_order w.item)) (not w.repeats || may_repeat script past) first.1 in
+    let first = and_parts (not (is_stopping past)) (has_capacity script past (targets_in_order w.item) && (not w.repeating || may_repeat script past)) (goes script past w n r i same targets h).now in
+    let second = and_parts (has_capacity script past (targets_in_order w.item)) (not w.repeating || may_repeat script past) first.1 in
     ltb-true (open_count past) script.profile.depth (and_parts (nat_lt (open_count past) script.profile.depth) (list_all (has_room script past) (targets_in_order w.item)) second.0).0
 
 rows_grow : (script : Script) (past : List Entry) (e : Entry) → IsLegal script (e ∷ past) → length (open_rows script (e ∷ past)) ≤ length (open_rows script past) + length (new_rows script past e)

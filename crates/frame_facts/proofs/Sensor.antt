@@ -13,7 +13,6 @@ use Rattle.trace_model.specs.Legal.{IsLegal}
 use Rattle.trace_model.specs.Open.{has_error_result, has_part}
 use Rattle.trace_model.specs.Shutter.{is_next_for_sensor, may_expose, next_time, shutter_at, shutter_due}
 use Rattle.trace_model.specs.Stopping.{is_stopping}
-use Rattle.frame_laws.proofs.Lists.{where-given}
 use Rattle.frame_laws.proofs.Metadata.{result-fails}
 use Rattle.frame_laws.proofs.Parts.{part-is}
 use Rattle.frame_laws.proofs.Sends.{each-at}
@@ -27,6 +26,7 @@ use Rattle.frame_facts.proofs.Order.{first-order, order-sent}
 use Rattle.frame_facts.proofs.OpenRows.{IsDone, closed-done, frame-among, row-found, timed-shutter}
 use Rattle.frame_facts.proofs.Unsent.{buffer_exposed}
 use Rattle.basic_lemmas.proofs.Lists.{all-where}
+use Rattle.basic_lemmas.proofs.Tests.{passed-where}
 
 -- frames are in order
 pub frames-fall : (script : Script) (past : List Entry) → IsLegal script past → falls (frames past) ≡ true
@@ -54,7 +54,7 @@ error-unexposed script [] n legal h = refl
 error-unexposed script (Shutter m time ∷ past) n legal h = error-unexposed script past n legal.1 (or_parts (m.0 == n) (has_shutter n past) h).1
 error-unexposed script (ErrorRequest m ∷ past) n legal h = rw (error-unexposed script past n legal.1 h) refl
 error-unexposed script (ErrorResult m ∷ past) n legal h = rw (other_frame m.0 n past h (result-fails script past m legal.0).shutter) (error-unexposed script past n legal.1 h)
-error-unexposed script (ErrorBuffer m s ∷ past) n legal h = rw (other_frame m.0 n past h (buffer_exposed script past m.0 s.0 (where-given _ _ _ legal.0))) (error-unexposed script past n legal.1 h)
+error-unexposed script (ErrorBuffer m s ∷ past) n legal h = rw (other_frame m.0 n past h (buffer_exposed script past m.0 s.0 (passed-where _ _ _ legal.0))) (error-unexposed script past n legal.1 h)
 error-unexposed script (e ∷ past) n legal h = error-unexposed script past n legal.1 h
 
 pub part-unexposed : (script : Script) (past : List Entry) (n k : ℕ) → IsLegal script past → has_shutter n past ≡ false → has_part n k past ≡ false

@@ -14,7 +14,6 @@ use Rattle.trace_model.specs.Faults.{buffer_fault}
 use Rattle.trace_model.specs.Frames.{has_error, has_error_request, has_target, target_of, targets_of}
 use Rattle.trace_model.specs.Legal.{IsLegal}
 use Rattle.trace_model.specs.Open.{has_error_buffer, has_error_result, has_something, is_returned}
-use Rattle.frame_laws.proofs.Lists.{where-given}
 use Rattle.buffer_laws.proofs.Returns.{early-back, failed-back, filled-back}
 use Rattle.buffer_laws.proofs.Sends.{send-number}
 use Rattle.frame_facts.specs.Row.{row_of, target_at}
@@ -23,6 +22,7 @@ use Rattle.frame_facts.proofs.Rows.{not_sent}
 use Rattle.frame_facts.proofs.Unsent.{speaks, unspoken}
 use Rattle.basic_lemmas.proofs.Counts.{none-counted, some-counted}
 use Rattle.basic_lemmas.proofs.Lists.{found-any, any-where, any-less, any-mapped, any-or, any-never}
+use Rattle.basic_lemmas.proofs.Tests.{passed-where}
 
 -- what is said of a frame's targets, one by one, is what is said of any, where each entry says it of a target
 swap_any : (script : Script) (n : ℕ) (g : ℕ → Entry → Bool) (any : Entry → Bool) → ((s : ℕ) (e : Entry) → g s e ≡ true → speaks n e ≡ true) → ((e : Entry) → any e ≡ true → speaks n e ≡ true) → ((past : List Entry) (e : Entry) → IsLegal script (e ∷ past) → list_any (λ t. g t.stream.0 e) (targets_of n past) ≡ any e) → (past : List Entry) → IsLegal script past → list_any (λ t. list_any (g t.stream.0) past) (targets_of n past) ≡ list_any any past
@@ -88,7 +88,7 @@ announce_target script past n s may =
 
 announce_by : (script : Script) (n : ℕ) (past : List Entry) (e : Entry) → IsLegal script (e ∷ past) → list_any (λ t. is_error_buffer n t.stream.0 e) (targets_of n past) ≡ announces n e
 announce_by script n past (ErrorBuffer m s) legal =
-    named_by m.0 n s.0 past (any-where (λ t. t.stream.0 == s.0) (λ t. s.0 == t.stream.0) (targets_of m.0 past) (λ u h. eq-eqb s.0 u.stream.0 (sym (eqb-true u.stream.0 s.0 h))) (announce_target script past m.0 s.0 (where-given _ _ _ legal.0)))
+    named_by m.0 n s.0 past (any-where (λ t. t.stream.0 == s.0) (λ t. s.0 == t.stream.0) (targets_of m.0 past) (λ u h. eq-eqb s.0 u.stream.0 (sym (eqb-true u.stream.0 s.0 h))) (announce_target script past m.0 s.0 (passed-where _ _ _ legal.0)))
 announce_by script n past _ legal = any-never (λ t. false) (targets_of n past) (λ t. refl)
 
 announce_speaks : (n s : ℕ) (e : Entry) → is_error_buffer n s e ≡ true → speaks n e ≡ true

@@ -13,7 +13,6 @@ use Rattle.trace_model.specs.Legal.{IsLegal}
 use Rattle.trace_model.specs.Open.{all_settled, has_error_buffer, has_error_result, has_something, is_metadata_ended, is_open, is_returned}
 use Rattle.trace_model.specs.Partial.{part_count}
 use Rattle.trace_model.specs.Stopping.{is_stopped}
-use Rattle.frame_laws.proofs.Lists.{where-given}
 use Rattle.frame_laws.proofs.Metadata.{result-fails}
 use Rattle.frame_laws.proofs.Parts.{part-is}
 use Rattle.frame_laws.proofs.Shutters.{exposed, shutter-sent}
@@ -21,6 +20,7 @@ use Rattle.buffer_laws.proofs.Returns.{early-back, failed-back, filled-back}
 use Rattle.buffer_laws.proofs.Sends.{out-sent}
 use Rattle.basic_lemmas.proofs.Counts.{none-counted}
 use Rattle.basic_lemmas.proofs.Lists.{any-less}
+use Rattle.basic_lemmas.proofs.Tests.{passed-where}
 
 -- the entry says something of frame n
 abbrev pub speaks : ℕ → Entry → Bool
@@ -53,9 +53,9 @@ spoken_sent script past (Partial m k part) n legal h = rw (eqb-true m.0 n h) at 
 spoken_sent script past (Filled m s b f d) n legal h = rw (eqb-true m.0 n h) at (out-sent past m.0 s.0 b.0 (filled-back script past m s b f d legal.0).out)
 spoken_sent script past (Failed m s b f) n legal h = rw (eqb-true m.0 n h) at (out-sent past m.0 s.0 b.0 (failed-back past m s b f legal.0).out)
 spoken_sent script past (Early m s b d) n legal h = rw (eqb-true m.0 n h) at (out-sent past m.0 s.0 b.0 (early-back script past m s b d legal.0).out)
-spoken_sent script past (ErrorRequest m) n legal h = rw (eqb-true m.0 n h) at (open_sent script past m.0 (where-given _ _ _ legal.0))
+spoken_sent script past (ErrorRequest m) n legal h = rw (eqb-true m.0 n h) at (open_sent script past m.0 (passed-where _ _ _ legal.0))
 spoken_sent script past (ErrorResult m) n legal h = rw (eqb-true m.0 n h) at (shutter-sent script past m.0 legal.1 (result-fails script past m legal.0).shutter)
-spoken_sent script past (ErrorBuffer m s) n legal h = rw (eqb-true m.0 n h) at (shutter-sent script past m.0 legal.1 (buffer_exposed script past m.0 s.0 (where-given _ _ _ legal.0)))
+spoken_sent script past (ErrorBuffer m s) n legal h = rw (eqb-true m.0 n h) at (shutter-sent script past m.0 legal.1 (buffer_exposed script past m.0 s.0 (passed-where _ _ _ legal.0)))
 spoken_sent script past _ n legal h = absurd (false≢true h)
 
 pub unspoken : (script : Script) (past : List Entry) (n : ℕ) → IsLegal script past → is_sent n past ≡ false → list_any (speaks n) past ≡ false

@@ -43,7 +43,7 @@ first_taken e past r i (w ∷ xs) any it =
       | inr free ↦ (
           let any' = rw free at any in
           elim (cases_Bool (takes_it e w)) [
-            | inl here ↦ (let same = same_item e w.request w.index r i here it in rw (← same.0, ← same.1) free)
+            | inl here ↦ (let same = same_item e w.request.0 w.index r i here it in rw (← same.0, ← same.1) free)
             | inr other ↦ (let any'' = rw other at any' in first_taken e past r i xs any'' it)
           ]
           )
@@ -81,15 +81,15 @@ all_taken past (w ∷ xs) h =
       | inr free ↦ (let h' = rw free at h in absurd (false≢true h'))
     ]
 
-taken_once : (script : Script) (past : List Entry) (w : WaitingItem) → IsLegal script past → is_settled script past w ≡ true → is_taken past w ≡ true → (count_by (takes w.request w.index) past == 1) ≡ true
+taken_once : (script : Script) (past : List Entry) (w : WaitingItem) → IsLegal script past → is_settled script past w ≡ true → is_taken past w ≡ true → (count_by (takes w.request.0 w.index) past == 1) ≡ true
 taken_once script past w legal settled' taken =
-    let parts = and_parts (nat_lt w.request (request_count past)) (not (is_repeating script past w.request)) settled' in
-    let once = not-true (is_repeating script past w.request) parts.1 in
-    eq-eqb (count_by (takes w.request w.index) past) 1 (taken-counted script past w.request w.index legal once ∙ rw taken refl)
+    let parts = and_parts (nat_lt w.request.0 (request_count past)) (not (is_repeating script past w.request.0)) settled' in
+    let once = not-true (is_repeating script past w.request.0) parts.1 in
+    eq-eqb (count_by (takes w.request.0 w.index) past) 1 (taken-counted script past w.request.0 w.index legal once ∙ rw taken refl)
 
-pub items_once : (script : Script) (past : List Entry) → IsComplete script past → list_all (λ w. count_by (takes w.request w.index) past == 1) (submitted script past) ≡ true
+pub items_once : (script : Script) (past : List Entry) → IsComplete script past → list_all (λ w. count_by (takes w.request.0 w.index) past == 1) (submitted script past) ≡ true
 items_once script past complete =
-    all-where-both (is_settled script past) (is_taken past) (λ w. count_by (takes w.request w.index) past == 1) (submitted script past)
+    all-where-both (is_settled script past) (is_taken past) (λ w. count_by (takes w.request.0 w.index) past == 1) (submitted script past)
     (λ w settled' taken. taken_once script past w complete.legal settled' taken)
     (settled script past complete.legal)
     (all_taken past (submitted script past) complete.queue)

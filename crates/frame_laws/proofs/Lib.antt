@@ -1,4 +1,3 @@
-pub mod Lists
 pub mod Sends
 pub mod Shutters
 pub mod Parts

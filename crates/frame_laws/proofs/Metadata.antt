@@ -18,11 +18,10 @@ use Rattle.trace_model.specs.Laws.{ends_metadata}
 use Rattle.trace_model.specs.Legal.{IsLegal}
 use Rattle.trace_model.specs.Open.{all_settled, has_error_result, has_part, has_something, is_metadata_ended, is_open}
 use Rattle.trace_model.specs.Stopping.{is_stopped}
-use Rattle.frame_laws.proofs.Lists.{where-given}
 use Rattle.frame_laws.proofs.Parts.{HaveEnded, part-first, part-is}
 use Rattle.frame_laws.proofs.Sends.{all-sent}
 use Rattle.frame_laws.proofs.Shutters.{no-request}
-use Rattle.basic_lemmas.proofs.Tests.{or-alone, or-crossed-three}
+use Rattle.basic_lemmas.proofs.Tests.{or-alone, or-crossed-three, passed-where}
 use Rattle.basic_lemmas.proofs.Lists.{any-less, all-where-both}
 use Rattle.basic_lemmas.proofs.Counts.{counts-once}
 
@@ -43,7 +42,7 @@ pub record ResultFails (past : List Entry) (n : ℕ) : Type 0 where
 
 pub result-fails : (script : Script) (past : List Entry) (n : FrameNo) → error_result_due script past n.0 ≡ Some (ErrorResult n) → ResultFails past n.0
 result-fails script past n h =
-    let may = where-given (may_fail_result script past n.0) (ErrorResult (record { 0 = n.0 })) (ErrorResult n) h in
+    let may = passed-where (may_fail_result script past n.0) (ErrorResult (record { 0 = n.0 })) (ErrorResult n) h in
     let in_part = may_fail_in_part script past n.0 in
     let ended = is_metadata_ended n.0 past in
     let earlier = each_earlier n.0 (λ m. is_metadata_ended m past) past in
@@ -73,7 +72,7 @@ not_ended n past h =
 
 pub request-fails : (script : Script) (past : List Entry) (n : FrameNo) → error_request_due script past n.0 ≡ Some (ErrorRequest n) → is_metadata_ended n.0 past ≡ false
 request-fails script past n h =
-    let may = where-given (may_fail_request script past n.0) (ErrorRequest (record { 0 = n.0 })) (ErrorRequest n) h in
+    let may = passed-where (may_fail_request script past n.0) (ErrorRequest (record { 0 = n.0 })) (ErrorRequest n) h in
     let nothing = not (has_something n.0 past) in
     let first = and_parts (is_open n.0 past && nothing) ((request_fault script n.0 && has_shutter n.0 past) || is_stopped n.0 past) may in
     let second = and_parts (is_open n.0 past) nothing first.0 in

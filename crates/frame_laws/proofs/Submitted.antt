@@ -74,32 +74,32 @@ not-repeating-before script past i w q r legal may h =
 
 -- the item's request was accepted, and isn't a repeating one
 abbrev pub is_settled : Script → List Entry → WaitingItem → Bool
-is_settled script past w = nat_lt w.request (request_count past) && not (is_repeating script past w.request)
+is_settled script past w = nat_lt w.request.0 (request_count past) && not (is_repeating script past w.request.0)
 
 stays_settled : (script : Script) (past : List Entry) (i : ℕ) (word : Word) (q : RequestId) (w : WaitingItem) → q.0 ≡ request_count past → is_settled script past w ≡ true → is_settled script (Call i word (Submitted q) ∷ past) w ≡ true
 stays_settled script past i word q w number h =
-    let parts = and_parts (nat_lt w.request (request_count past)) (not (is_repeating script past w.request)) h in
-    let less = ltb-true w.request (request_count past) parts.0 in
+    let parts = and_parts (nat_lt w.request.0 (request_count past)) (not (is_repeating script past w.request.0)) h in
+    let less = ltb-true w.request.0 (request_count past) parts.0 in
     let after = requests_after past i word q in
-    let other : (q.0 == w.request) ≡ false = ne_eqb q.0 w.request (λ at. absurd (omega (arith, number, less, at))) in
-    let still : not (is_repeating script (Call i word (Submitted q) ∷ past) w.request) ≡ true = rw other parts.1 in
-    and_from (nat_lt w.request (request_count (Call i word (Submitted q) ∷ past))) (not (is_repeating script (Call i word (Submitted q) ∷ past) w.request)) (lt-ltb w.request (request_count (Call i word (Submitted q) ∷ past)) (omega (arith, less, after))) still
+    let other : (q.0 == w.request.0) ≡ false = ne_eqb q.0 w.request.0 (λ at. absurd (omega (arith, number, less, at))) in
+    let still : not (is_repeating script (Call i word (Submitted q) ∷ past) w.request.0) ≡ true = rw other parts.1 in
+    and_from (nat_lt w.request.0 (request_count (Call i word (Submitted q) ∷ past))) (not (is_repeating script (Call i word (Submitted q) ∷ past) w.request.0)) (lt-ltb w.request.0 (request_count (Call i word (Submitted q) ∷ past)) (omega (arith, less, after))) still
 
-now_settled : (script : Script) (past : List Entry) (i : ℕ) (word : Word) (q : RequestId) (w : WaitingItem) → q.0 ≡ request_count past → is_repeat (command_at script i) ≡ false → w.request ≡ q.0 → is_settled script (Call i word (Submitted q) ∷ past) w ≡ true
+now_settled : (script : Script) (past : List Entry) (i : ℕ) (word : Word) (q : RequestId) (w : WaitingItem) → q.0 ≡ request_count past → is_repeat (command_at script i) ≡ false → w.request.0 ≡ q.0 → is_settled script (Call i word (Submitted q) ∷ past) w ≡ true
 now_settled script past i word q w number once at =
     let after = requests_after past i word q in
-    let here : (q.0 == w.request) ≡ true = eq-eqb q.0 w.request (sym at) in
-    let still : not (is_repeating script (Call i word (Submitted q) ∷ past) w.request) ≡ true = rw (here, once) refl in
-    and_from (nat_lt w.request (request_count (Call i word (Submitted q) ∷ past))) (not (is_repeating script (Call i word (Submitted q) ∷ past) w.request)) (lt-ltb w.request (request_count (Call i word (Submitted q) ∷ past)) (omega (arith, number, after, at))) still
+    let here : (q.0 == w.request.0) ≡ true = eq-eqb q.0 w.request.0 (sym at) in
+    let still : not (is_repeating script (Call i word (Submitted q) ∷ past) w.request.0) ≡ true = rw (here, once) refl in
+    and_from (nat_lt w.request.0 (request_count (Call i word (Submitted q) ∷ past))) (not (is_repeating script (Call i word (Submitted q) ∷ past) w.request.0)) (lt-ltb w.request.0 (request_count (Call i word (Submitted q) ∷ past)) (omega (arith, number, after, at))) still
 
 -- each item of a request has its number
-named_all : (p : WaitingItem → Bool) (r k : ℕ) (items : List Item) → ((w : WaitingItem) → w.request ≡ r → p w ≡ true) → list_all p (named r k items) ≡ true
+named_all : (p : WaitingItem → Bool) (r : RequestId) (k : ℕ) (items : List Item) → ((w : WaitingItem) → w.request.0 ≡ r.0 → p w ≡ true) → list_all p (named r k items) ≡ true
 named_all p r k [] each = refl
 named_all p r k (item ∷ items) each =
     let w : WaitingItem = record { request = r; index = k; item = item } in
     and_from (p w) (list_all p (named r (k + 1) items)) (each w refl) (named_all p r (k + 1) items each)
 
-new_settled : (p : WaitingItem → Bool) (r : ℕ) (o : Option Command) → (is_repeat o ≡ false → (w : WaitingItem) → w.request ≡ r → p w ≡ true) → list_all p (named r 0 (queued_items o)) ≡ true
+new_settled : (p : WaitingItem → Bool) (r : RequestId) (o : Option Command) → (is_repeat o ≡ false → (w : WaitingItem) → w.request.0 ≡ r.0 → p w ≡ true) → list_all p (named r 0 (queued_items o)) ≡ true
 new_settled p r (Some (Once item)) each = named_all p r 0 (item ∷ []) (each refl)
 new_settled p r (Some (Burst items)) each = named_all p r 0 items (each refl)
 new_settled p r o each = refl
@@ -110,6 +110,6 @@ settled script (Call i word (Submitted q) ∷ past) legal =
     let number = request-number script past i word q legal.0 in
     let p : WaitingItem → Bool = is_settled script (Call i word (Submitted q) ∷ past) in
     let old = all-where (is_settled script past) p (submitted script past) (λ w h. stays_settled script past i word q w number h) (settled script past legal.1) in
-    let new = new_settled p q.0 (command_at script i) (λ once w at. now_settled script past i word q w number once at) in
+    let new = new_settled p q (command_at script i) (λ once w at. now_settled script past i word q w number once at) in
     all-append p (submitted script past) (puts script (Call i word (Submitted q))) old new
 settled script (e ∷ past) legal = rw (append-nil (submitted script past)) (settled script past legal.1)

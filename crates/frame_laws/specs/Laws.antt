@@ -34,4 +34,4 @@ MetadataEndsOnce script past = IsComplete script past → IsTrue (list_all (λ n
 
 -- each item of an accepted once or burst is sent or dropped once
 abbrev pub ItemsEndOnce : Script → List Entry → Type 0
-ItemsEndOnce script past = IsComplete script past → IsTrue (list_all (λ w. count_by (takes w.request w.index) past == 1) (submitted script past))
+ItemsEndOnce script past = IsComplete script past → IsTrue (list_all (λ w. count_by (takes w.request.0 w.index) past == 1) (submitted script past))

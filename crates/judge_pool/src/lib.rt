@@ -2,7 +2,6 @@
 //! takes them in the order of the trace, and answers what its definition says of them with the newest first.
 #![tactic(auto)]
 
-pub mod numbered;
 pub mod pool;
 pub mod room;
 #[cfg(test)]

@@ -4,9 +4,9 @@ ghost use Rattle.std.specs.List.{list_all, range_with_len};
 ghost use Rattle.trace_model.specs.Configuration.{numbers_of};
 ghost use Rattle.trace_model.specs.Place.{Pool, place, is_at, all_in_pool};
 
-use crate::numbered::is_in_pool;
 use cam_types::Made;
 use judge_filters::configuration::made;
+use judge_filters::place::is_in_pool;
 use trace_model::Entry;
 
 /// Whether the buffers made for one stream are in the pool.
@@ -28,7 +28,7 @@ fn are_any_in_pool(entries: &[Entry], made: Option<Made>) -> bool
 }
 
 /// Whether every buffer of the configuration is in the pool.
-#[tactic(auto, using(judge_filters::proofs::PastLemmas::four_all))]
+#[tactic(auto, using(judge_entries::proofs::General::four_all))]
 pub fn all_in_pool(entries: &[Entry]) -> bool
     ensures { result ≡ all_in_pool (reverse entries.now) }
 {

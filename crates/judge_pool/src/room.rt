@@ -7,9 +7,9 @@ ghost use Rattle.cam_types.specs.Profile.{max_buffers_of};
 ghost use Rattle.trace_model.specs.Place.{Device, place, is_at};
 ghost use Rattle.trace_model.specs.Send.{at_device_count, has_room};
 
-use crate::numbered::is_at_device;
 use cam_types::{Four, Made, Script, StreamIx};
-use judge_filters::configuration::{made, max_buffers, streams};
+use judge_filters::configuration::{made, streams};
+use judge_filters::place::is_at_device;
 use trace_model::Entry;
 
 fn of_last(last: Option<Made>, place: u8) -> Option<Made>
@@ -99,10 +99,10 @@ fn at_device_count(entries: &[Entry], stream: StreamIx) -> usize
 
 /// How many buffers of the stream may be at the device.
 fn max_buffers_of(script: &Script, entries: &[Entry], stream: StreamIx) -> u32
-    ensures { result ≡ max_buffers_of (slice_get (streams script.now (reverse entries.now)) stream.0) }
+    ensures { result ≡ max_buffers_of script.now.profile (slice_get (streams script.now (reverse entries.now)) stream.0) }
 {
     match streams(script, entries).get(stream.0 as usize) {
-        Some(spec) => max_buffers(spec.format),
+        Some(spec) => script.profile.max_buffers(spec.format),
         None => 0,
     }
 }

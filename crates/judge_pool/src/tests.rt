@@ -2,7 +2,7 @@ use crate::pool::all_in_pool;
 use crate::room::is_room_left;
 use cam_types::{
     BufferId, Command, CommandList, FaultList, FenceNo, Format, Four, FrameNo, Made, NoMemory,
-    PickList, Reply, RequestId, Script, SpecList, StreamIx, StreamSpec, Word,
+    PickList, Profile, Reply, RequestId, Script, SpecList, StreamIx, StreamSpec, Word,
 };
 use std::alloc::Global;
 use std::test::*;
@@ -26,6 +26,9 @@ fn two_streams(alloc: Global) -> Result<Script, NoMemory> {
     let mut commands = CommandList::new(alloc);
     commands.push(Command::Configure(specs))?;
     Ok(Script {
+        version: 1,
+        profile: Profile::PLAIN,
+        early: false,
         faults: FaultList::new(alloc),
         picks: PickList::new(alloc),
         commands,
@@ -81,6 +84,15 @@ fn filled(buffer: u32) -> Entry {
     }
 }
 
+fn early(buffer: u32) -> Entry {
+    Entry::Early {
+        frame: FrameNo(buffer),
+        stream: StreamIx(0),
+        buffer: BufferId(buffer),
+        fence: FenceNo(0),
+    }
+}
+
 fn failed(buffer: u32) -> Entry {
     Entry::Failed {
         frame: FrameNo(buffer),
@@ -109,6 +121,24 @@ const ROWS: &[(usize, bool, bool, bool, bool)] = &[
     (7, false, true, true, false),
     (8, true, true, true, false),
 ];
+
+/// A device that takes two RAW16 buffers alone; an early return makes room for a further one, and the buffer isn't home.
+#[test]
+fn a_narrow_device(rt: HostRuntime) -> Result<(), Fail> {
+    let mut script = two_streams(rt.alloc())?;
+    script.version = 2;
+    script.profile.raw = 2;
+    let trace = [configured(), sent(0), sent(1), early(0), released(0)];
+    for (count, home, room) in [(2, false, true), (3, false, false), (4, false, true)] {
+        let past = trace.get(..count).ok_or("a front of the trace")?;
+        assert!(rt; all_in_pool(past) == home, "pool after {count}");
+        assert!(rt;
+            is_room_left(&script, past, StreamIx(0)) == room,
+            "room after {count}"
+        );
+    }
+    Ok(())
+}
 
 #[test]
 fn three_buffers_go_and_come_back(rt: HostRuntime) -> Result<(), Fail> {

@@ -12,6 +12,7 @@ use Rattle.cam_types.specs.Metadata.{part_at}
 use Rattle.trace_model.specs.declared.entry.Entry.{Entry}
 use Rattle.trace_model.specs.declared.entry.Entry.TheVariants.{Dropped, Shutter, Partial, Release}
 use Rattle.trace_model.specs.Drop.{drop_of, drop_due}
+use Rattle.trace_model.specs.Fence.{early_fence_of, is_there}
 use Rattle.trace_model.specs.Frames.{settings_of, shutter_time}
 use Rattle.trace_model.specs.Numbers.{next_number, next_fence}
 use Rattle.trace_model.specs.Partial.{part_count, part_of, partial_due, may_part}
@@ -40,14 +41,14 @@ when_other false q x y h = (λ a. absurd (false≢true a), λ e. absurd (cc))
 
 -- ---- drops
 
-drop_same : (a r i : ℕ) (n : FrameNo) (q : RequestId) (j : ℕ) → a ≡ n.0 → r ≡ q.0 → i ≡ j → Dropped (record { 0 = a }) (record { 0 = r }) i ≡ Dropped n q j
+drop_same : (a : ℕ) (r : RequestId) (i : ℕ) (n : FrameNo) (q : RequestId) (j : ℕ) → a ≡ n.0 → r.0 ≡ q.0 → i ≡ j → Dropped (record { 0 = a }) r i ≡ Dropped n q j
 drop_same a r i n q j x y z =
-    let k : Dropped (record { 0 = a }) (record { 0 = r }) i ≡ Dropped (record { 0 = n.0 }) (record { 0 = q.0 }) j = rw (x, y, z) refl in k
+    let k : Dropped (record { 0 = a }) (record { 0 = r.0 }) i ≡ Dropped (record { 0 = n.0 }) (record { 0 = q.0 }) j = rw (x, y, z) refl in k
 
 frame_number : (a : ℕ) (n : FrameNo) → record { 0 = a } ≡ n → a ≡ n.0
 frame_number a n e = ap (λ (z : FrameNo). z.0) e
 
-request_number : (a : ℕ) (r : RequestId) → record { 0 = a } ≡ r → a ≡ r.0
+request_number : (a r : RequestId) → a ≡ r → a.0 ≡ r.0
 request_number a r e = ap (λ (z : RequestId). z.0) e
 
 fence_number : (a : ℕ) (f : FenceNo) → record { 0 = a } ≡ f → a ≡ f.0
@@ -56,7 +57,7 @@ fence_number a f e = ap (λ (z : FenceNo). z.0) e
 drop_named : (past : List Entry) (w : Option WaitingItem) (n : FrameNo) (r : RequestId) (i : ℕ) → IsTrue (is_named past w n.0 r.0 i) ↔ (drop_of past w ≡ Some (Dropped n r i))
 drop_named past None n r i = (λ h. absurd (false≢true h), λ e. absurd (cc))
 drop_named past (Some w) n r i =
-    Decides-like _ (λ h. ap Some (drop_same (next_number past) w.request w.index n r i h.0 h.1.0 h.1.1)) (λ e. (frame_number (next_number past) n (cc), (request_number w.request r (cc), cc))) (Decides-and _ _ (Decides-eqb (next_number past) n.0) (Decides-and _ _ (Decides-eqb w.request r.0) (Decides-eqb w.index i)))
+    Decides-like _ (λ h. ap Some (drop_same (next_number past) w.request w.index n r i h.0 h.1.0 h.1.1)) (λ e. (frame_number (next_number past) n (cc), (request_number w.request r (cc), cc))) (Decides-and _ _ (Decides-eqb (next_number past) n.0) (Decides-and _ _ (Decides-eqb w.request.0 r.0) (Decides-eqb w.index i)))
 
 pub drop_rule : (script : Script) (past : List Entry) (n : FrameNo) (r : RequestId) (i : ℕ) → IsTrue (drops script past n.0 r.0 i) ↔ (drop_due script past ≡ Some (Dropped n r i))
 drop_rule script past n r i = when_other (is_stopping past) _ _ _ (drop_named past (first_in (queued script past)) n r i)
@@ -83,7 +84,7 @@ release_same a b f x =
 
 pub release_rule : (past : List Entry) (b : BufferId) (f : FenceNo) → IsTrue (releases past b.0 f.0) ↔ (release_due past b.0 ≡ Some (Release b f))
 release_rule past b f =
-    when_other (is_at (place b.0 past) Client) (next_fence past == f.0) (Some (Release b (record { 0 = next_fence past }))) (Release b f) (Decides-like _ (λ h. ap Some (release_same (next_fence past) b f h)) (λ e. fence_number (next_fence past) f (cc)) (Decides-eqb (next_fence past) f.0))
+    when_other (is_at (place b.0 past) Client && is_there (early_fence_of b.0 past) past) (next_fence past == f.0) (Some (Release b (record { 0 = next_fence past }))) (Release b f) (Decides-like _ (λ h. ap Some (release_same (next_fence past) b f h)) (λ e. fence_number (next_fence past) f (cc)) (Decides-eqb (next_fence past) f.0))
 
 -- ---- metadata results
 

@@ -4,15 +4,11 @@ use Rattle.std.proofs.lemmas.Bool.{false≢true}
 use Rattle.std.specs.Bool.{Decides}
 use Rattle.std.proofs.lemmas.Bool.Decides.{Decides-and, Decides-like, Decides-eqb}
 use Rattle.std.specs.Cmp.{booleans_Decides}
-use Rattle.cam_types.proofs.Decided.{Decides-four_eq, Decides-reply_eq}
-use Rattle.cam_types.specs.declared.number.FrameNo.{FrameNo}
-use Rattle.cam_types.specs.declared.number.RequestId.{RequestId}
+use Rattle.cam_types.proofs.Decided.{Decides-four_eq, Decides-frame_eq, Decides-reply_eq, Decides-request_eq}
 use Rattle.cam_types.specs.declared.script.Word.{Word}
-use Rattle.cam_types.specs.contracts.number.FrameNoPartialEq.TheImpl.{eq-value as frame_eq}
-use Rattle.cam_types.specs.contracts.number.RequestIdPartialEq.TheImpl.{eq-value as request_eq}
 use Rattle.cam_types.specs.contracts.script.WordPartialEq.TheImpl.{eq-value as word_eq}
 use Rattle.trace_model.specs.declared.entry.Entry.{Entry}
-use Rattle.trace_model.specs.declared.entry.Entry.TheVariants.{Begin, Call, Send, Dropped, Shutter, Partial, Filled, Failed, ErrorRequest, ErrorResult, ErrorBuffer, ErrorDevice, Release, Signal}
+use Rattle.trace_model.specs.declared.entry.Entry.TheVariants.{Begin, Call, Send, Dropped, Shutter, Partial, Filled, Failed, ErrorRequest, ErrorResult, ErrorBuffer, ErrorDevice, Release, Signal, Early, Late}
 use Rattle.trace_model.specs.declared.entry.Sent.{Sent}
 use Rattle.trace_model.specs.contracts.entry.EntryPartialEq.TheImpl.{eq-value as entry_eq}
 use Rattle.trace_model.specs.contracts.entry.SentPartialEq.TheImpl.{eq-value as sent_eq}
@@ -22,12 +18,6 @@ Decides-sent_eq a b = search rules
 
 Decides-word_eq : (a b : Word) → Decides (word_eq.it a b) (a ≡ b)
 Decides-word_eq a b = search rules
-
-Decides-frame_eq : (a b : FrameNo) → Decides (frame_eq.it a b) (a ≡ b)
-Decides-frame_eq a b = search rules
-
-Decides-request_eq : (a b : RequestId) → Decides (request_eq.it a b) (a ≡ b)
-Decides-request_eq a b = search rules
 
 pub Decides-entry_eq : (a b : Entry) → Decides (entry_eq.it a b) (a ≡ b)
 Decides-entry_eq (Begin w) (Begin v) = search rules
@@ -46,4 +36,6 @@ Decides-entry_eq (ErrorBuffer n s) (ErrorBuffer m t) = search rules
 Decides-entry_eq ErrorDevice ErrorDevice = (λ _. refl, λ _. refl)
 Decides-entry_eq (Release b f) (Release c g) = search rules
 Decides-entry_eq (Signal f) (Signal g) = search rules
+Decides-entry_eq (Early n s b d) (Early m t c e) = search rules
+Decides-entry_eq (Late d e) (Late f g) = search rules
 Decides-entry_eq _ _ = (λ h. absurd (false≢true h), λ h. absurd (cc))

@@ -1,7 +1,7 @@
 use Rattle.std.specs.Prelude.{ℕ, ◌==◌, Bool, false, ◌&&◌, not, List, Option, Some, None, nat_lt, find}
 use Rattle.cam_types.specs.declared.script.Script.{Script}
 use Rattle.trace_model.specs.declared.entry.Entry.{Entry}
-use Rattle.trace_model.specs.Fence.{is_signalled}
+use Rattle.trace_model.specs.Fence.{early_fence_of, is_signalled, is_there}
 use Rattle.trace_model.specs.Frames.{frames}
 use Rattle.trace_model.specs.Numbers.{next_number, next_fence}
 use Rattle.trace_model.specs.Place.{Client, place, is_at}
@@ -14,7 +14,7 @@ use Rattle.trace_model.specs.Stopping.{is_stopping}
 -- proved to say what `trace_model` says of the entry.
 
 abbrev pub is_named : List Entry → Option WaitingItem → ℕ → ℕ → ℕ → Bool
-is_named past (Some w) n r i = (next_number past == n) && ((w.request == r) && (w.index == i))
+is_named past (Some w) n r i = (next_number past == n) && ((w.request.0 == r) && (w.index == i))
 is_named past None n r i = false
 
 -- the item is the first of the queue, and is dropped under the next number
@@ -29,9 +29,9 @@ is_at_time script past None n time = false
 abbrev pub exposes : Script → List Entry → ℕ → ℕ → Bool
 exposes script past n time = is_at_time script past (find (may_expose script past) (frames past)) n time
 
--- the client has the buffer, and the fence is the next
+-- the client has the buffer, whose picture is there, and the fence is the next
 abbrev pub releases : List Entry → ℕ → ℕ → Bool
-releases past b f = is_at (place b past) Client && (next_fence past == f)
+releases past b f = (is_at (place b past) Client && is_there (early_fence_of b past) past) && (next_fence past == f)
 
 -- the fence was released and isn't signalled
 abbrev pub signals_next : List Entry → ℕ → Bool

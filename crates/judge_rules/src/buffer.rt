@@ -4,7 +4,7 @@ ghost use Rattle.trace_model.specs.Errors.{fence_left, failed_of, failed_due};
 ghost use Rattle.judge_rules.specs.Rules.{releases, signals_next};
 
 use cam_types::{BufferId, FenceNo, FrameNo, StreamIx};
-use judge_filters::fence::{is_passed, is_signalled};
+use judge_filters::fence::{early_fence_of, is_passed, is_signalled, is_there};
 use judge_filters::frame::{has_error_request, target_of};
 use judge_entries::number::next_fence;
 use judge_filters::open::has_error_buffer;
@@ -61,7 +61,9 @@ pub fn failed_due(entries: &[Entry], frame: FrameNo, stream: StreamIx) -> Option
 pub fn releases(entries: &[Entry], buffer: BufferId, fence: FenceNo) -> bool
     ensures { result ≡ releases (reverse entries.now) buffer.0 fence.0 }
 {
-    is_at_client(entries, buffer) && next_fence(entries) == fence.0 as usize
+    (is_at_client(entries, u64::from(buffer.0))
+        && is_there(entries, early_fence_of(entries, buffer)))
+        && next_fence(entries) == fence.0 as usize
 }
 
 /// Whether the signal of the fence is due.

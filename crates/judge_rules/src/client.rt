@@ -3,7 +3,8 @@ ghost use Rattle.std.specs.Prelude.{◌≡◌, reverse, option_copied};
 ghost use Rattle.trace_model.specs.Client.{begin_of, begin_due};
 
 use cam_types::{Command, Script};
-use judge_filters::call::{begun, is_waiting, next_command, word_of};
+use judge_entries::command::{is_waiting_command, next_command, word_of};
+use judge_filters::call::begun;
 use trace_model::Entry;
 
 /// The begin of the command, where it waits and hasn't begun.
@@ -12,7 +13,7 @@ fn begin_of(entries: &[Entry], command: Option<&Command>) -> Option<Entry>
 {
     match command {
         Some(command) => {
-            if is_waiting(command) && begun(entries).is_none() {
+            if is_waiting_command(command) && begun(entries).is_none() {
                 Some(Entry::Begin {
                     word: word_of(command),
                 })

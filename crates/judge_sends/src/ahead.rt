@@ -4,7 +4,8 @@ ghost use Rattle.trace_model.specs.Send.{awaited, awaited_in, holds_back, may_re
 ghost use Rattle.judge_sends.specs.Steps.{repeated_after};
 
 use cam_types::{Command, REPEATING_AHEAD, Script, Word};
-use judge_filters::call::{begun, is_repeating, next_command};
+use judge_entries::command::next_command;
+use judge_filters::call::{begun, is_repeating};
 use trace_model::Entry;
 
 /// Whether the command that has begun waits for the device to be quiet, so that no repeating item is sent.

@@ -4,8 +4,8 @@ ghost use Rattle.std.specs.List.{list_all, list_any};
 ghost use Rattle.cam_types.specs.Four.{four_list};
 ghost use Rattle.trace_model.specs.Configuration.{is_made, numbers_of};
 ghost use Rattle.trace_model.specs.Printable.{is_filled};
-ghost use Rattle.trace_model.specs.Send.{are_streams, takes_from_pool};
-ghost use Rattle.judge_sends.specs.Asked.{asks, left_from};
+ghost use Rattle.trace_model.specs.Send.{takes_from_pool};
+ghost use Rattle.judge_sends.specs.Asked.{asks, left_from, fit};
 
 use crate::stream::are_streams;
 use cam_types::{BufferId, Four, Made, Targets};
@@ -38,7 +38,7 @@ pub fn takes_from_pool(entries: &[Entry], target: Sent) -> bool
     ensures { result ≡ takes_from_pool (reverse entries.now) target }
 {
     is_one_of(made_for(entries, target.stream), target.buffer)
-        && (is_in_pool(entries, target.buffer)
+        && (is_in_pool(entries, u64::from(target.buffer.0))
             && is_same_fence(target.fence, fence_of(entries, target.buffer)))
 }
 
@@ -52,7 +52,7 @@ fn takes_where_there(entries: &[Entry], target: Option<Sent>) -> bool
 }
 
 /// Whether each target takes its buffer from the pool.
-#[tactic(auto, using(judge_filters::proofs::PastLemmas::four_all))]
+#[tactic(auto, using(judge_entries::proofs::General::four_all))]
 fn all_from_pool(entries: &[Entry], targets: Four<Sent>) -> bool
     ensures { result ≡ list_all (takes_from_pool (reverse entries.now)) (four_list targets) }
 {
@@ -72,7 +72,7 @@ fn is_filled(targets: Four<Sent>) -> bool
 
 /// Whether the targets are for the streams that are asked for, and take their buffers from the pool.
 pub fn fit_item(entries: &[Entry], targets: Four<Sent>, asked: Targets) -> bool
-    ensures { result ≡ (are_streams (four_list targets) (left_from (asks asked) 0) && (is_filled targets && list_all (takes_from_pool (reverse entries.now)) (four_list targets))) }
+    ensures { result ≡ fit (reverse entries.now) targets (left_from (asks asked) 0) }
 {
     are_streams(targets, asked) && (is_filled(targets) && all_from_pool(entries, targets))
 }

@@ -1,7 +1,7 @@
 use crate::rule::is_send_due;
 use cam_types::{
     BufferId, Command, CommandList, FaultList, FenceNo, Format, Four, FrameNo, Item, ItemList,
-    Made, NoMemory, PickList, Reply, RequestId, Script, Settings, SpecList, StreamIx, StreamSpec,
+    Made, NoMemory, PickList, Profile, Reply, RequestId, Script, Settings, SpecList, StreamIx, StreamSpec,
     Targets, Word,
 };
 use std::alloc::Global;
@@ -52,6 +52,9 @@ fn one_and_a_list(alloc: Global) -> Result<Script, NoMemory> {
     commands.push(Command::Repeat(items))?;
     commands.push(Command::Configure(two_streams(alloc)?))?;
     Ok(Script {
+        version: 1,
+        profile: Profile::PLAIN,
+        early: false,
         faults: FaultList::new(alloc),
         picks: PickList::new(alloc),
         commands,

@@ -86,7 +86,7 @@ client-right script past = by-either script past (begin_due script past) (call_d
 drop_right : (script : Script) (past : List Entry) (b : Bool) (o : Option WaitingItem) → is_stopping past ≡ b → first_in (queued script past) ≡ o → IsDueRight script past (if b then drop_of past o else None)
 drop_right script past false o stop at e h = absurd (cc)
 drop_right script past true None stop at e h = absurd (cc)
-drop_right script past true (Some w) stop at e h = let same : Dropped (record { 0 = next_number past }) (record { 0 = w.request }) w.index ≡ e = cc in rw (← same) (rw (stop, at) refl)
+drop_right script past true (Some w) stop at e h = let same : Dropped (record { 0 = next_number past }) (w.request) w.index ≡ e = cc in rw (← same) (rw (stop, at) refl)
 
 pub drop-right : (script : Script) (past : List Entry) → IsDueRight script past (drop_due script past)
 drop-right script past = drop_right script past (is_stopping past) (first_in (queued script past)) refl refl
@@ -237,12 +237,12 @@ four_again (a ∷ b ∷ c ∷ d ∷ e ∷ ts) few = absurd (omega (arith, few))
 with_right : (script : Script) (past : List Entry) (w : Queued) (o : Option (List Sent)) → next script past ≡ Some w → may_go script past w ≡ true → least_targets past (targets_in_order w.item) ≡ o → IsDueRight script past (send_with script past w o)
 with_right script past w None at may ts e h = absurd (cc)
 with_right script past w (Some us) at may ts e h =
-    let same : Send (record { 0 = next_number past }) (record { 0 = w.request }) w.index (mark_of script past w.item.settings) (four_of us) ≡ e = cc in
+    let same : Send (record { 0 = next_number past }) (w.request) w.index (mark_of script past w.item.settings) (four_of us) ≡ e = cc in
     let right = targets_right past (targets_in_order w.item) us ts in
     let short = filter-short (λ s. list_any (λ t. t == s) (take w.item.targets.count w.item.targets.list)) (0 ∷ (1 ∷ (2 ∷ (3 ∷ [])))) in
     let few : length us ≤ 4 = omega (arith, right.2, short) in
     let again = four_again us few in
-    rw (← same) (rw (at, eq-eqb (next_number past) (next_number past) refl, eq-eqb w.request w.request refl, eq-eqb w.index w.index refl, may, again.0, again.1, right.0, right.1, same_bool (mark_of script past w.item.settings)) refl)
+    rw (← same) (rw (at, eq-eqb (next_number past) (next_number past) refl, eq-eqb w.request.0 w.request.0 refl, eq-eqb w.index w.index refl, may, again.0, again.1, right.0, right.1, same_bool (mark_of script past w.item.settings)) refl)
 
 next_right : (script : Script) (past : List Entry) (o : Option Queued) → next script past ≡ o → IsDueRight script past (send_next script past o)
 next_right script past None at e h = absurd (cc)

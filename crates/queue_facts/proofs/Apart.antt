@@ -16,7 +16,7 @@ use Rattle.frame_laws.proofs.Submitted.{is_settled, request-number, settled}
 use Rattle.basic_lemmas.proofs.Lists.{all-where, filter-same}
 
 abbrev pub is_named : ℕ → ℕ → WaitingItem → Bool
-is_named r i w = (r == w.request) && (i == w.index)
+is_named r i w = (r == w.request.0) && (i == w.index)
 
 abbrev pub AreApart : List WaitingItem → Type 0
 AreApart [] = Unit {0}
@@ -40,14 +40,14 @@ named-apart r j [] = tt
 named-apart r j (item ∷ items) = (later-apart r j (j + 1) items (omega arith), named-apart r (j + 1) items)
 
 abbrev pub is_below : ℕ → WaitingItem → Bool
-is_below r w = nat_lt w.request r
+is_below r w = nat_lt w.request.0 r
 
 apart-append : (r : ℕ) (items : List Item) (xs : List WaitingItem) → list_all (is_below r) xs ≡ true → AreApart xs → AreApart (xs ++ named r 0 items)
 apart-append r items [] below apart = named-apart r 0 items
 apart-append r items (x ∷ xs) below apart =
     let parts = and_parts (is_below r x) (list_all (is_below r) xs) below in
-    let less = ltb-true x.request r parts.0 in
-    (rw (list_any-append (is_named x.request x.index) xs (named r 0 items), apart.0) (other-apart x.request r x.index 0 items less), apart-append r items xs parts.1 apart.1)
+    let less = ltb-true x.request.0 r parts.0 in
+    (rw (list_any-append (is_named x.request x.index) xs (named r 0 items), apart.0) (other-apart x.request.0 r x.index 0 items less), apart-append r items xs parts.1 apart.1)
 
 pub submitted-apart : (script : Script) (past : List Entry) → IsLegal script past → AreApart (submitted script past)
 submitted-apart script [] legal = tt
@@ -55,8 +55,8 @@ submitted-apart script (Call i word (Submitted q) ∷ past) legal =
     let number = request-number script past i word q legal.0 in
     let below = all-where (is_settled script past) (is_below q.0) (submitted script past)
     (λ w h.
-    let less = ltb-true w.request (request_count past) (and_parts (nat_lt w.request (request_count past)) (not (is_repeating script past w.request)) h).0 in
-    lt-ltb w.request q.0 (omega (arith, less, number)))
+    let less = ltb-true w.request.0 (request_count past) (and_parts (nat_lt w.request.0 (request_count past)) (not (is_repeating script past w.request.0)) h).0 in
+    lt-ltb w.request.0 q.0 (omega (arith, less, number)))
     (settled script past legal.1) in
     apart-append q.0 (queued_items (command_at script i)) (submitted script past) below (submitted-apart script past legal.1)
 submitted-apart script (e ∷ past) legal = rw (append-nil (submitted script past)) (submitted-apart script past legal.1)

@@ -27,16 +27,16 @@ names_request r (Send _ q _ _ _) = q.0 == r
 names_request r (Dropped _ q _) = q.0 == r
 names_request r _ = false
 
-taken-name : (r : ℕ) (e : Entry) (w : WaitingItem) → takes_it e w ≡ true → names_request r e ≡ true → w.request ≡ r
-taken-name r (Send n q j same targets) w it named = sym (eqb-true q.0 w.request (and_parts (q.0 == w.request) (j == w.index) it).0) ∙ eqb-true q.0 r named
-taken-name r (Dropped n q j) w it named = sym (eqb-true q.0 w.request (and_parts (q.0 == w.request) (j == w.index) it).0) ∙ eqb-true q.0 r named
+taken-name : (r : ℕ) (e : Entry) (w : WaitingItem) → takes_it e w ≡ true → names_request r e ≡ true → w.request.0 ≡ r
+taken-name r (Send n q j same targets) w it named = sym (eqb-true q.0 w.request.0 (and_parts (q.0 == w.request.0) (j == w.index) it).0) ∙ eqb-true q.0 r named
+taken-name r (Dropped n q j) w it named = sym (eqb-true q.0 w.request.0 (and_parts (q.0 == w.request.0) (j == w.index) it).0) ∙ eqb-true q.0 r named
 taken-name r _ w it named = absurd (false≢true it)
 
 queue-name : (script : Script) (past : List Entry) (e : Entry) (r : ℕ) → IsLegal script past → list_any (takes_it e) (queued script past) ≡ true → names_request r e ≡ true → r < request_count past
 queue-name script past e r legal any named =
     one-kept (r < request_count past) (λ w. not (is_taken past w)) (is_settled script past) (takes_it e) (submitted script past)
     (λ w settled' it.
-    let less = ltb-true w.request (request_count past) (and_parts (nat_lt w.request (request_count past)) (not (is_repeating script past w.request)) settled').0 in
+    let less = ltb-true w.request.0 (request_count past) (and_parts (nat_lt w.request.0 (request_count past)) (not (is_repeating script past w.request.0)) settled').0 in
     let at = taken-name r e w it named in
     omega (arith, less, at))
     (settled script past legal) any
@@ -79,8 +79,8 @@ sender-names : (r : ℕ) (e : Entry) → sends_for r e ≡ true → names_reques
 sender-names r (Send n q j same targets) h = h
 sender-names r _ h = absurd (false≢true h)
 
-pub untaken : (script : Script) (past : List Entry) (w : WaitingItem) → IsLegal script past → request_count past ≤ w.request → is_taken past w ≡ false
-untaken script past w legal above = any-less (names_request w.request) (takes w.request w.index) past (taker-names w.request w.index) (unnamed script past w.request legal above)
+pub untaken : (script : Script) (past : List Entry) (w : WaitingItem) → IsLegal script past → request_count past ≤ w.request.0 → is_taken past w ≡ false
+untaken script past w legal above = any-less (names_request w.request.0) (takes w.request.0 w.index) past (taker-names w.request.0 w.index) (unnamed script past w.request.0 legal above)
 
 pub unsent : (script : Script) (past : List Entry) (r : ℕ) → IsLegal script past → request_count past ≤ r → sent_for r past ≡ 0
 unsent script past r legal above = none-counted (sends_for r) past (any-less (names_request r) (sends_for r) past (sender-names r) (unnamed script past r legal above))

@@ -15,11 +15,11 @@ use Rattle.trace_model.specs.Open.{has_error_buffer, has_something, is_open, is_
 use Rattle.trace_model.specs.Stopping.{is_stopped}
 use Rattle.buffer_laws.proofs.Returns.{early-back, failed-back, filled-back}
 use Rattle.buffer_laws.proofs.Sends.{out-sent}
-use Rattle.frame_laws.proofs.Lists.{where-given}
 use Rattle.frame_laws.proofs.Metadata.{result-fails}
 use Rattle.frame_laws.proofs.Parts.{part-is}
 use Rattle.frame_laws.proofs.Shutters.{exposed, shutter-sent}
 use Rattle.basic_lemmas.proofs.Lists.{any-behind, any-less}
+use Rattle.basic_lemmas.proofs.Tests.{passed-where}
 
 -- the entry says something of frame n
 abbrev pub tells : ℕ → Entry → Bool
@@ -40,13 +40,13 @@ told-sent script past (Filled m s b f d) n legal may h = let sent = out-sent pas
 told-sent script past (Failed m s b f) n legal may h = let sent = out-sent past m.0 s.0 b.0 (failed-back past m s b f may).out in rw (eqb-true m.0 n h) at sent
 told-sent script past (Early m s b d) n legal may h = let sent = out-sent past m.0 s.0 b.0 (early-back script past m s b d may).out in rw (eqb-true m.0 n h) at sent
 told-sent script past (ErrorRequest m) n legal may h =
-    let first = (and_parts (is_open m.0 past && not (has_something m.0 past)) _ (where-given (may_fail_request script past m.0) (ErrorRequest (record { 0 = m.0 })) (ErrorRequest m) may)).0 in
+    let first = (and_parts (is_open m.0 past && not (has_something m.0 past)) _ (passed-where (may_fail_request script past m.0) (ErrorRequest (record { 0 = m.0 })) (ErrorRequest m) may)).0 in
     let sent = (and_parts (is_sent m.0 past) _ (and_parts (is_open m.0 past) (not (has_something m.0 past)) first).0).0 in
     rw (eqb-true m.0 n h) at sent
 told-sent script past (ErrorResult m) n legal may h = let sent = shutter-sent script past m.0 legal (result-fails script past m may).shutter in rw (eqb-true m.0 n h) at sent
 told-sent script past (ErrorBuffer m s) n legal may h =
     let part = may_fail_in_part script past m.0 && not (has_error_request m.0 past) in
-    let first = (and_parts (has_target m.0 s.0 past && part) ((not (has_error_buffer m.0 s.0 past) && not (is_returned m.0 s.0 past)) && (buffer_fault script m.0 s.0 || is_cut_short past m.0)) (where-given (may_fail_buffer script past m.0 s.0) (ErrorBuffer (record { 0 = m.0 }) (record { 0 = s.0 })) (ErrorBuffer m s) may)).0 in
+    let first = (and_parts (has_target m.0 s.0 past && part) ((not (has_error_buffer m.0 s.0 past) && not (is_returned m.0 s.0 past)) && (buffer_fault script m.0 s.0 || is_cut_short past m.0)) (passed-where (may_fail_buffer script past m.0 s.0) (ErrorBuffer (record { 0 = m.0 }) (record { 0 = s.0 })) (ErrorBuffer m s) may)).0 in
     let second = (and_parts (may_fail_in_part script past m.0) (not (has_error_request m.0 past)) (and_parts (has_target m.0 s.0 past) part first).1).0 in
     let shutter = (and_parts (has_shutter m.0 past) (not (request_fault script m.0) || is_stopped m.0 past) second).0 in
     let sent = shutter-sent script past m.0 legal shutter in

@@ -49,15 +49,15 @@ first-holds P p y rest (x ∷ xs) all h =
 -- ---- each item of the queue stands in its command
 
 abbrev pub StandsIn : Script → List Entry → WaitingItem → Type 0
-StandsIn script past w = item_at script past w.request w.index ≡ Some w.item
+StandsIn script past w = item_at script past w.request.0 w.index ≡ Some w.item
 
-named-stand : (P : WaitingItem → Type 0) (r k : ℕ) (all items : List Item) → ((j : ℕ) → slice_get items j ≡ slice_get all (k + j)) → ((w : WaitingItem) → w.request ≡ r → slice_get all w.index ≡ Some w.item → P w) → Each P (named r k items)
+named-stand : (P : WaitingItem → Type 0) (r k : ℕ) (all items : List Item) → ((j : ℕ) → slice_get items j ≡ slice_get all (k + j)) → ((w : WaitingItem) → w.request.0 ≡ r → slice_get all w.index ≡ Some w.item → P w) → Each P (named r k items)
 named-stand P r k all [] at h = tt
 named-stand P r k all (item ∷ items) at h =
     let here : slice_get all k ≡ Some item = (let e : k + 0 ≡ k = omega arith in let at' = rw e at (at 0) in sym at') in
     (h (record { request = r; index = k; item = item }) refl here, named-stand P r (k + 1) all items (λ j. let e : k + suc j ≡ (k + 1) + j = omega arith in let at' = rw e at (at (suc j)) in at') h)
 
-new-stand : (P : WaitingItem → Type 0) (r : ℕ) (o : Option Command) → ((w : WaitingItem) → w.request ≡ r → slice_get (items_of o) w.index ≡ Some w.item → P w) → Each P (named r 0 (queued_items o))
+new-stand : (P : WaitingItem → Type 0) (r : ℕ) (o : Option Command) → ((w : WaitingItem) → w.request.0 ≡ r → slice_get (items_of o) w.index ≡ Some w.item → P w) → Each P (named r 0 (queued_items o))
 new-stand P r (Some (Once item)) h = named-stand P r 0 (item ∷ []) (item ∷ []) (λ j. let e : 0 + j ≡ j = omega arith in rw e refl) h
 new-stand P r (Some (Burst items)) h = named-stand P r 0 items items (λ j. let e : 0 + j ≡ j = omega arith in rw e refl) h
 new-stand P r o h = tt
@@ -69,12 +69,12 @@ submitted-stand script (Call i word (Submitted q) ∷ past) legal =
     let number = request-number script past i word q legal.0 in
     let old = each-weaker (StandsIn script past) (StandsIn script now) (is_settled script past) (submitted script past)
     (λ w h stands.
-    let less = ltb-true w.request (request_count past) (and_parts (nat_lt w.request (request_count past)) (not (is_repeating script past w.request)) h).0 in
-    let other : (q.0 == w.request) ≡ false = ne_eqb q.0 w.request (λ at. absurd (omega (arith, number, less, at))) in
+    let less = ltb-true w.request.0 (request_count past) (and_parts (nat_lt w.request.0 (request_count past)) (not (is_repeating script past w.request.0)) h).0 in
+    let other : (q.0 == w.request.0) ≡ false = ne_eqb q.0 w.request.0 (λ at. absurd (omega (arith, number, less, at))) in
     rw other stands)
     (settled script past legal.1) (submitted-stand script past legal.1) in
     let new = new-stand (StandsIn script now) q.0 (command_at script i)
-    (λ w at stands. let here : (q.0 == w.request) ≡ true = eq-eqb q.0 w.request (sym at) in rw here stands) in
+    (λ w at stands. let here : (q.0 == w.request.0) ≡ true = eq-eqb q.0 w.request.0 (sym at) in rw here stands) in
     each-append (StandsIn script now) (submitted script past) (puts script (Call i word (Submitted q))) old new
 submitted-stand script (e ∷ past) legal = rw (append-nil (submitted script past)) (submitted-stand script past legal.1)
 
@@ -82,7 +82,7 @@ submitted-stand script (e ∷ past) legal = rw (append-nil (submitted script pas
 
 -- what the trace says of what a send names is what the next item says
 abbrev pub IsNext : Script → List Entry → ℕ → ℕ → Option Queued → Type 0
-IsNext script past r i (Some w) = (item_at script past r i ≡ Some w.item) × (is_repeating script past r ≡ w.repeats)
+IsNext script past r i (Some w) = (item_at script past r i ≡ Some w.item) × (is_repeating script past r ≡ w.repeating)
 IsNext script past r i None = ⊥
 
 by-names : (script : Script) (past : List Entry) (r q i j : ℕ) (w : Queued) → r ≡ q → i ≡ j → IsNext script past q j (Some w) → IsNext script past r i (Some w)
@@ -91,22 +91,22 @@ by-names script past r q i j w a b h = rw (a, b) h
 next-cycle : (script : Script) (past : List Entry) (q : Repeating) (k n r i : ℕ) (o : Option Item) (same : Bool) (targets : Four Sent) → IsLegal script past → repeating script past ≡ Some q → slice_get q.items k ≡ o → fits_next script past (next_at q.request k o) n r i same targets ≡ true → IsNext script past r i (next_at q.request k o)
 next-cycle script past q k n r i None same targets legal list at may = absurd (false≢true may)
 next-cycle script past q k n r i (Some item) same targets legal list at may =
-    let w : Queued = record { request = q.request; index = k; item = item; repeats = true } in
+    let w : Queued = record { request = q.request; index = k; item = item; repeating = true } in
     let g = goes script past w n r i same targets may in
     let stands = repeating-stands script past q legal list in
-    by-names script past r q.request i k w g.request g.index (rw (stands.0) at, rw (stands.0) refl)
+    by-names script past r q.request.0 i k w g.request g.index (rw (stands.0) at, rw (stands.0) refl)
 
 next-by : (script : Script) (past : List Entry) (xs : List WaitingItem) (q : Option Repeating) (n r i : ℕ) (same : Bool) (targets : Four Sent) → IsLegal script past → queued script past ≡ xs → repeating script past ≡ q → fits_next script past (next_from (first_in xs) (next_repeating q past)) n r i same targets ≡ true → IsNext script past r i (next_from (first_in xs) (next_repeating q past))
 next-by script past [] None n r i same targets legal at list may = absurd (false≢true may)
 next-by script past [] (Some q) n r i same targets legal at list may =
-    let k = sent_for q.request past % length q.items in
+    let k = sent_for q.request.0 past % length q.items in
     next-cycle script past q k n r i (slice_get q.items k) same targets legal list refl may
 next-by script past (v ∷ rest) q n r i same targets legal at list may =
-    let w : Queued = record { request = v.request; index = v.index; item = v.item; repeats = false } in
+    let w : Queued = record { request = v.request; index = v.index; item = v.item; repeating = false } in
     let g = goes script past w n r i same targets may in
     let stands = first-holds (StandsIn script past) (λ x. not (is_taken past x)) v rest (submitted script past) (submitted-stand script past legal) at in
     let once = first-passes (λ x. not (is_taken past x)) (is_settled script past) v rest (submitted script past) (settled script past legal) at in
-    by-names script past r v.request i v.index w g.request g.index (stands, not-true (is_repeating script past v.request) (and_parts (nat_lt v.request (request_count past)) (not (is_repeating script past v.request)) once).1)
+    by-names script past r v.request.0 i v.index w g.request g.index (stands, not-true (is_repeating script past v.request.0) (and_parts (nat_lt v.request.0 (request_count past)) (not (is_repeating script past v.request.0)) once).1)
 
 pub is-next : (script : Script) (past : List Entry) (n r i : ℕ) (same : Bool) (targets : Four Sent) → IsLegal script past → may_send script past n r i same targets ≡ true → IsNext script past r i (next script past)
 is-next script past n r i same targets legal may = next-by script past (queued script past) (repeating script past) n r i same targets legal refl refl may

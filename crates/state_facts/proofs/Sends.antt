@@ -70,15 +70,15 @@ room-is script past s legal = ap (λ n. nat_lt n (max_buffers_of script.profile 
 
 go-is : (script : Script) (past : List Entry) (w : Queued) → IsLegal script past → may_go script past w ≡ may_go_in script (state script past) w
 go-is script past w legal =
-    ap (λ n. not (is_stopping past) && ((nat_lt n script.profile.depth && list_all (has_room script past) (targets_in_order w.item)) && (not w.repeats || may_repeat script past))) (count_is script past)
-    ∙ ap (λ b. not (is_stopping past) && ((nat_lt (length (state script past).rows) script.profile.depth && b) && (not w.repeats || may_repeat script past))) (all-agree (has_room script past) (has_room_in script (state script past)) (targets_in_order w.item) (λ s. room-is script past s legal))
+    ap (λ n. not (is_stopping past) && ((nat_lt n script.profile.depth && list_all (has_room script past) (targets_in_order w.item)) && (not w.repeating || may_repeat script past))) (count_is script past)
+    ∙ ap (λ b. not (is_stopping past) && ((nat_lt (length (state script past).rows) script.profile.depth && b) && (not w.repeating || may_repeat script past))) (all-agree (has_room script past) (has_room_in script (state script past)) (targets_in_order w.item) (λ s. room-is script past s legal))
 
 -- ---- sends
 
 fits-is : (script : Script) (past : List Entry) (o : Option Queued) (n r i : ℕ) (same : Bool) (targets : Four Sent) → IsLegal script past → fits_next script past o n r i same targets ≡ fits_in script (state script past) o n r i same targets
 fits-is script past None n r i same targets legal = refl
 fits-is script past (Some w) n r i same targets legal =
-    let name = (n == next_number past) && ((r == w.request) && (i == w.index)) in
+    let name = (n == next_number past) && ((r == w.request.0) && (i == w.index)) in
     let streams = are_streams (four_list targets) (targets_in_order w.item) in
     let mark = is_same_bool same (mark_of script past w.item.settings) in
     ap (λ b. name && (b && ((streams && (is_filled targets && list_all (takes_from_pool past) (four_list targets))) && mark))) (go-is script past w legal)

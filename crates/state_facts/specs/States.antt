@@ -54,7 +54,7 @@ settings_next (Some w) = w.item.settings
 settings_next None = no_settings
 
 abbrev pub repeats_next : Option Queued → Bool
-repeats_next (Some w) = w.repeats
+repeats_next (Some w) = w.repeating
 repeats_next None = false
 
 abbrev pub settings_row : Option Row → Settings
@@ -96,7 +96,7 @@ takes_in s t =
 abbrev pub may_go_in : Script → State → Queued → Bool
 may_go_in script s next =
     not (stopping_in s.client)
-    && ((nat_lt (length s.rows) script.profile.depth && list_all (has_room_in script s) (targets_in_order next.item)) && (not next.repeats || may_repeat_in script s.client))
+    && ((nat_lt (length s.rows) script.profile.depth && list_all (has_room_in script s) (targets_in_order next.item)) && (not next.repeating || may_repeat_in script s.client))
 
 abbrev pub fits_in : Script → State → Option Queued → ℕ → ℕ → ℕ → Bool → Four Sent → Bool
 fits_in script s None n r i same targets = false
@@ -132,7 +132,7 @@ abbrev pub send_in : Script → State → Option Entry
 send_in script s = send_next_in script s (next_of s.queue)
 
 abbrev pub drop_with : ℕ → Option WaitingItem → Option Entry
-drop_with n (Some w) = Some (Dropped (record { 0 = n }) (record { 0 = w.request }) w.index)
+drop_with n (Some w) = Some (Dropped (record { 0 = n }) (w.request) w.index)
 drop_with n None = None
 
 -- the drop that is due

@@ -44,7 +44,7 @@ use Rattle.basic_lemmas.proofs.Counts.{filter-less, filter-fewer, filter-short, 
 
 -- the entry takes the item
 abbrev pub takes_it : Entry → WaitingItem → Bool
-takes_it e w = takes w.request w.index e
+takes_it e w = takes w.request.0 w.index e
 
 stays_taken : (e : Entry) (past : List Entry) (w : WaitingItem) → not (is_taken past w) ≡ false → not (is_taken (e ∷ past) w) ≡ false
 stays_taken e past w h = grind arith
@@ -66,12 +66,12 @@ queue-shorter script past e h any =
     let less = filter-fewer (λ w. not (is_taken past w)) (λ w. not (is_taken (e ∷ past) w)) (takes_it e) (stays_taken e past) (now_taken e past) (submitted script past) any in
     rw all less
 
-named-length : (r i : ℕ) (items : List Item) → length (named r i items) ≡ length items
+named-length : (r : RequestId) (i : ℕ) (items : List Item) → length (named r i items) ≡ length items
 named-length r i [] = refl
 named-length r i (item ∷ items) = let ih = named-length r (i + 1) items in omega (arith, ih)
 
 puts_few : (script : Script) (i : ℕ) (c : Command) (w : Word) (r : Reply) → command_at script i ≡ Some c → length (puts script (Call i w r)) ≤ queued_by c
-puts_few script i c w (Submitted r) at = rw at (let l = named-length r.0 0 (queued_items (Some c)) in omega (arith, l))
+puts_few script i c w (Submitted r) at = rw at (let l = named-length r 0 (queued_items (Some c)) in omega (arith, l))
 puts_few script i c w _ at = omega arith
 
 -- a call puts in what its command holds at most
@@ -90,7 +90,7 @@ first_passes : (t : WaitingItem → Bool) (xs : List WaitingItem) (w : WaitingIt
 first_passes t [] w h k = absurd (cc)
 first_passes t (x ∷ xs) w h k = let same : x ≡ w = cc in rw (same, k) refl
 
-taken_by_send : (n : FrameNo) (r : RequestId) (i : ℕ) (same : Bool) (targets : Four Sent) (w : WaitingItem) → r.0 ≡ w.request → i ≡ w.index → takes_it (Send n r i same targets) w ≡ true
+taken_by_send : (n : FrameNo) (r : RequestId) (i : ℕ) (same : Bool) (targets : Four Sent) (w : WaitingItem) → r.0 ≡ w.request.0 → i ≡ w.index → takes_it (Send n r i same targets) w ≡ true
 taken_by_send n r i same targets w a b = grind (arith, nat_tests)
 
 -- by which of the two a send is
@@ -100,10 +100,10 @@ OfQueue script past e = (is_empty (queued script past) ≡ false) × (list_any (
 abbrev pub OfRepeating : Script → List Entry → ℕ → Type 0
 OfRepeating script past r = (is_empty (queued script past) ≡ true) × (is_repeating script past r ≡ true) × (repeated_since_call script past < 64 + awaited script past)
 
-may-repeat : (script : Script) (past : List Entry) (w : Queued) → w.repeats ≡ true → may_go script past w ≡ true → repeated_since_call script past < 64 + awaited script past
+may-repeat : (script : Script) (past : List Entry) (w : Queued) → w.repeating ≡ true → may_go script past w ≡ true → repeated_since_call script past < 64 + awaited script past
 may-repeat script past w repeats h =
-    let first = and_parts (not (is_stopping past)) (has_capacity script past (targets_in_order w.item) && (not w.repeats || may_repeat script past)) h in
-    let second = and_parts (has_capacity script past (targets_in_order w.item)) (not w.repeats || may_repeat script past) first.1 in
+    let first = and_parts (not (is_stopping past)) (has_capacity script past (targets_in_order w.item) && (not w.repeating || may_repeat script past)) h in
+    let second = and_parts (has_capacity script past (targets_in_order w.item)) (not w.repeating || may_repeat script past) first.1 in
     let may : may_repeat script past ≡ true = rw repeats at second.1 in
     let third = and_parts (not (holds_back (begun past))) (nat_lt (repeated_since_call script past) (64 + awaited script past)) may in
     let less : nat_lt (repeated_since_call script past) (64 + awaited script past) ≡ true = third.1 in
@@ -112,20 +112,20 @@ may-repeat script past w repeats h =
 send_by_cycle : (script : Script) (past : List Entry) (q : Repeating) (k : ℕ) (o : Option Item) (n : FrameNo) (r : RequestId) (i : ℕ) (same : Bool) (targets : Four Sent) → queued script past ≡ [] → repeating script past ≡ Some q → IsLegal script past → fits_next script past (next_at q.request k o) n.0 r.0 i same targets ≡ true → OfRepeating script past r.0
 send_by_cycle script past q k None n r i same targets at list legal h = absurd (false≢true h)
 send_by_cycle script past q k (Some item) n r i same targets at list legal h =
-    let w : Queued = record { request = q.request; index = k; item = item; repeats = true } in
+    let w : Queued = record { request = q.request; index = k; item = item; repeating = true } in
     let g = goes script past w n.0 r.0 i same targets h in
     let stands = repeating-stands script past q legal list in
-    let number : r.0 ≡ q.request = g.request in
+    let number : r.0 ≡ q.request.0 = g.request in
     let repeats : is_repeating script past r.0 ≡ true = rw (number, stands.0) refl in
     (rw at refl, repeats, may-repeat script past w refl g.now)
 
 send_by_queue : (script : Script) (past : List Entry) (xs : List WaitingItem) (q : Option Repeating) (n : FrameNo) (r : RequestId) (i : ℕ) (same : Bool) (targets : Four Sent) → queued script past ≡ xs → repeating script past ≡ q → IsLegal script past → fits_next script past (next_from (first_in xs) (next_repeating q past)) n.0 r.0 i same targets ≡ true → OfQueue script past (Send n r i same targets) ⊎ OfRepeating script past r.0
 send_by_queue script past [] None n r i same targets at list legal h = absurd (false≢true h)
 send_by_queue script past [] (Some q) n r i same targets at list legal h =
-    let k = sent_for q.request past % length q.items in
+    let k = sent_for q.request.0 past % length q.items in
     inr (send_by_cycle script past q k (slice_get q.items k) n r i same targets at list legal h)
 send_by_queue script past (v ∷ xs) q n r i same targets at list legal h =
-    let w : Queued = record { request = v.request; index = v.index; item = v.item; repeats = false } in
+    let w : Queued = record { request = v.request; index = v.index; item = v.item; repeating = false } in
     let g = goes script past w n.0 r.0 i same targets h in
     inl (rw at (refl, first_passes (takes_it (Send n r i same targets)) (v ∷ xs) v refl (taken_by_send n r i same targets v g.request g.index)))
 
@@ -138,9 +138,9 @@ drop_by_first past [] true n r i h = absurd (cc)
 drop_by_first past [] false n r i h = absurd (cc)
 drop_by_first past (w ∷ xs) false n r i h = absurd (cc)
 drop_by_first past (w ∷ xs) true n r i h =
-    let request : record { 0 = w.request } ≡ r = cc in
+    let request : w.request ≡ r = cc in
     let index : w.index ≡ i = cc in
-    let request' : r.0 ≡ w.request = rw (← request) refl in
+    let request' : r.0 ≡ w.request.0 = rw (← request) refl in
     let takes' : takes_it (Dropped n r i) w ≡ true = grind (arith, nat_tests) in
     rw takes' refl
 

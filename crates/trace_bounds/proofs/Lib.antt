@@ -1,4 +1,3 @@
-pub mod Counts
 pub mod Calls
 pub mod Refusals
 pub mod RepeatLemmas

@@ -18,6 +18,7 @@ use Rattle.trace_model.specs.Numbers.{call_count}
 use Rattle.trace_model.specs.Printable.{is_small}
 use Rattle.trace_model.specs.Queue.{first_in, is_taken, named, next, next_at, next_from, next_repeating, puts, queued, repeating, sent_for, submitted}
 use Rattle.cam_types.specs.Requests.{Repeating}
+use Rattle.cam_types.specs.declared.number.RequestId.{RequestId}
 use Rattle.cam_types.specs.declared.request.Queued.{Queued}
 use Rattle.cam_types.specs.declared.request.WaitingItem.{WaitingItem}
 use Rattle.trace_model.specs.Reply.{acceptance, refusal, reply_with}
@@ -48,9 +49,9 @@ all-kept p q (x ∷ xs) all =
 -- ---- the queue
 
 abbrev pub is_named : WaitingItem → Bool
-is_named w = is_small w.request && is_small w.index
+is_named w = is_small w.request.0 && is_small w.index
 
-named_small : (r i : ℕ) (items : List Item) → is_small r ≡ true → i + length items ≤ 64 → list_all is_named (named r i items) ≡ true
+named_small : (r : RequestId) (i : ℕ) (items : List Item) → is_small r.0 ≡ true → i + length items ≤ 64 → list_all is_named (named r i items) ≡ true
 named_small r i [] h few = refl
 named_small r i (item ∷ items) h few =
     let place = small i 64 (omega (arith, few)) (omega arith) in
@@ -61,8 +62,8 @@ puts_small script past i c (Some (Refused code first second)) h at fits few = re
 puts_small script past i c (Some Ok) h at fits few = absurd (false≢true h)
 puts_small script past i c (Some (Submitted r)) h at fits few = absurd (false≢true h)
 puts_small script past i c (Some (Configured each)) h at fits few = absurd (false≢true h)
-puts_small script past i (Once item) None h at fits few = rw at (named_small (request_count past) 0 (item ∷ []) few (omega arith))
-puts_small script past i (Burst items) None h at fits few = let short = queues_few (Burst items) fits in rw at (named_small (request_count past) 0 items few (omega (arith, short)))
+puts_small script past i (Once item) None h at fits few = rw at (named_small (record { 0 = request_count past }) 0 (item ∷ []) few (omega arith))
+puts_small script past i (Burst items) None h at fits few = let short = queues_few (Burst items) fits in rw at (named_small (record { 0 = request_count past }) 0 items few (omega (arith, short)))
 puts_small script past i (Repeat items) None h at fits few = rw at refl
 puts_small script past i c None h at fits few = refl
 
@@ -99,25 +100,25 @@ command_stands script (Call i w (Submitted q) ∷ past) r c all h =
 command_stands script (Call i w reply ∷ past) r c all h = command_stands script past r c all h
 command_stands script (e ∷ past) r c all h = command_stands script past r c all h
 
-cycle_small : (script : Script) (past : List Entry) (q : Repeating) (k : ℕ) (o : Option Item) (w : Queued) → Valid script → IsLegal script past → repeating script past ≡ Some q → slice_get q.items k ≡ o → next_at q.request k o ≡ Some w → (is_small w.request ≡ true) × (is_small w.index ≡ true)
+cycle_small : (script : Script) (past : List Entry) (q : Repeating) (k : ℕ) (o : Option Item) (w : Queued) → Valid script → IsLegal script past → repeating script past ≡ Some q → slice_get q.items k ≡ o → next_at q.request k o ≡ Some w → (is_small w.request.0 ≡ true) × (is_small w.index ≡ true)
 cycle_small script past q k None w v legal list at h = absurd (cc)
 cycle_small script past q k (Some item) w v legal list at h =
-    let same : record { request = q.request; index = k; item = item; repeats = true } ≡ w = cc in
+    let same : record { request = q.request; index = k; item = item; repeating = true } ≡ w = cc in
     let stands : Stands script past q = repeating-stands script past q legal list in
-    let fits = command_stands script past q.request (Repeat q.items) v.fit stands.0 in
+    let fits = command_stands script past q.request.0 (Repeat q.items) v.fit stands.0 in
     let few = at-most (length q.items) 8 (and_parts (nat_le (length q.items) 8) (list_all item_fits q.items) fits).0 in
     let within = place-within q.items k item at in
     let requests = requests_bounded script past legal in
-    rw (← same) (small q.request 512 (omega (arith, stands.1, requests, v.commands)) (omega arith), small k 8 (omega (arith, few, within)) (omega arith))
+    rw (← same) (small q.request.0 512 (omega (arith, stands.1, requests, v.commands)) (omega arith), small k 8 (omega (arith, few, within)) (omega arith))
 
-next_small : (script : Script) (past : List Entry) (f : Option WaitingItem) (q : Option Repeating) (w : Queued) → Valid script → IsLegal script past → first_in (queued script past) ≡ f → repeating script past ≡ q → next_from f (next_repeating q past) ≡ Some w → (is_small w.request ≡ true) × (is_small w.index ≡ true)
+next_small : (script : Script) (past : List Entry) (f : Option WaitingItem) (q : Option Repeating) (w : Queued) → Valid script → IsLegal script past → first_in (queued script past) ≡ f → repeating script past ≡ q → next_from f (next_repeating q past) ≡ Some w → (is_small w.request.0 ≡ true) × (is_small w.index ≡ true)
 next_small script past (Some x) q w v legal first list h =
-    let same : record { request = x.request; index = x.index; item = x.item; repeats = false } ≡ w = cc in
-    rw (← same) (and_parts (is_small x.request) (is_small x.index) (queued-small script past x v legal first))
+    let same : record { request = x.request; index = x.index; item = x.item; repeating = false } ≡ w = cc in
+    rw (← same) (and_parts (is_small x.request.0) (is_small x.index) (queued-small script past x v legal first))
 next_small script past None None w v legal first list h = absurd (cc)
 next_small script past None (Some q) w v legal first list h =
-    let k = sent_for q.request past % length q.items in
+    let k = sent_for q.request.0 past % length q.items in
     cycle_small script past q k (slice_get q.items k) w v legal list refl h
 
-pub next-small : (script : Script) (past : List Entry) (w : Queued) → Valid script → IsLegal script past → next script past ≡ Some w → (is_small w.request ≡ true) × (is_small w.index ≡ true)
+pub next-small : (script : Script) (past : List Entry) (w : Queued) → Valid script → IsLegal script past → next script past ≡ Some w → (is_small w.request.0 ≡ true) × (is_small w.index ≡ true)
 next-small script past w v legal h = next_small script past (first_in (queued script past)) (repeating script past) w v legal refl refl h

@@ -159,7 +159,7 @@ next_prints script past (Some w) n r i same targets v legal printed at h =
     let g = goes script past w n.0 r.0 i same targets h in
     let name = next-small script past w v legal at in
     let number = same-small n.0 (next_number past) g.number (frame-small script (next_number past) v (frames_bounded script past legal)) in
-    let request = same-small r.0 w.request g.request name.0 in
+    let request = same-small r.0 w.request.0 g.request name.0 in
     let index = same-small i w.index g.index name.1 in
     let bytes = all-kept is_byte (λ s. list_any (λ t. t == s) (take w.item.targets.count w.item.targets.list)) (0 ∷ (1 ∷ (2 ∷ (3 ∷ [])))) refl in
     let sent = targets_print script past (four_list targets) (targets_in_order w.item) v legal printed g.streams bytes g.pool in
@@ -173,10 +173,10 @@ drop_prints script past o false n r i v legal first h = absurd (cc)
 drop_prints script past None true n r i v legal first h = absurd (cc)
 drop_prints script past (Some w) true n r i v legal first h =
     let number : record { 0 = next_number past } ≡ n = cc in
-    let request : record { 0 = w.request } ≡ r = cc in
+    let request : w.request ≡ r = cc in
     let index : w.index ≡ i = cc in
     let name = queued-small script past w v legal first in
-    let name' = and_parts (is_small w.request) (is_small w.index) name in
+    let name' = and_parts (is_small w.request.0) (is_small w.index) name in
     let few = frame-small script (next_number past) v (frames_bounded script past legal) in
     rw (← number, ← request, ← index, few, name'.0, name'.1) refl
 

@@ -23,7 +23,7 @@ use Rattle.basic_lemmas.proofs.Counts.{count-cons}
 
 -- the request is an accepted repeat of these items
 abbrev pub Stands : Script → List Entry → Repeating → Type 0
-Stands script past q = (command_of script past q.request ≡ Some (Repeat q.items)) × (q.request < request_count past)
+Stands script past q = (command_of script past q.request.0 ≡ Some (Repeat q.items)) × (q.request.0 < request_count past)
 
 at_own : (n : ℕ) (a b : Option Command) → (if n == n then a else b) ≡ a
 at_own n a b = let same : (n == n) ≡ true = grind (arith, nat_tests) in rw same refl
@@ -31,7 +31,7 @@ at_own n a b = let same : (n == n) ≡ true = grind (arith, nat_tests) in rw sam
 at_other : (n m : ℕ) (a b : Option Command) → m < n → (if n == m then a else b) ≡ b
 at_other n m a b l = let other : (n == m) ≡ false = grind (arith, nat_tests) in rw other refl
 
-new_stands : (script : Script) (past : List Entry) (i : ℕ) (items : List Item) (q : Repeating) → command_at script i ≡ Some (Repeat items) → record { request = request_count past; items = items } ≡ q → Stands script (Call i (word_of (Repeat items)) (Submitted (record { 0 = request_count past })) ∷ past) q
+new_stands : (script : Script) (past : List Entry) (i : ℕ) (items : List Item) (q : Repeating) → command_at script i ≡ Some (Repeat items) → record { request = record { 0 = request_count past }; items = items } ≡ q → Stands script (Call i (word_of (Repeat items)) (Submitted (record { 0 = request_count past })) ∷ past) q
 new_stands script past i items q at is =
     rw (← is) (
       at_own (request_count past) (command_at script i) (command_of script past (request_count past)) ∙ at,
@@ -41,7 +41,7 @@ new_stands script past i items q at is =
 -- an accepted once or burst leaves the repeating list and its request as they are
 other_stands : (script : Script) (past : List Entry) (i : ℕ) (w : Word) (q : Repeating) → Stands script past q → Stands script (Call i w (Submitted (record { 0 = request_count past })) ∷ past) q
 other_stands script past i w q stands = (
-  at_other (request_count past) q.request (command_at script i) (command_of script past q.request) stands.1 ∙ stands.0,
+  at_other (request_count past) q.request.0 (command_at script i) (command_of script past q.request.0) stands.1 ∙ stands.0,
   omega (arith, stands.1, count-cons is_submission (Call i w (Submitted (record { 0 = request_count past }))) past),
 )
 
