@@ -8,17 +8,18 @@ ghost use Rattle.trace_model.specs.Reply.{reply as reply_to};
 
 use crate::over::is_over;
 use cam_types::{Command, Reply, Script, Word};
-use judge_filters::call::{begun, is_waiting, next_command, word_of};
+use judge_entries::command::{is_waiting_command, next_command, word_of};
 use judge_entries::number::call_count;
-use trace_model::Entry;
+use judge_filters::call::begun;
 use judge_replies::reply::{is_refused, is_reply};
+use trace_model::Entry;
 
 /// Whether the command may be answered: a waiting one after it began, and where it isn't refused, once what it waits for
 /// is over.
 pub fn may_answer(script: &Script, entries: &[Entry], command: &Command) -> bool
     ensures { result ≡ may_answer script.now (reverse entries.now) command.now }
 {
-    (!is_waiting(command) || begun(entries).is_some())
+    (!is_waiting_command(command) || begun(entries).is_some())
         && (is_refused(script, entries, command) || is_over(script, entries, command))
 }
 

@@ -1,7 +1,7 @@
 use crate::answer::is_call_due;
 use cam_types::{
     BufferId, Command, CommandList, FaultList, FenceNo, Format, Four, FrameNo, Item, ItemList,
-    Made, NoMemory, Part, PickList, Reply, RequestId, Script, Settings, SpecList, StreamIx,
+    Made, NoMemory, Part, PickList, Profile, Reply, RequestId, Script, Settings, SpecList, StreamIx,
     StreamSpec, Targets, Word,
 };
 use std::alloc::Global;
@@ -51,6 +51,9 @@ fn three_waits(alloc: Global) -> Result<Script, NoMemory> {
     add(&mut commands, Command::Wait)?;
     add(&mut commands, Command::Close)?;
     Ok(Script {
+        version: 1,
+        profile: Profile::PLAIN,
+        early: false,
         faults: FaultList::new(alloc),
         picks: PickList::new(alloc),
         commands,

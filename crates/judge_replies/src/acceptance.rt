@@ -4,13 +4,12 @@ ghost use Rattle.cam_types.specs.declared.reply.Made.{Made as SomeMade};
 ghost use Rattle.cam_types.specs.Four.{four_list, four_of};
 ghost use Rattle.trace_model.specs.Calls.{request_count};
 ghost use Rattle.trace_model.specs.Configuration.{made_by, made_count};
-ghost use Rattle.cam_types.specs.Profile.{max_buffers};
+ghost use Rattle.cam_types.specs.Profile.{pool_size};
 ghost use Rattle.trace_model.specs.Reply.{acceptance, made_for};
 ghost use Rattle.judge_replies.specs.Made.{made_at, after};
 
 use cam_types::{
-    Command, Format, Four, Made, RAW_BUFFERS, Reply, SPARE_BUFFERS, SpecList, StreamSpec,
-    YUV_BUFFERS,
+    Command, Format, Four, Made, Profile, Reply, SPARE_BUFFERS, Script, SpecList, StreamSpec,
 };
 use judge_entries::number::request_count;
 use trace_model::Entry;
@@ -58,43 +57,44 @@ pub fn made_count(entries: &[Entry]) -> u128
     count
 }
 
-/// How many buffers are made for a stream of the format: two more than may be at the device.
-fn buffers_for(format: Format) -> u32
-    ensures value { result ≡ max_buffers format + 2 }
-    ensures few { result ≤ 6 }
+/// How many buffers are made for a stream of the format. (The profile may be any, so that the number is wide.)
+fn buffers_for(profile: Profile, format: Format) -> u64
+    ensures value { result ≡ pool_size profile format }
+    ensures few { result < 2 ^ 33 }
 {
-    match format {
-        Format::Raw16 => RAW_BUFFERS + SPARE_BUFFERS,
-        Format::Yuv => YUV_BUFFERS + SPARE_BUFFERS,
-        Format::Other(_) => SPARE_BUFFERS,
-    }
+    u64::from(profile.max_buffers(format)) + u64::from(SPARE_BUFFERS)
 }
 
 /// The next unused number after the stream's buffers.
-fn after(next: u128, spec: Option<&StreamSpec>) -> u128
+fn after(profile: Profile, next: u128, spec: Option<&StreamSpec>) -> u128
     requires { next < 2 ^ 120 }
-    ensures value { result ≡ after next (option_copied spec.entry) }
-    ensures few { result ≤ next + 6 }
+    ensures value { result ≡ after profile next (option_copied spec.entry) }
+    ensures few { result < next + 2 ^ 33 }
 {
     match spec {
-        Some(spec) => next + buffers_for(spec.format) as u128,
+        Some(spec) => next + buffers_for(profile, spec.format) as u128,
         None => next,
     }
 }
 
 /// Whether the buffers are those that are made for the stream, numbered on from the next unused number.
-fn is_made(next: u128, spec: &StreamSpec, made: Made) -> bool
-    ensures { result ≡ ((next == made.first.0) && (max_buffers spec.now.format + 2 == made.count)) }
+fn is_made(profile: Profile, next: u128, spec: &StreamSpec, made: Made) -> bool
+    ensures { result ≡ ((next == made.first.0) && (pool_size profile spec.now.format == made.count)) }
 {
-    next == made.first.0 as u128 && buffers_for(spec.format) == made.count
+    next == made.first.0 as u128 && buffers_for(profile, spec.format) == made.count as u64
 }
 
-fn is_made_at(next: u128, spec: Option<&StreamSpec>, made: Option<Made>) -> bool
-    ensures { IsTrue result ↔ (made_at next (option_copied spec.entry) ≡ made) }
+fn is_made_at(
+    profile: Profile,
+    next: u128,
+    spec: Option<&StreamSpec>,
+    made: Option<Made>,
+) -> bool
+    ensures { IsTrue result ↔ (made_at profile next (option_copied spec.entry) ≡ made) }
 {
     match spec {
         Some(spec) => match made {
-            Some(made) => is_made(next, spec, made),
+            Some(made) => is_made(profile, next, spec, made),
             None => false,
         },
         None => made.is_none(),
@@ -102,25 +102,27 @@ fn is_made_at(next: u128, spec: Option<&StreamSpec>, made: Option<Made>) -> bool
 }
 
 /// Whether the buffers are those that are made for the streams, numbered on from the next unused number.
-fn are_made(next: u128, specs: &[StreamSpec], each: &Four<Made>) -> bool
+fn are_made(profile: Profile, next: u128, specs: &[StreamSpec], each: &Four<Made>) -> bool
     requires { next < 2 ^ 100 }
-    ensures { IsTrue result ↔ (four_of (made_for next specs.now) ≡ each.now) }
+    ensures { IsTrue result ↔ (four_of (made_for profile next specs.now) ≡ each.now) }
 {
-    let second = after(next, specs.first());
-    let third = after(second, specs.get(1));
-    let fourth = after(third, specs.get(2));
-    is_made_at(next, specs.first(), each.a)
-        && (is_made_at(second, specs.get(1), each.b)
-            && (is_made_at(third, specs.get(2), each.c)
-                && is_made_at(fourth, specs.get(3), each.d)))
+    let second = after(profile, next, specs.first());
+    let third = after(profile, second, specs.get(1));
+    let fourth = after(profile, third, specs.get(2));
+    is_made_at(profile, next, specs.first(), each.a)
+        && (is_made_at(profile, second, specs.get(1), each.b)
+            && (is_made_at(profile, third, specs.get(2), each.c)
+                && is_made_at(profile, fourth, specs.get(3), each.d)))
 }
 
 /// Whether the reply accepts a configuration of the streams.
-fn accepts_streams(entries: &[Entry], specs: &SpecList, reply: &Reply) -> bool
-    ensures { IsTrue result ↔ (acceptance (reverse entries.now) (Command.Configure specs.now) ≡ reply.now) }
+fn accepts_streams(script: &Script, entries: &[Entry], specs: &SpecList, reply: &Reply) -> bool
+    ensures { IsTrue result ↔ (acceptance script.now (reverse entries.now) (Command.Configure specs.now) ≡ reply.now) }
 {
     match reply {
-        Reply::Configured(each) => are_made(made_count(entries), specs.as_slice(), each),
+        Reply::Configured(each) => {
+            are_made(script.profile, made_count(entries), specs.as_slice(), each)
+        }
         _ => false,
     }
 }
@@ -143,11 +145,16 @@ fn accepts_plainly(reply: &Reply) -> bool
 }
 
 /// Whether the reply is what accepting the command gives.
-pub fn is_acceptance(entries: &[Entry], command: &Command, reply: &Reply) -> bool
-    ensures { IsTrue result ↔ (acceptance (reverse entries.now) command.now ≡ reply.now) }
+pub fn is_acceptance(
+    script: &Script,
+    entries: &[Entry],
+    command: &Command,
+    reply: &Reply,
+) -> bool
+    ensures { IsTrue result ↔ (acceptance script.now (reverse entries.now) command.now ≡ reply.now) }
 {
     match command {
-        Command::Configure(specs) => accepts_streams(entries, specs, reply),
+        Command::Configure(specs) => accepts_streams(script, entries, specs, reply),
         Command::Once(_) => accepts_request(entries, reply),
         Command::Burst(_) => accepts_request(entries, reply),
         Command::Repeat(_) => accepts_request(entries, reply),

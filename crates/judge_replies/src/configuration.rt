@@ -4,17 +4,10 @@ ghost use Rattle.std.specs.List.{list_any, position_from};
 ghost use Rattle.cam_types.specs.Picture.{is_size_of};
 ghost use Rattle.cam_types.specs.Refusals.{is_raw, is_yuv, specs_refusal};
 
-use crate::refused::{
-    BAD_FORMAT, BAD_SIZE, INPUT_STREAM, NO_OUTPUT, TOO_MANY, TOO_MANY_RAW, TOO_MANY_YUV, refused,
-    refused_at,
+use cam_types::{
+    BAD_FORMAT, BAD_SIZE, Format, INPUT_STREAM, NO_OUTPUT, RAW_STREAMS, Reply, STREAM_LIMIT,
+    SpecList, StreamSpec, TOO_MANY, TOO_MANY_RAW, TOO_MANY_YUV, YUV_STREAMS, frame_bytes,
 };
-use cam_types::{Format, Reply, STREAM_LIMIT, SpecList, StreamSpec, frame_bytes};
-
-/// The most RAW16 streams of a configuration.
-const RAW_STREAMS: usize = 1;
-
-/// The most YUV streams of a configuration.
-const YUV_STREAMS: usize = 3;
 
 fn has_output(specs: &[StreamSpec]) -> bool
     ensures { result ≡ list_any (λ s. not s.input) specs.now }
@@ -62,31 +55,30 @@ fn yuv_count(specs: &[StreamSpec]) -> usize
         .count()
 }
 
-#[tactic(auto, using(crate::proofs::ListLemmas::place_found))]
 fn first_refusal(specs: &[StreamSpec]) -> Option<Reply>
     requires { length specs.now < 2 ^ 32 }
     ensures { result ≡ specs_refusal specs.now }
 {
     if !has_output(specs) {
-        return Some(refused(NO_OUTPUT));
+        return Some(Reply::refused(NO_OUTPUT));
     }
     if specs.len() > STREAM_LIMIT as usize {
-        return Some(refused(TOO_MANY));
+        return Some(Reply::refused(TOO_MANY));
     }
     if has_input(specs) {
-        return Some(refused(INPUT_STREAM));
+        return Some(Reply::refused(INPUT_STREAM));
     }
     if let Some(place) = first_bad_format(specs) {
-        return Some(refused_at(BAD_FORMAT, place as u32));
+        return Some(Reply::refused_at(BAD_FORMAT, place as u32));
     }
     if let Some(place) = first_bad_size(specs) {
-        return Some(refused_at(BAD_SIZE, place as u32));
+        return Some(Reply::refused_at(BAD_SIZE, place as u32));
     }
-    if raw_count(specs) > RAW_STREAMS {
-        return Some(refused(TOO_MANY_RAW));
+    if raw_count(specs) > RAW_STREAMS as usize {
+        return Some(Reply::refused(TOO_MANY_RAW));
     }
-    if yuv_count(specs) > YUV_STREAMS {
-        return Some(refused(TOO_MANY_YUV));
+    if yuv_count(specs) > YUV_STREAMS as usize {
+        return Some(Reply::refused(TOO_MANY_YUV));
     }
     None
 }

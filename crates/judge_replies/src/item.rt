@@ -3,11 +3,10 @@ ghost use Rattle.std.specs.Prelude.{◌≡◌, ◌==◌, ◌<◌, ◌^◌, [], n
 ghost use Rattle.std.specs.List.{list_any};
 ghost use Rattle.cam_types.specs.Refusals.{first_repeated, targets_refusal, item_refusal, items_refusal, list_refusal};
 
-use crate::refused::{
-    BAD_SETTING, EMPTY_LIST, NO_TARGETS, REPEATED_STREAM, UNKNOWN_STREAM, refused, refused_at,
-    with_value,
+use cam_types::{
+    BAD_SETTING, EMPTY_LIST, Item, ItemList, NO_TARGETS, REPEATED_STREAM, Reply, Targets,
+    UNKNOWN_STREAM,
 };
-use cam_types::{Item, ItemList, Reply, Targets};
 use meta_rules::range_fault;
 
 /// The targets that were written.
@@ -64,11 +63,11 @@ fn targets_refusal(streams: usize, place: u32, targets: &[u8]) -> Option<Reply>
     ensures { result ≡ targets_refusal streams place targets.now }
 {
     if targets.is_empty() {
-        return Some(refused_at(NO_TARGETS, place));
+        return Some(Reply::refused_at(NO_TARGETS, place));
     }
-    match with_value(UNKNOWN_STREAM, place, first_unknown(streams, targets)) {
+    match Reply::refused_for(UNKNOWN_STREAM, place, first_unknown(streams, targets)) {
         Some(refused) => Some(refused),
-        None => with_value(REPEATED_STREAM, place, first_repeated(targets)),
+        None => Reply::refused_for(REPEATED_STREAM, place, first_repeated(targets)),
     }
 }
 
@@ -78,7 +77,7 @@ pub fn item_refusal(streams: usize, place: u32, item: &Item) -> Option<Reply>
 {
     match targets_refusal(streams, place, written(&item.targets)) {
         Some(refused) => Some(refused),
-        None => with_value(BAD_SETTING, place, range_fault(item.settings)),
+        None => Reply::refused_for(BAD_SETTING, place, range_fault(item.settings)),
     }
 }
 
@@ -101,7 +100,7 @@ pub fn list_refusal(streams: usize, items: &ItemList) -> Option<Reply>
     ensures { result ≡ list_refusal streams items.now }
 {
     if items.len() == 0 {
-        return Some(refused(EMPTY_LIST));
+        return Some(Reply::refused(EMPTY_LIST));
     }
     items_refusal(streams, items.as_slice())
 }

@@ -8,7 +8,6 @@ pub mod configuration;
 pub mod item;
 pub mod queue;
 pub mod refusal;
-pub mod refused;
 pub mod reply;
 #[cfg(test)]
 mod tests;

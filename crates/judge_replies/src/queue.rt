@@ -3,20 +3,20 @@ ghost use Rattle.std.specs.Prelude.{◌≡◌, ◌≤◌, ◌<◌, ◌^◌, not,
 ghost use Rattle.trace_model.specs.Queue.{named, puts, queued, is_taken};
 ghost use Rattle.trace_model.specs.Reply.{queue_refusal};
 
-use crate::refused::{QUEUE_FULL, where_true};
-use cam_types::{Item, QUEUE_LIMIT, Reply, RequestId, Script};
-use judge_filters::call::command_at;
-use judge_filters::queue::{is_taken, queued_items};
+use cam_types::{Item, QUEUE_FULL, QUEUE_LIMIT, Reply, RequestId, Script};
+use judge_entries::command::{command_at, queued_items};
+use judge_filters::queue::is_taken;
 use trace_model::Entry;
 
 /// How many of the request's items aren't taken.
 fn count_left(entries: &[Entry], request: RequestId, items: &[Item]) -> usize
-    ensures value { result ≡ length (filter (λ w. not (is_taken (reverse entries.now) w)) (named request.0 0 items.now)) }
+    requires { length items.now < 2 ^ 32 }
+    ensures value { result ≡ length (filter (λ w. not (is_taken (reverse entries.now) w)) (named request 0 items.now)) }
     ensures few { result ≤ length items.now }
 {
     let mut count = 0;
     for index in 0..items.len() {
-        if !is_taken(entries, request, index) {
+        if !is_taken(entries, request, index as u32) {
             count += 1;
         }
     }
@@ -56,5 +56,5 @@ pub fn queue_refusal(script: &Script, entries: &[Entry], items: &[Item]) -> Opti
     ensures { result ≡ queue_refusal script.now (reverse entries.now) items.now }
 {
     let waiting = queue_length(script, entries) + items.len() as u128;
-    where_true(waiting > QUEUE_LIMIT as u128, QUEUE_FULL)
+    Reply::refused_where(waiting > QUEUE_LIMIT as u128, QUEUE_FULL)
 }

@@ -5,17 +5,18 @@ ghost use Rattle.trace_model.specs.Reply.{is_configure_command, own_refusal, ref
 use crate::configuration::specs_refusal;
 use crate::item::{items_refusal, list_refusal};
 use crate::queue::queue_refusal;
-use crate::refused::{
-    CLOSED, DEVICE_FAILED, NOT_CONFIGURED, NOT_REPEATING, REPEATING, refused, where_true,
+use cam_types::{
+    CLOSED, Command, DEVICE_FAILED, Item, ItemList, NOT_CONFIGURED, NOT_REPEATING, REPEATING,
+    Reply, Script,
 };
-use cam_types::{Command, Item, ItemList, Reply, Script};
-use std::slice;
-use judge_filters::call::{is_closed, word_of};
+use judge_entries::command::word_of;
+use judge_entries::entry::is_closing_word;
+use judge_filters::call::is_closed;
 use judge_filters::configuration::{is_configured, streams};
-use judge_entries::entry::is_closing;
+use judge_filters::next::is_list_repeating;
 use judge_filters::stopping::has_failed;
+use std::slice;
 use trace_model::Entry;
-use judge_filters::next::repeats;
 
 fn is_configure_command(command: &Command) -> bool
     ensures { result ≡ is_configure_command command.now }
@@ -28,13 +29,13 @@ pub fn state_refusal(entries: &[Entry], command: &Command) -> Option<Reply>
     ensures { result ≡ state_refusal (reverse entries.now) command.now }
 {
     if is_closed(entries) {
-        Some(refused(CLOSED))
-    } else if is_closing(word_of(command)) {
+        Some(Reply::refused(CLOSED))
+    } else if is_closing_word(word_of(command)) {
         None
     } else if has_failed(entries) {
-        Some(refused(DEVICE_FAILED))
+        Some(Reply::refused(DEVICE_FAILED))
     } else {
-        where_true(
+        Reply::refused_where(
             !is_configure_command(command) && !is_configured(entries),
             NOT_CONFIGURED,
         )
@@ -71,9 +72,9 @@ pub fn own_refusal(script: &Script, entries: &[Entry], command: &Command) -> Opt
         Command::Once(item) => once_refusal(script, entries, item),
         Command::Burst(items) => burst_refusal(script, entries, items),
         Command::Repeat(items) => list_refusal(streams(script, entries).len(), items),
-        Command::Stop => where_true(!repeats(script, entries), NOT_REPEATING),
-        Command::Await(_) => where_true(!repeats(script, entries), NOT_REPEATING),
-        Command::Wait => where_true(repeats(script, entries), REPEATING),
+        Command::Stop => Reply::refused_where(!is_list_repeating(script, entries), NOT_REPEATING),
+        Command::Await(_) => Reply::refused_where(!is_list_repeating(script, entries), NOT_REPEATING),
+        Command::Wait => Reply::refused_where(is_list_repeating(script, entries), REPEATING),
         Command::Flush => None,
         Command::Close => None,
         Command::Disconnect => None,

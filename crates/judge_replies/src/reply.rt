@@ -15,7 +15,7 @@ pub fn is_reply(script: &Script, entries: &[Entry], command: &Command, reply: Re
 {
     match refusal(script, entries, command) {
         Some(refused) => is_same_reply(refused, reply),
-        None => is_acceptance(entries, command, &reply),
+        None => is_acceptance(script, entries, command, &reply),
     }
 }
 

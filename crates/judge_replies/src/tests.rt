@@ -1,7 +1,7 @@
 use crate::reply::{is_refused, is_reply};
 use cam_types::{
     BufferId, Command, CommandList, FaultList, Format, Four, FrameNo, Item, ItemList, Listing,
-    Made, NoMemory, PickList, Reply, RequestId, Script, Settings, SpecList, StreamSpec, Targets,
+    Made, NoMemory, PickList, Profile, Reply, RequestId, Script, Settings, SpecList, StreamSpec, Targets,
     Word,
 };
 use std::alloc::Global;
@@ -87,6 +87,9 @@ fn script(alloc: Global) -> Result<Script, NoMemory> {
     add(&mut commands, configure(alloc, &[RAW, YUV])?)?;
     add(&mut commands, Command::Burst(items(alloc, 32)?))?;
     Ok(Script {
+        version: 1,
+        profile: Profile::PLAIN,
+        early: false,
         faults: FaultList::new(alloc),
         picks: PickList::new(alloc),
         commands,
@@ -174,6 +177,24 @@ fn replies(rt: HostRuntime) -> Result<(), Fail> {
             is_refused(&script, past, command) == is_refusal,
             "{place} after {count}"
         );
+    }
+    Ok(())
+}
+
+/// A device with a profile of its own: each stream has two buffers more than may be at the device.
+#[test]
+fn pools_of_a_profile(rt: HostRuntime) -> Result<(), Fail> {
+    let mut script = script(rt.alloc())?;
+    script.version = 2;
+    script.profile = Profile {
+        depth: 8,
+        raw: 3,
+        yuv: 7,
+    };
+    let command = script.commands.get(15).ok_or("a command")?;
+    for (yuv, want) in [(9, true), (6, false), (7, false)] {
+        let reply = configured(made(0, 5), made(5, yuv));
+        assert!(rt; is_reply(&script, &[], command, reply) == want, "{yuv}");
     }
     Ok(())
 }

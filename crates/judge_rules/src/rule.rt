@@ -1,15 +1,16 @@
 //! Whether an entry of a kind is allowed after the entries before it: all kinds but calls and sends, and of a filled buffer
-//! all but its digest.
+//! and of the signal of a device fence all but the digest.
 ghost use Rattle.std.specs.Prelude.{◌≡◌, ◌↔◌, ◌==◌, ◌+◌, ℕ, List, reverse, IsTrue};
 ghost use Rattle.cam_types.specs.declared.script.Script.{Script as SomeScript};
 ghost use Rattle.trace_model.specs.Allowed.{IsAllowed};
 ghost use Rattle.trace_model.specs.Partial.{part_count};
 ghost use Rattle.trace_model.specs.Picture.{digest_of};
+ghost use Rattle.judge_rules.specs.Fills.{is_digest_in};
 
 use crate::buffer::{failed_due, releases, signals_next};
 use crate::client::begin_due;
 use crate::error::{may_fail_buffer, may_fail_device, may_fail_request, may_fail_result};
-use crate::filled::fills;
+use crate::filled::{fills, fills_late, returns_early};
 use crate::metadata::part_numbered;
 use crate::queued::drops;
 use crate::same::is_due;
@@ -85,6 +86,28 @@ pub fn is_fill_due(
     ensures { (digest : List ℕ) → ((IsTrue result × (digest ≡ digest_of script.now (reverse entries.now) frame.0 stream.0)) ↔ IsAllowed script.now (reverse entries.now) (Entry.Filled frame stream buffer fence digest)) }
 {
     fills(script, entries, frame, stream, buffer, fence)
+}
+
+/// Whether the buffer is due back early, with the device fence.
+pub fn is_early_due(
+    script: &Script,
+    entries: &[Entry],
+    frame: FrameNo,
+    stream: StreamIx,
+    buffer: BufferId,
+    fence: FenceNo,
+) -> bool
+    ensures { IsTrue result ↔ IsAllowed script.now (reverse entries.now) (Entry.Early frame stream buffer fence) }
+{
+    returns_early(script, entries, frame, stream, buffer, fence)
+}
+
+/// The frame and the stream whose picture is due with the signal of the device fence: with the picture's digest, and with
+/// no other one. None where the signal isn't due with any.
+pub fn late_due(entries: &[Entry], fence: FenceNo) -> Option<(FrameNo, StreamIx)>
+    ensures { (script : SomeScript) (digest : List ℕ) → (is_digest_in script (reverse entries.now) result digest ↔ IsAllowed script (reverse entries.now) (Entry.Late fence digest)) }
+{
+    fills_late(entries, fence)
 }
 
 /// Whether the buffer is due back in error, with the fence.

@@ -1,7 +1,9 @@
-use crate::rule::{is_begin_due, is_partial_due, is_release_due, is_shutter_due, is_signal_due};
+use crate::rule::{
+    is_begin_due, is_early_due, is_partial_due, is_release_due, is_shutter_due, is_signal_due, late_due,
+};
 use cam_types::{
     BufferId, Command, CommandList, FaultList, FenceNo, Format, Four, FrameNo, Item, Made,
-    NoMemory, Part, PickList, Reply, RequestId, Script, Settings, SpecList, StreamIx, StreamSpec,
+    NoMemory, Part, PickList, Profile, Reply, RequestId, Script, Settings, SpecList, StreamIx, StreamSpec,
     Targets, Word,
 };
 use std::alloc::Global;
@@ -109,7 +111,7 @@ const ROWS: &[(usize, usize, bool)] = &[
     (12, 11, false),
 ];
 
-fn one_frame(alloc: Global) -> Result<Script, NoMemory> {
+fn one_frame(alloc: Global, early: bool) -> Result<Script, NoMemory> {
     let mut specs = SpecList::new(alloc);
     specs.push(StreamSpec {
         input: false,
@@ -134,6 +136,9 @@ fn one_frame(alloc: Global) -> Result<Script, NoMemory> {
     commands.push(Command::Once(item))?;
     commands.push(Command::Close)?;
     Ok(Script {
+        version: 1,
+        profile: Profile::PLAIN,
+        early,
         faults: FaultList::new(alloc),
         picks: PickList::new(alloc),
         commands,
@@ -158,12 +163,46 @@ fn is_due(script: &Script, past: &[Entry], entry: &Entry) -> bool {
 
 #[test]
 fn entries_of_one_frame(rt: HostRuntime) -> Result<(), Fail> {
-    let script = one_frame(rt.alloc())?;
+    let script = one_frame(rt.alloc(), false)?;
     for (count, place, want) in ROWS {
         let past = TRACE.get(..*count).ok_or("a front of the trace")?;
         let entry = TRACE.get(*place).ok_or("an entry of the trace")?;
         let due = is_due(&script, past, entry);
         assert!(rt; due == *want, "entry {place} after {count}");
     }
+    Ok(())
+}
+
+const EARLY: Entry = Entry::Early {
+    frame: FrameNo(0),
+    stream: StreamIx(0),
+    buffer: BufferId(0),
+    fence: FenceNo(0),
+};
+
+const LATE: Entry = Entry::Late {
+    fence: FenceNo(0),
+    digest: [0; 32],
+};
+
+/// The buffer comes back early where the script says so, and goes home after its device fence is signalled.
+#[test]
+fn an_early_return(rt: HostRuntime) -> Result<(), Fail> {
+    let early = one_frame(rt.alloc(), true)?;
+    let late = one_frame(rt.alloc(), false)?;
+    let mut past = [LATE; 8];
+    past[..6].copy_from_slice(&TRACE[..6]);
+    past[6] = EARLY;
+    let (frame, stream, buffer) = (FrameNo(0), StreamIx(0), BufferId(0));
+    for (script, fence, want) in [(&early, 0, true), (&early, 1, false), (&late, 0, false)] {
+        let due = is_early_due(script, &past[..6], frame, stream, buffer, FenceNo(fence));
+        assert!(rt; due == want);
+    }
+    assert!(rt; !is_early_due(&early, &past[..7], frame, stream, buffer, FenceNo(1)));
+    assert!(rt; late_due(&past[..6], FenceNo(0)).is_none());
+    assert!(rt; late_due(&past[..7], FenceNo(0)) == Some((frame, stream)));
+    assert!(rt; late_due(&past, FenceNo(0)).is_none());
+    assert!(rt; !is_release_due(&past[..7], buffer, FenceNo(0)));
+    assert!(rt; is_release_due(&past, buffer, FenceNo(0)));
     Ok(())
 }

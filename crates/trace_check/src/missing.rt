@@ -9,11 +9,11 @@ ghost use Rattle.trace_check.specs.Verdict.{first_missing};
 use crate::verdict::MissingPart;
 use cam_types::Script;
 use judge_calls::over::is_queue_empty;
-use judge_filters::fence::is_signalled;
 use judge_entries::number::call_count;
+use judge_filters::fence::is_signalled;
 use judge_filters::open::is_quiet;
-use trace_model::Entry;
 use judge_pool::pool::all_in_pool;
+use trace_model::Entry;
 
 /// Whether every command of the script was called.
 fn is_all_called(script: &Script, entries: &[Entry]) -> bool

@@ -4,6 +4,6 @@ use Rattle.judge_replies.proofs.queue.count_left.Given as goal
 
 abbrev pub invariant-loop-index : goal.invariant-loop-index
 invariant-loop-index l = record {
-  value : length (filter (λ w. not (is_taken (reverse l.entries) w)) (named l.request.0 0 l.items)) ≡ l.count + length (filter (λ w. not (is_taken (reverse l.entries) w)) (named l.request.0 l.index (drop l.index l.items)));
+  value : length (filter (λ w. not (is_taken (reverse l.entries) w)) (named l.request 0 l.items)) ≡ l.count + length (filter (λ w. not (is_taken (reverse l.entries) w)) (named l.request l.index (drop l.index l.items)));
   few : l.count ≤ l.index;
 }
