@@ -1,9 +1,11 @@
 -- The queue and the repeating list hold items that can be served.
+use Rattle.basic_lemmas.proofs.Lists.{all-filtered}
 use Rattle.std.proofs.Common.{◌≡◌, ◌<◌, ℕ, ◌+◌, Bool, true, false, ◌&&◌, ◌||◌, not, List, [], ◌∷◌, Option, Some, None, refl, inl, inr, append-nil, filter, is_some, length}
 use Rattle.std.specs.List.{list_all}
 use Rattle.std.proofs.lemmas.Bool.{and_from, and_parts, cases_Bool, false≢true}
 use Rattle.std.proofs.lemmas.List.Elements.{filter-append}
 use Rattle.std.proofs.lemmas.List.Folds.{list_all-append}
+use Rattle.cam_types.specs.declared.number.RequestId.{RequestId}
 use Rattle.cam_types.specs.declared.item.Item.{Item}
 use Rattle.cam_types.specs.declared.reply.Reply.{Reply}
 use Rattle.cam_types.specs.declared.reply.Reply.TheVariants.{Ok, Submitted, Configured, Refused}
@@ -60,21 +62,15 @@ old_kept script past e p all = fewer p (λ w. not (is_taken past w)) (λ w. not 
 queue_kept : (script : Script) (past : List Entry) (e : Entry) (p : WaitingItem → Bool) → puts script e ≡ [] → AreQueued script past p → AreQueued script (e ∷ past) p
 queue_kept script past e p none all = rw (none, append-nil (submitted script past)) (old_kept script past e p all)
 
-named_all : (p : Item → Bool) (r i : ℕ) (items : List Item) → list_all p items ≡ true → list_all (λ w. p w.item) (named r i items) ≡ true
+named_all : (p : Item → Bool) (r : RequestId) (i : ℕ) (items : List Item) → list_all p items ≡ true → list_all (λ w. p w.item) (named r i items) ≡ true
 named_all p r i [] all = refl
 named_all p r i (item ∷ items) all = let parts = and_parts (p item) (list_all p items) all in rw (parts.0, named_all p r (i + 1) items parts.1) refl
 
-all_filtered : (p q : WaitingItem → Bool) (xs : List WaitingItem) → list_all p xs ≡ true → list_all p (filter q xs) ≡ true
-all_filtered p q [] all = refl
-all_filtered p q (x ∷ xs) all =
-    let parts = and_parts (p x) (list_all p xs) all in
-    elim (cases_Bool (q x)) [ inl kept ↦ rw (kept, parts.0) (all_filtered p q xs parts.1) | inr out ↦ rw out (all_filtered p q xs parts.1) ]
-
-queue_more : (script : Script) (past : List Entry) (e : Entry) (p : Item → Bool) (r : ℕ) (items : List Item) → puts script e ≡ named r 0 items → list_all p items ≡ true → AreQueued script past (λ w. p w.item) → AreQueued script (e ∷ past) (λ w. p w.item)
+queue_more : (script : Script) (past : List Entry) (e : Entry) (p : Item → Bool) (r : RequestId) (items : List Item) → puts script e ≡ named r 0 items → list_all p items ≡ true → AreQueued script past (λ w. p w.item) → AreQueued script (e ∷ past) (λ w. p w.item)
 queue_more script past e p r items new all before =
     let kept : WaitingItem → Bool = λ w. not (is_taken (e ∷ past) w) in
     rw (new, filter-append kept (submitted script past) (named r 0 items), list_all-append)
-    (and_from _ _ (old_kept script past e (λ w. p w.item) before) (all_filtered (λ w. p w.item) kept (named r 0 items) (named_all p r 0 items all)))
+    (and_from _ _ (old_kept script past e (λ w. p w.item) before) (all-filtered (λ w. p w.item) kept (named r 0 items) (named_all p r 0 items all)))
 
 abbrev pub QueueServed : Script → List Entry → Type 0
 QueueServed script past = AreQueued script past (λ w. is_served script past w.item)
@@ -108,10 +104,10 @@ call_queue script past i (Configure specs) None is h at may legal before =
     queue_kept script past e (λ w. is_served script (e ∷ past) w.item) refl (empty_queue script past (λ w. is_served script (e ∷ past) w.item) empty.1)
 call_queue script past i (Once item) None is h at may legal before =
     let own = or-none (items_refusal (length (streams script past)) 0 (item ∷ [])) (queue_refusal script past (item ∷ [])) (own-none script past (Once item) is) in
-    queue_more script past (Call i (word_of (Once item)) (acceptance script past (Once item))) (is_served script past) (request_count past) (item ∷ []) (rw at refl) (all_served script past (item ∷ []) legal (items_none (length (streams script past)) 0 (item ∷ []) own.0)) before
+    queue_more script past (Call i (word_of (Once item)) (acceptance script past (Once item))) (is_served script past) (record { 0 = request_count past }) (item ∷ []) (rw at refl) (all_served script past (item ∷ []) legal (items_none (length (streams script past)) 0 (item ∷ []) own.0)) before
 call_queue script past i (Burst items) None is h at may legal before =
     let own = or-none (list_refusal (length (streams script past)) items) (queue_refusal script past items) (own-none script past (Burst items) is) in
-    queue_more script past (Call i (word_of (Burst items)) (acceptance script past (Burst items))) (is_served script past) (request_count past) items (rw at refl) (all_served script past items legal (list-none (length (streams script past)) items own.0).1) before
+    queue_more script past (Call i (word_of (Burst items)) (acceptance script past (Burst items))) (is_served script past) (record { 0 = request_count past }) items (rw at refl) (all_served script past items legal (list-none (length (streams script past)) items own.0).1) before
 call_queue script past i (Repeat items) None is h at may legal before = queue_kept script past (Call i (word_of (Repeat items)) (acceptance script past (Repeat items))) (λ w. is_served script past w.item) (rw at refl) before
 call_queue script past i Stop None is h at may legal before = queue_kept script past (Call i (word_of Stop) Ok) (λ w. is_served script past w.item) refl before
 call_queue script past i Wait None is h at may legal before = queue_kept script past (Call i (word_of Wait) Ok) (λ w. is_served script past w.item) refl before
@@ -132,7 +128,7 @@ queue-served script (e ∷ past) legal = queue_kept script past e (λ w. is_serv
 abbrev pub ListServed : Script → List Entry → Type 0
 ListServed script past = (q : Repeating) → repeating script past ≡ Some q → (0 < length q.items) × (list_all (is_served script past) q.items ≡ true)
 
-list_by : (p : Item → Bool) (r : ℕ) (items : List Item) (q : Repeating) → record { request = r; items = items } ≡ q → (0 < length items) × (list_all p items ≡ true) → (0 < length q.items) × (list_all p q.items ≡ true)
+list_by : (p : Item → Bool) (r : RequestId) (items : List Item) (q : Repeating) → record { request = r; items = items } ≡ q → (0 < length items) × (list_all p items ≡ true) → (0 < length q.items) × (list_all p q.items ≡ true)
 list_by p r items q same all = rw (← same) all
 
 call_list : (script : Script) (past : List Entry) (i : ℕ) (c : Command) (e : Option Reply) → refusal script past c ≡ e → refuses e ≡ true → command_at script i ≡ Some c → IsLegal script past → ListServed script past → ListServed script (Call i (word_of c) (reply_with e (acceptance script past c)) ∷ past)
@@ -145,9 +141,9 @@ call_list script past i (Once item) None is h at legal before = before
 call_list script past i (Burst items) None is h at legal before = before
 call_list script past i (Repeat items) None is h at legal before = λ q k. (
     let k' = rw at at k in
-    let same : record { request = request_count past; items = items } ≡ q = cc in
+    let same : record { request = record { 0 = request_count past }; items = items } ≡ q = cc in
     let all = list-none (length (streams script past)) items (own-none script past (Repeat items) is) in
-    list_by (is_served script past) (request_count past) items q same (all.0, all_served script past items legal all.1)
+    list_by (is_served script past) (record { 0 = request_count past }) items q same (all.0, all_served script past items legal all.1)
     )
 call_list script past i Stop None is h at legal before = λ q k. absurd (cc)
 call_list script past i Wait None is h at legal before = before

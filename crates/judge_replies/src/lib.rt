@@ -4,8 +4,6 @@
 #![tactic(auto)]
 
 pub mod acceptance;
-pub mod configuration;
-pub mod item;
 pub mod queue;
 pub mod refusal;
 pub mod reply;

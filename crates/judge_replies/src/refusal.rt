@@ -1,14 +1,14 @@
 //! All refusals of a command.
 ghost use Rattle.std.specs.Prelude.{◌≡◌, reverse};
+ghost use Rattle.cam_types.specs.Refusals.{specs_refusal};
 ghost use Rattle.trace_model.specs.Reply.{is_configure_command, own_refusal, refusal, state_refusal};
 
-use crate::configuration::specs_refusal;
-use crate::item::{items_refusal, list_refusal};
 use crate::queue::queue_refusal;
 use cam_types::{
-    CLOSED, Command, DEVICE_FAILED, Item, ItemList, NOT_CONFIGURED, NOT_REPEATING, REPEATING,
-    Reply, Script,
+    CLOSED, Command, DEVICE_FAILED, Item, ItemList, NOT_CONFIGURED, NOT_REPEATING, Profile,
+    REPEATING, Reply, Script, SpecList,
 };
+use item_checks::{items_refusal, list_refusal};
 use judge_entries::command::word_of;
 use judge_entries::entry::is_closing_word;
 use judge_filters::call::is_closed;
@@ -39,6 +39,16 @@ pub fn state_refusal(entries: &[Entry], command: &Command) -> Option<Reply>
             !is_configure_command(command) && !is_configured(entries),
             NOT_CONFIGURED,
         )
+    }
+}
+
+/// The refusal of a configuration of the streams. It is the same for every device.
+fn specs_refusal(specs: &SpecList) -> Option<Reply>
+    ensures { result ≡ specs_refusal specs.now }
+{
+    match stream_config::check(specs, Profile::PLAIN) {
+        Ok(_) => None,
+        Err(refused) => Some(refused.reply()),
     }
 }
 

@@ -1,6 +1,6 @@
 -- A job that is out is of an open frame: the fill of a target that didn't come back, or the sensor's of a frame of which
 -- nothing came back.
-use Rattle.std.proofs.Common.{◌≡◌, ℕ, ◌==◌, Bool, true, false, ◌&&◌, ◌||◌, not, List, [], ◌∷◌, Option, Some, None, refl, inl, inr}
+use Rattle.std.proofs.Common.{◌≡◌, ℕ, ◌==◌, Bool, true, false, ◌&&◌, not, List, [], ◌∷◌, Option, Some, None, refl, inl, inr}
 use Rattle.std.proofs.lemmas.Bool.{and_parts, cases_Bool, false≢true, or_right}
 use Rattle.cam_types.specs.declared.script.Script.{Script}
 use Rattle.run_model.specs.declared.step.Move.{Move}

@@ -1,4 +1,3 @@
-//! Refusals of items.
 ghost use Rattle.std.specs.Prelude.{◌≡◌, ◌==◌, ◌<◌, ◌^◌, [], not, nat_lt, find, take, length, reverse, option_copied};
 ghost use Rattle.std.specs.List.{list_any};
 ghost use Rattle.cam_types.specs.Refusals.{first_repeated, targets_refusal, item_refusal, items_refusal, list_refusal};
@@ -71,7 +70,9 @@ fn targets_refusal(streams: usize, place: u32, targets: &[u8]) -> Option<Reply>
     }
 }
 
-/// The refusal of the item at the place.
+/// The refusal of the item at a place, where so many streams are configured: it has no target, its first target that
+/// isn't a stream, its first target that occurred before, or its least setting out of range. None exactly where none of
+/// these holds.
 pub fn item_refusal(streams: usize, place: u32, item: &Item) -> Option<Reply>
     ensures { result ≡ item_refusal streams place item.now }
 {
@@ -81,7 +82,7 @@ pub fn item_refusal(streams: usize, place: u32, item: &Item) -> Option<Reply>
     }
 }
 
-/// The first refusal of an item.
+/// The refusal of the first item that is refused, with its place from 0 on. None exactly where each is accepted.
 pub fn items_refusal(streams: usize, items: &[Item]) -> Option<Reply>
     requires { length items.now < 2 ^ 32 }
     ensures { result ≡ items_refusal streams 0 items.now }
@@ -95,7 +96,7 @@ pub fn items_refusal(streams: usize, items: &[Item]) -> Option<Reply>
     None
 }
 
-/// The refusal of a list of items.
+/// The refusal of a list: that it has no item, or that of the first item that is refused.
 pub fn list_refusal(streams: usize, items: &ItemList) -> Option<Reply>
     ensures { result ≡ list_refusal streams items.now }
 {
