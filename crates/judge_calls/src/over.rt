@@ -7,8 +7,8 @@ use crate::since::done_since_begin;
 use cam_types::{Command, Script};
 use judge_filters::open::is_quiet;
 use judge_filters::queue::first_queued;
-use trace_model::Entry;
 use judge_pool::pool::all_in_pool;
+use trace_model::Entry;
 
 /// Whether nothing is queued.
 #[tactic(auto, using(crate::proofs::SinceLemmas::empty_first))]

@@ -1,8 +1,8 @@
 use crate::answer::is_call_due;
 use cam_types::{
     BufferId, Command, CommandList, FaultList, FenceNo, Format, Four, FrameNo, Item, ItemList,
-    Made, NoMemory, Part, PickList, Profile, Reply, RequestId, Script, Settings, SpecList, StreamIx,
-    StreamSpec, Targets, Word,
+    Made, NoMemory, Part, PickList, Profile, Reply, RequestId, Script, Settings, SpecList,
+    StreamIx, StreamSpec, Targets, Word,
 };
 use std::alloc::Global;
 use std::test::*;

@@ -1,8 +1,8 @@
 //! The items of two requests and a repeating list, one after the other.
 use crate::next::{is_list_repeating, next_item};
 use cam_types::{
-    Command, CommandList, FaultList, Four, FrameNo, Item, ItemList, NoMemory, PickList, Profile, Reply,
-    RequestId, Script, Settings, Targets, Word,
+    Command, CommandList, FaultList, Four, FrameNo, Item, ItemList, NoMemory, PickList, Profile,
+    Reply, RequestId, Script, Settings, Targets, Word,
 };
 use std::alloc::Global;
 use std::test::Fail;

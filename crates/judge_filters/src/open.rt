@@ -209,7 +209,10 @@ fn has_partial(entries: &[Entry], frame: FrameNo) -> bool
 fn has_returned(entries: &[Entry], frame: FrameNo) -> bool
     ensures { result ≡ list_any (returns_of_frame frame.0) (reverse entries.now) }
 {
-    entries.iter().rev().any(|entry| returns_of_frame(entry, frame))
+    entries
+        .iter()
+        .rev()
+        .any(|entry| returns_of_frame(entry, frame))
 }
 
 /// Whether a metadata result, a buffer or an error of the frame stands.

@@ -73,10 +73,7 @@ fn what_the_past_says(rt: HostRuntime) -> Result<(), Fail> {
         let past = TRACE.get(..*count).ok_or("a front of the trace")?;
         assert!(rt; begun(past) == *word, "begun after {count}");
         assert!(rt; open_count(past) == *open, "open after {count}");
-        assert!(rt;
-            is_in_pool(past, 0) == *pool,
-            "pool after {count}"
-        );
+        assert!(rt; is_in_pool(past, 0) == *pool, "pool after {count}");
         assert!(rt;
             fence_of(past, BufferId(0)) == *fence,
             "fence after {count}"

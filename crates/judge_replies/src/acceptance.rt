@@ -84,12 +84,7 @@ fn is_made(profile: Profile, next: u128, spec: &StreamSpec, made: Made) -> bool
     next == made.first.0 as u128 && buffers_for(profile, spec.format) == made.count as u64
 }
 
-fn is_made_at(
-    profile: Profile,
-    next: u128,
-    spec: Option<&StreamSpec>,
-    made: Option<Made>,
-) -> bool
+fn is_made_at(profile: Profile, next: u128, spec: Option<&StreamSpec>, made: Option<Made>) -> bool
     ensures { IsTrue result ↔ (made_at profile next (option_copied spec.entry) ≡ made) }
 {
     match spec {
@@ -145,12 +140,7 @@ fn accepts_plainly(reply: &Reply) -> bool
 }
 
 /// Whether the reply is what accepting the command gives.
-pub fn is_acceptance(
-    script: &Script,
-    entries: &[Entry],
-    command: &Command,
-    reply: &Reply,
-) -> bool
+pub fn is_acceptance(script: &Script, entries: &[Entry], command: &Command, reply: &Reply) -> bool
     ensures { IsTrue result ↔ (acceptance script.now (reverse entries.now) command.now ≡ reply.now) }
 {
     match command {

@@ -83,7 +83,10 @@ pub fn own_refusal(script: &Script, entries: &[Entry], command: &Command) -> Opt
         Command::Burst(items) => burst_refusal(script, entries, items),
         Command::Repeat(items) => list_refusal(streams(script, entries).len(), items),
         Command::Stop => Reply::refused_where(!is_list_repeating(script, entries), NOT_REPEATING),
-        Command::Await(_) => Reply::refused_where(!is_list_repeating(script, entries), NOT_REPEATING),
+        Command::Await(_) => Reply::refused_where(
+            !is_list_repeating(script, entries),
+            NOT_REPEATING,
+        ),
         Command::Wait => Reply::refused_where(is_list_repeating(script, entries), REPEATING),
         Command::Flush => None,
         Command::Close => None,

@@ -1,8 +1,8 @@
 use crate::reply::{is_refused, is_reply};
 use cam_types::{
     BufferId, Command, CommandList, FaultList, Format, Four, FrameNo, Item, ItemList, Listing,
-    Made, NoMemory, PickList, Profile, Reply, RequestId, Script, Settings, SpecList, StreamSpec, Targets,
-    Word,
+    Made, NoMemory, PickList, Profile, Reply, RequestId, Script, Settings, SpecList, StreamSpec,
+    Targets, Word,
 };
 use std::alloc::Global;
 use std::test::*;

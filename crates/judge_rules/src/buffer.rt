@@ -4,9 +4,9 @@ ghost use Rattle.trace_model.specs.Errors.{fence_left, failed_of, failed_due};
 ghost use Rattle.judge_rules.specs.Rules.{releases, signals_next};
 
 use cam_types::{BufferId, FenceNo, FrameNo, StreamIx};
+use judge_entries::number::next_fence;
 use judge_filters::fence::{early_fence_of, is_passed, is_signalled, is_there};
 use judge_filters::frame::{has_error_request, target_of};
-use judge_entries::number::next_fence;
 use judge_filters::open::has_error_buffer;
 use judge_filters::place::{is_at_client, is_at_device_by};
 use trace_model::{Entry, Sent};

@@ -1,10 +1,11 @@
 use crate::rule::{
-    is_begin_due, is_early_due, is_partial_due, is_release_due, is_shutter_due, is_signal_due, late_due,
+    is_begin_due, is_early_due, is_partial_due, is_release_due, is_shutter_due, is_signal_due,
+    late_due,
 };
 use cam_types::{
     BufferId, Command, CommandList, FaultList, FenceNo, Format, Four, FrameNo, Item, Made,
-    NoMemory, Part, PickList, Profile, Reply, RequestId, Script, Settings, SpecList, StreamIx, StreamSpec,
-    Targets, Word,
+    NoMemory, Part, PickList, Profile, Reply, RequestId, Script, Settings, SpecList, StreamIx,
+    StreamSpec, Targets, Word,
 };
 use std::alloc::Global;
 use std::test::*;

@@ -148,7 +148,11 @@ const fn incomplete(part: MissingPart) -> Verdict {
 
 /// Whether the script has early returns, the places of the entries of the trace, and its verdict.
 const ROWS: &[(bool, &[usize], Verdict)] = &[
-    (false, &[0, 1, 2, 3, 4, 5, 6, 7, 8, 9, 10, 11, 12], Verdict::Legal),
+    (
+        false,
+        &[0, 1, 2, 3, 4, 5, 6, 7, 8, 9, 10, 11, 12],
+        Verdict::Legal,
+    ),
     (
         false,
         &[0, 1, 2, 3, 4, 5, 6, 8, 7, 9, 10, 11, 12],
@@ -166,7 +170,11 @@ const ROWS: &[(bool, &[usize], Verdict)] = &[
     ),
     (false, &[], incomplete(MissingPart::Calls)),
     (false, &[0, 0], illegal(1, RuleName::D15)),
-    (true, &[0, 1, 2, 3, 4, 5, 13, 6, 7, 8, 14, 10, 11, 12], Verdict::Legal),
+    (
+        true,
+        &[0, 1, 2, 3, 4, 5, 13, 6, 7, 8, 14, 10, 11, 12],
+        Verdict::Legal,
+    ),
     (
         true,
         &[0, 1, 2, 3, 4, 5, 13, 6, 7, 8, 10, 14, 11, 12],
@@ -179,7 +187,11 @@ const ROWS: &[(bool, &[usize], Verdict)] = &[
     ),
     (true, &[0, 1, 2, 3, 4, 5, 14], illegal(6, RuleName::D13)),
     (true, &[0, 1, 2, 3, 4, 5, 13, 13], illegal(7, RuleName::D13)),
-    (true, &[0, 1, 2, 3, 4, 5, 13, 14, 14], illegal(8, RuleName::D13)),
+    (
+        true,
+        &[0, 1, 2, 3, 4, 5, 13, 14, 14],
+        illegal(8, RuleName::D13),
+    ),
 ];
 
 /// A script of one stream, a request of so many items and a close.
@@ -248,7 +260,10 @@ fn buffers_exchanged(rt: HostRuntime) -> Result<(), Fail> {
     let mut trace = TraceList::new(rt.alloc());
     add(&mut trace, begin(Word::Configure))?;
     add(&mut trace, configured(5))?;
-    add(&mut trace, call(1, Word::Burst, Reply::Submitted(RequestId(0))))?;
+    add(
+        &mut trace,
+        call(1, Word::Burst, Reply::Submitted(RequestId(0))),
+    )?;
     add(&mut trace, sent(0))?;
     add(&mut trace, sent(1))?;
     add(&mut trace, begin(Word::Close))?;
@@ -277,7 +292,10 @@ fn a_wide_device(rt: HostRuntime) -> Result<(), Fail> {
     let mut trace = TraceList::new(rt.alloc());
     add(&mut trace, begin(Word::Configure))?;
     add(&mut trace, configured(9))?;
-    add(&mut trace, call(1, Word::Burst, Reply::Submitted(RequestId(0))))?;
+    add(
+        &mut trace,
+        call(1, Word::Burst, Reply::Submitted(RequestId(0))),
+    )?;
     for number in 0..7 {
         add(&mut trace, sent(number))?;
     }
