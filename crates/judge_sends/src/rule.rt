@@ -17,17 +17,10 @@ use judge_filters::stopping::is_stopping;
 use trace_model::{Entry, Sent};
 
 /// Whether the next item, under the next number, has this frame, request and place.
-fn is_named(
-    entries: &[Entry],
-    next: Queued,
-    frame: FrameNo,
-    request: RequestId,
-    item: u32,
-) -> bool
+fn is_named(entries: &[Entry], next: Queued, frame: FrameNo, request: RequestId, item: u32) -> bool
     ensures { result ≡ ((frame.0 == next_number (reverse entries.now)) && ((request.0 == next.request.0) && (item == next.index))) }
 {
-    frame.0 as usize == next_number(entries)
-        && (request.0 == next.request.0 && item == next.index)
+    frame.0 as usize == next_number(entries) && (request.0 == next.request.0 && item == next.index)
 }
 
 /// Whether the device takes a further frame for the streams that are asked for.

@@ -7,8 +7,8 @@ ghost use Rattle.trace_model.specs.declared.entry.Sent.{Sent as SomeSent};
 ghost use Rattle.judge_sends.specs.Asked.{are_left, asks, left_from};
 
 use cam_types::{Four, STREAM_LIMIT, Script, StreamIx, Targets};
-use trace_model::{Entry, Sent};
 use judge_pool::room::is_room_left;
+use trace_model::{Entry, Sent};
 
 /// The number past the last stream that an item can ask for.
 const STREAMS_END: u8 = STREAM_LIMIT as u8;

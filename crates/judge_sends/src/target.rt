@@ -3,6 +3,7 @@ ghost use Rattle.std.specs.Prelude.{◌≡◌, ◌==◌, ◌&&◌, reverse, opti
 ghost use Rattle.std.specs.List.{list_all, list_any};
 ghost use Rattle.cam_types.specs.Four.{four_list};
 ghost use Rattle.trace_model.specs.Configuration.{is_made, numbers_of};
+ghost use Rattle.trace_model.specs.Place.{Pool, is_at, place};
 ghost use Rattle.trace_model.specs.Printable.{is_filled};
 ghost use Rattle.trace_model.specs.Send.{takes_from_pool};
 ghost use Rattle.judge_sends.specs.Asked.{asks, left_from, fit};
@@ -11,8 +12,8 @@ use crate::stream::are_streams;
 use cam_types::{BufferId, Four, Made, Targets};
 use judge_filters::fence::{fence_of, is_same_fence};
 use judge_filters::place::is_in_pool;
-use trace_model::{Entry, Sent};
 use judge_pool::room::made_for;
+use trace_model::{Entry, Sent};
 
 /// Whether the buffer is one of those made.
 fn is_made(made: Made, buffer: BufferId) -> bool
@@ -33,12 +34,19 @@ fn is_one_of(made: Option<Made>, buffer: BufferId) -> bool
     }
 }
 
+/// Whether the buffer is in the pool.
+fn is_home(entries: &[Entry], buffer: BufferId) -> bool
+    ensures { result ≡ is_at (place buffer.0 (reverse entries.now)) Pool }
+{
+    is_in_pool(entries, u64::from(buffer.0))
+}
+
 /// Whether the target's buffer is one of its stream's, is in the pool, and comes with the fence that it has there.
 pub fn takes_from_pool(entries: &[Entry], target: Sent) -> bool
     ensures { result ≡ takes_from_pool (reverse entries.now) target }
 {
     is_one_of(made_for(entries, target.stream), target.buffer)
-        && (is_in_pool(entries, u64::from(target.buffer.0))
+        && (is_home(entries, target.buffer)
             && is_same_fence(target.fence, fence_of(entries, target.buffer)))
 }
 

@@ -1,8 +1,8 @@
 use crate::rule::is_send_due;
 use cam_types::{
     BufferId, Command, CommandList, FaultList, FenceNo, Format, Four, FrameNo, Item, ItemList,
-    Made, NoMemory, PickList, Profile, Reply, RequestId, Script, Settings, SpecList, StreamIx, StreamSpec,
-    Targets, Word,
+    Made, NoMemory, PickList, Profile, Reply, RequestId, Script, Settings, SpecList, StreamIx,
+    StreamSpec, Targets, Word,
 };
 use std::alloc::Global;
 use std::test::*;
