@@ -24,10 +24,10 @@ use Rattle.trace_model.specs.Place as in_trace
 use Rattle.trace_model.specs.Reply.{reply, reply_with}
 use Rattle.cam_types.specs.Refusals.{refused, or_else, item_refusal}
 use Rattle.trace_model.specs.Stopping.{has_failed}
-use Rattle.service_core.specs.declared.step.StepName.TheVariants.{Client as ClientStep}
+use Rattle.run_model.specs.declared.step.StepName.TheVariants.{Client as ClientStep}
 use Rattle.service_core.specs.declared.tables.Place.TheVariants.{Pool}
 use Rattle.service_core.specs.First.{entry_of}
-use Rattle.service_core.specs.Ready.{or_entry}
+use Rattle.run_model.specs.Ready.{or_entry}
 use Rattle.service_core.specs.Due.{client_of, close_of, configure_reply, is_home, is_pool, is_resting, once_reply, queue_refusal_of}
 use Rattle.service_core.specs.Fit.{Facts, Fit, raw_made, raw_spec}
 use Rattle.service_core.proofs.Frames.{quiet-yes, quiet-no}

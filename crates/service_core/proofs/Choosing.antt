@@ -13,14 +13,14 @@ use Rattle.trace_model.specs.Calls.{command_at}
 use Rattle.trace_model.specs.Configuration.{made_count}
 use Rattle.trace_model.specs.Frames.{frames, targets_of}
 use Rattle.trace_model.specs.Numbers.{next_fence}
-use Rattle.service_core.specs.declared.step.Move.{Move}
-use Rattle.service_core.specs.declared.step.StepName.{StepName}
-use Rattle.service_core.specs.declared.step.StepName.TheVariants.{Send, Release, Signal, Client, Shutter, Partial, Deliver}
+use Rattle.run_model.specs.declared.step.Move.{Move}
+use Rattle.run_model.specs.declared.step.StepName.{StepName}
+use Rattle.run_model.specs.declared.step.StepName.TheVariants.{Send, Release, Signal, Client, Shutter, Partial, Deliver}
 use Rattle.service_core.specs.Due.{client_of, first_of, is_deliverable, or_step, passed, release_step, send_of, shutter_of, signal_step, step_if}
 use Rattle.service_core.specs.First.{entry_of, first_candidates, first_chosen, first_steps, is_first_ready}
 use Rattle.service_core.specs.Fit.{Facts, Fit, below, is_client}
-use Rattle.service_core.specs.History.{trace_of}
-use Rattle.service_core.specs.Played.{for_frames, for_targets, for_numbers}
+use Rattle.run_model.specs.History.{trace_of}
+use Rattle.run_model.specs.Played.{for_frames, for_targets, for_numbers}
 use Rattle.service_core.specs.declared.tables.Place.TheVariants.{Pool}
 use Rattle.service_core.proofs.Due.{release-is, signal-is}
 use Rattle.service_core.proofs.RawLemmas.{IsRaw}

@@ -18,8 +18,8 @@ use Rattle.trace_model.specs.Send.{are_last, is_same_bool, mark_of, targets_in_o
 use Rattle.service_core.specs.declared.tables.Place.{Place}
 use Rattle.service_core.specs.declared.tables.Place.TheVariants.{Pool, Device, Client}
 use Rattle.service_core.specs.First.{entry_of}
-use Rattle.service_core.specs.Ready.{where_entry}
-use Rattle.service_core.specs.declared.step.StepName.TheVariants.{Send as SendStep}
+use Rattle.run_model.specs.Ready.{where_entry}
+use Rattle.run_model.specs.declared.step.StepName.TheVariants.{Send as SendStep}
 use Rattle.service_core.specs.Fit.{Facts, Fit, as_place, item_for, settings_for, one_target, settings_before}
 use Rattle.service_core.proofs.Due.{stands}
 use Rattle.service_core.proofs.Frames.{quiet-yes, quiet-no, none-open}

@@ -33,12 +33,12 @@ use Rattle.cam_types.specs.declared.reply.Reply.TheVariants.{Ok, Submitted, Conf
 use Rattle.cam_types.specs.declared.script.Command.{Command}
 use Rattle.cam_types.specs.declared.script.Command.TheVariants.{Configure, Once, Close}
 use Rattle.cam_types.specs.declared.script.Word.TheVariants.{Configure as WordConfigure, Close as WordClose}
-use Rattle.service_core.specs.declared.step.StepName.{StepName}
-use Rattle.service_core.specs.declared.step.StepName.TheVariants.{Send, Release, Signal, Client, Shutter, Partial, Deliver}
+use Rattle.run_model.specs.declared.step.StepName.{StepName}
+use Rattle.run_model.specs.declared.step.StepName.TheVariants.{Send, Release, Signal, Client, Shutter, Partial, Deliver}
 use Rattle.service_core.specs.declared.tables.Place.{Place}
 use Rattle.service_core.specs.declared.tables.Place.TheVariants.{Pool, Device, Client as AtClient}
 use Rattle.service_core.specs.First.{entry_of}
-use Rattle.service_core.specs.Ready.{or_entry}
+use Rattle.run_model.specs.Ready.{or_entry}
 use Rattle.service_core.specs.Fit.{Facts, Fit, IsSmall, is_client, settings_for, noted, raw_made, raw_spec, settings_before}
 use Rattle.service_core.specs.Due.{client_of, close_reply, configure_reply, is_home, is_pool, once_reply, passed}
 use Rattle.service_core.proofs.Answering.{client-is, is-first}

@@ -9,7 +9,7 @@ use Rattle.trace_model.specs.declared.entry.Entry.{Entry}
 use Rattle.trace_model.specs.Filled.{filled_due}
 use Rattle.trace_model.specs.Partial.{partial_due}
 use Rattle.trace_model.specs.Shutter.{shutter_due}
-use Rattle.service_core.specs.declared.step.StepName.TheVariants.{Send as SendStep}
+use Rattle.run_model.specs.declared.step.StepName.TheVariants.{Send as SendStep}
 use Rattle.service_core.specs.First.{entry_of}
 use Rattle.cam_types.specs.Metadata.{range_fault}
 use Rattle.service_core.specs.Fit.{Facts, Fit, settings_for}
