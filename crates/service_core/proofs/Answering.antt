@@ -93,7 +93,7 @@ module _ (script : Script) (past : List Entry) (t : Facts) (raw : IsRaw script) 
   configures : t.configured ≡ false → t.closed ≡ false → reply script past (Configure (raw_spec ∷ [])) ≡ Configured (record { a = Some raw_made; b = None; c = None; d = None })
   configures none open' =
       let count : made_count past ≡ 0 = fit.made_count ∙ rw none refl in
-      rw (fit.closed, open', not-failed, count) refl
+      rw (fit.closed, open', not-failed, count, raw.buffers) refl
 
   idle-at-first : t.configured ≡ false → (is_idle script past && all_in_pool past) ≡ true
   idle-at-first none =
