@@ -1,6 +1,6 @@
 use Rattle.std.specs.Prelude.{◌≡◌, List, ◌∷◌, Option, Some, None}
 use Rattle.cam_types.specs.declared.script.Script.{Script}
-use Rattle.service_core.specs.declared.step.Move.{Move}
+use Rattle.run_model.specs.declared.step.Move.{Move}
 use Rattle.service_core.specs.declared.step.Step.{Step}
 use Rattle.service_core.specs.declared.step.Step.TheVariants.{Did, NotReady, NoMemory}
 

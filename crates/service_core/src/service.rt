@@ -5,17 +5,18 @@ ghost use Rattle.trace_model.specs.Legal.{IsLegal};
 ghost use Rattle.trace_model.specs.Printable.{is_printable};
 ghost use Rattle.service_core.specs.Answers.{Answers};
 ghost use Rattle.service_core.specs.First.{IsFirstRun, entry_of, first_chosen, first_move_of};
-ghost use Rattle.service_core.specs.History.{trace_of};
+ghost use Rattle.run_model.specs.History.{trace_of};
 ghost use Rattle.service_core.specs.RawScripts.{is_raw_script};
 
 use crate::history::History;
-use crate::step::{Step, StepName};
+use crate::step::Step;
 use crate::tables::Tables;
 use cam_types::{
     BufferId, FenceNo, Format, FrameNo, NoMemory, SENSOR_HEIGHT, SENSOR_WIDTH, Script, StreamIx,
     StreamSpec,
 };
 use picture_digest::Canvas;
+use run_model::StepName;
 use std::alloc::{AllocError, Global};
 use std::marker::Model;
 use trace_bounds::every_script_is_typed;
@@ -44,7 +45,7 @@ impl Model for Service {
     ghost use Rattle.service_core.specs.Answers.{State};
     ghost use Rattle.service_core.specs.Fit.{Fit, facts_of};
     ghost use Rattle.service_core.specs.First.{IsFirstRun};
-    ghost use Rattle.service_core.specs.History.{trace_of};
+    ghost use Rattle.run_model.specs.History.{trace_of};
     ghost use Rattle.service_core.specs.RawScripts.{is_raw_script};
     ghost use Rattle.std.specs.List.{list_all};
     ghost use Rattle.trace_model.specs.Legal.{IsLegal};
@@ -245,6 +246,8 @@ impl Service {
             StepName::SensorDone(_) => Step::NotReady,
             StepName::TakeFill(_, _) => Step::NotReady,
             StepName::FillDone(_, _) => Step::NotReady,
+            StepName::Early(_, _) => Step::NotReady,
+            StepName::Finish(_, _) => Step::NotReady,
         }
     }
 }
