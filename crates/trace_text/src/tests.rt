@@ -50,7 +50,7 @@ fn refused(code: u8, first: Option<u32>, second: Option<u32>) -> Reply
 
 #[test]
 fn commands_have_their_lines(rt: HostRuntime) -> Result<(), Fail> {
-    let mut printer = Printer::new(rt.alloc())?;
+    let mut printer = Printer::new(rt.alloc(), None)?;
     let word = Word::Flush;
     prints(&rt, &mut printer, Entry::Begin { word }, "begin flush\n");
     let ok = Reply::Ok;
@@ -97,7 +97,7 @@ fn commands_have_their_lines(rt: HostRuntime) -> Result<(), Fail> {
 
 #[test]
 fn frames_have_their_lines(rt: HostRuntime) -> Result<(), Fail> {
-    let mut printer = Printer::new(rt.alloc())?;
+    let mut printer = Printer::new(rt.alloc(), None)?;
     let (frame, stream, buffer) = (FrameNo(0), StreamIx(0), BufferId(0));
     let fence = None;
     let digest = DIGEST;
@@ -175,7 +175,7 @@ fn frames_have_their_lines(rt: HostRuntime) -> Result<(), Fail> {
 
 #[test]
 fn the_greatest_numbers_fit(rt: HostRuntime) -> Result<(), Fail> {
-    let mut printer = Printer::new(rt.alloc())?;
+    let mut printer = Printer::new(rt.alloc(), None)?;
     let frame = LAST;
     let request = RequestId(u32::MAX);
     let item = u32::MAX;
