@@ -1,7 +1,7 @@
 //! Words of a line.
 
 ghost use Rattle.std.specs.Prelude.{◌≡◌, ◌≤◌, ◌+◌, ◌++◌, length};
-ghost use Rattle.trace_text.specs.Spelling.{word_text, buffer_text, fence_number, fence_text, request_text, item_text};
+ghost use Rattle.trace_text.specs.Spelling.{word_text, buffer_text, fence_number, device_fence, fence_text, request_text, item_text};
 
 use crate::room::{ROOM, Room};
 use cam_types::{BufferId, FenceNo, RequestId, Word};
@@ -51,6 +51,16 @@ pub fn put_fence_number(room: &mut Room, fence: FenceNo)
     ensures len { length room.new ≤ length room.old + 11 }
 {
     room.put(b"f");
+    room.put_small(fence.0);
+}
+
+/// Writes a fence that the device signals.
+pub fn put_device_fence(room: &mut Room, fence: FenceNo)
+    requires { length room.old + 11 ≤ ROOM }
+    ensures text { room.new ≡ room.old ++ device_fence fence.0 }
+    ensures len { length room.new ≤ length room.old + 11 }
+{
+    room.put(b"d");
     room.put_small(fence.0);
 }
 
