@@ -1,10 +1,8 @@
 -- The trace of a run is legal: the entry that a step adds is the one that is due.
-use Rattle.std.proofs.Common.{◌≡◌, ℕ, suc, ◌==◌, ◌+◌, ◌≤◌, Bool, true, false, ◌&&◌, ◌||◌, not, List, [], ◌∷◌, Option, Some, None, refl, sym, ap, ◌∙◌, arith, inl, inr, find, length, take, if◌then◌else◌}
-use Rattle.std.specs.List.{list_all, list_any}
-use Rattle.std.proofs.lemmas.Bool.{and_from, and_parts, cases_Bool, eq-eqb, false≢true}
+use Rattle.std.proofs.Common.{◌≡◌, ℕ, ◌==◌, ◌+◌, Bool, true, false, ◌&&◌, ◌||◌, not, List, [], ◌∷◌, Option, Some, None, refl, sym, ap, ◌∙◌, arith, inl, inr, find, if◌then◌else◌}
+use Rattle.std.specs.List.{list_any}
+use Rattle.std.proofs.lemmas.Bool.{and_parts, cases_Bool, false≢true}
 use Rattle.std.proofs.lemmas.Bool.Decides.{nat_tests}
-use Rattle.cam_types.specs.Four.{four_list, four_of}
-use Rattle.cam_types.specs.declared.number.FenceNo.{FenceNo}
 use Rattle.cam_types.specs.declared.part.Part.{Part}
 use Rattle.cam_types.specs.declared.script.Command.{Command}
 use Rattle.cam_types.specs.declared.script.Script.{Script}
@@ -14,12 +12,11 @@ use Rattle.trace_model.specs.declared.entry.Sent.{Sent}
 use Rattle.trace_model.specs.Allowed.{IsAllowed}
 use Rattle.trace_model.specs.Calls.{is_waiting_command, next_command, word_of}
 use Rattle.trace_model.specs.Client.{begin_due, begin_of, call_due, call_of, may_answer}
-use Rattle.trace_model.specs.Configuration.{buffers_of}
 use Rattle.trace_model.specs.Drop.{drop_due, drop_of}
 use Rattle.trace_model.specs.Entry.{is_early_with}
 use Rattle.trace_model.specs.Errors.{error_request_due, error_result_due, failed_due, failed_of, fence_left, may_fail_buffer, may_fail_device_at, may_fail_request, may_fail_result}
 use Rattle.trace_model.specs.Faults.{device_fault}
-use Rattle.trace_model.specs.Fence.{fence_of, is_late, is_same_fence}
+use Rattle.trace_model.specs.Fence.{is_late}
 use Rattle.trace_model.specs.Filled.{early_due, early_of, filled_due, filled_of, late_due, late_of, may_deliver}
 use Rattle.trace_model.specs.Frames.{each_earlier, frames, has_error, has_error_request, has_shutter, is_sent, settings_of, target_of}
 use Rattle.trace_model.specs.Legal.{IsLegal}
@@ -28,14 +25,11 @@ use Rattle.trace_model.specs.Open.{early_fences, has_error_buffer}
 use Rattle.trace_model.specs.Partial.{may_part, part_count, part_of, partial_due}
 use Rattle.cam_types.specs.Metadata.{part_at}
 use Rattle.trace_model.specs.Picture.{digest_of}
-use Rattle.trace_model.specs.Place.{Pool, is_at, is_at_device_by, place}
-use Rattle.trace_model.specs.Printable.{is_filled}
-use Rattle.trace_model.specs.Queue.{first_in, next, queued}
-use Rattle.cam_types.specs.declared.request.Queued.{Queued}
+use Rattle.trace_model.specs.Place.{is_at_device_by}
+use Rattle.trace_model.specs.Queue.{first_in, queued}
 use Rattle.cam_types.specs.declared.request.WaitingItem.{WaitingItem}
 use Rattle.trace_model.specs.Release.{release_due, signal_due}
 use Rattle.trace_model.specs.Reply.{reply}
-use Rattle.trace_model.specs.Send.{are_streams, fits_next, is_same_bool, least_in_pool, least_target, least_targets, mark_of, may_go, send_due, send_next, send_with, takes_from_pool, target_with, targets_in_order, with_target}
 use Rattle.trace_model.specs.Shutter.{is_next_for_sensor, may_expose, next_time, shutter_at, shutter_due}
 use Rattle.trace_model.specs.Stopping.{is_stopping}
 use Rattle.run_model.specs.declared.step.Move.{Move}
@@ -45,9 +39,8 @@ use Rattle.run_model.specs.History.{trace_of, with_entry}
 use Rattle.run_model.specs.Jobs.{is_fill_out, is_filled_in, is_sensor_out}
 use Rattle.run_model.specs.Ready.{adding, error_due, failure_at, finish_due, first_buffer_error, late_with, least_buffer_error, may_take_fill, move_of, or_entry, silent, where_entry}
 use Rattle.run_model.specs.Run.{IsRun}
-use Rattle.trace_bounds.proofs.Shapes.{found-passes}
+use Rattle.send_laws.proofs.Due.{send-allowed}
 use Rattle.basic_lemmas.proofs.Lists.{any-behind}
-use Rattle.basic_lemmas.proofs.Counts.{filter-short}
 
 -- what holds of the entry of a test that passes holds of what is given
 pub by_test : (P : Entry → Type 0) (b : Bool) (x e : Entry) → (if b then Some x else None) ≡ Some e → (b ≡ true → P x) → P e
@@ -198,100 +191,6 @@ error_allowed script past n e h =
     either (IsAllowed script past) (failure_at script past n) (or_entry request (or_entry result last)) e h (failure_allowed script past n e)
     (λ h. either (IsAllowed script past) request (or_entry result last) e h (request_allowed script past n e)
     (λ h. either (IsAllowed script past) result last e h (result_allowed script past n e) (buffer_allowed script past n _ e)))
-
--- ---- sends
-
-same_fence : (o : Option FenceNo) → is_same_fence o o ≡ true
-same_fence None = refl
-same_fence (Some f) = eq-eqb f.0 f.0 refl
-
-same_bool : (b : Bool) → is_same_bool b b ≡ true
-same_bool true = refl
-same_bool false = refl
-
-found_in : (p : ℕ → Bool) (xs : List ℕ) (x : ℕ) → find p xs ≡ Some x → list_any (λ y. y == x) xs ≡ true
-found_in p [] x h = absurd (cc)
-found_in p (y ∷ xs) x h =
-    elim (cases_Bool (p y)) [
-      | inl here ↦ (let h' = rw here at h in let same : y ≡ x = cc in rw (same, eq-eqb x x refl) refl)
-      | inr over ↦ (let h' = rw over at h in any-behind (λ z. z == x) y xs (found_in p xs x h'))
-    ]
-
-of_same : {X : Type 0} (P : X → Type 0) (u t : X) → u ≡ t → P u → P t
-of_same P u t same p = rw same at p
-
-target_of_pool : (past : List Entry) (s : ℕ) (o : Option ℕ) (t : Sent) → least_in_pool past s ≡ o → target_with past s o ≡ Some t → (t.stream.0 ≡ s) × (takes_from_pool past t ≡ true)
-target_of_pool past s None t at h = absurd (cc)
-target_of_pool past s (Some b) t at h =
-    let same : record { stream = record { 0 = s }; buffer = record { 0 = b }; fence = fence_of b past } ≡ t = cc in
-    let passes = found-passes (λ c. is_at (place c past) Pool) (buffers_of past s) b at in
-    let among = found_in (λ c. is_at (place c past) Pool) (buffers_of past s) b at in
-    let u : Sent = record { stream = record { 0 = s }; buffer = record { 0 = b }; fence = fence_of b past } in
-    let takes : takes_from_pool past u ≡ true = rw (among, passes, same_fence (fence_of b past)) refl in
-    (ap (λ (z : Sent). z.stream.0) (sym same), of_same (λ v. takes_from_pool past v ≡ true) u t same takes)
-
-abbrev pub AreTargets : List Entry → List ℕ → List Sent → Type 0
-AreTargets past streams ts = (are_streams ts streams ≡ true) × (list_all (takes_from_pool past) ts ≡ true) × (length ts ≡ length streams)
-
-with_more : (past : List Entry) (s : ℕ) (streams : List ℕ) (o : Option Sent) (rest : Option (List Sent)) (ts : List Sent) → least_target past s ≡ o → ((us : List Sent) → rest ≡ Some us → AreTargets past streams us) → with_target o rest ≡ Some ts → AreTargets past (s ∷ streams) ts
-with_more past s streams None rest ts at ih h = absurd (cc)
-with_more past s streams (Some t) None ts at ih h = absurd (cc)
-with_more past s streams (Some t) (Some us) ts at ih h =
-    let all = ih us refl in
-    let own = target_of_pool past s (least_in_pool past s) t refl at in
-    let same : t ∷ us ≡ ts = cc in
-    let it : AreTargets past (s ∷ streams) (t ∷ us) = (
-      and_from (t.stream.0 == s) (are_streams us streams) (eq-eqb t.stream.0 s own.0) all.0,
-      and_from (takes_from_pool past t) (list_all (takes_from_pool past) us) own.1 all.1,
-      ap suc all.2,
-    ) in
-    of_same (AreTargets past (s ∷ streams)) (t ∷ us) ts same it
-
-least_are : (past : List Entry) (streams : List ℕ) (ts : List Sent) → least_targets past streams ≡ Some ts → AreTargets past streams ts
-least_are past [] ts h = let same : [] ≡ ts = cc in rw (← same) (refl, refl, refl)
-least_are past (s ∷ streams) ts h = with_more past s streams (least_target past s) (least_targets past streams) ts refl (λ us k. least_are past streams us k) h
-
-four_list_of : {T : Type 0} (xs : List T) → length xs ≤ 4 → four_list (four_of xs) ≡ xs
-four_list_of [] few = refl
-four_list_of (a ∷ []) few = refl
-four_list_of (a ∷ (b ∷ [])) few = refl
-four_list_of (a ∷ (b ∷ (c ∷ []))) few = refl
-four_list_of (a ∷ (b ∷ (c ∷ (d ∷ [])))) few = refl
-four_list_of (a ∷ (b ∷ (c ∷ (d ∷ (e ∷ xs))))) few = absurd (omega (arith, few))
-
-four_filled : {T : Type 0} (xs : List T) → is_filled (four_of xs) ≡ true
-four_filled [] = refl
-four_filled (a ∷ []) = refl
-four_filled (a ∷ (b ∷ [])) = refl
-four_filled (a ∷ (b ∷ (c ∷ []))) = refl
-four_filled (a ∷ (b ∷ (c ∷ (d ∷ xs)))) = refl
-
-send_fits : (script : Script) (past : List Entry) (w : Queued) (ts : List Sent) → may_go script past w ≡ true → AreTargets past (targets_in_order w.item) ts → fits_next script past (Some w) (next_number past) w.request.0 w.index (mark_of script past w.item.settings) (four_of ts) ≡ true
-send_fits script past w ts may are =
-    let short = filter-short (λ s. list_any (λ t. t == s) (take w.item.targets.count w.item.targets.list)) (0 ∷ (1 ∷ (2 ∷ (3 ∷ [])))) in
-    let long = are.2 in
-    let few : length ts ≤ 4 = omega (arith, long, short) in
-    let list = four_list_of ts few in
-    rw (list, eq-eqb (next_number past) (next_number past) refl, eq-eqb w.request.0 w.request.0 refl, eq-eqb w.index w.index refl, may, are.0, are.1, four_filled ts, same_bool (mark_of script past w.item.settings)) refl
-
-sends_with_targets : (script : Script) (past : List Entry) (w : Queued) (o : Option (List Sent)) (e : Entry) → next script past ≡ Some w → may_go script past w ≡ true → least_targets past (targets_in_order w.item) ≡ o → send_with script past w o ≡ Some e → IsAllowed script past e
-sends_with_targets script past w None e at may found h = absurd (cc)
-sends_with_targets script past w (Some ts) e at may found h =
-    let same : SendEntry (record { 0 = next_number past }) (w.request) w.index (mark_of script past w.item.settings) (four_of ts) ≡ e = cc in
-    let fits = send_fits script past w ts may (least_are past (targets_in_order w.item) ts found) in
-    let it : IsAllowed script past (SendEntry (record { 0 = next_number past }) (w.request) w.index (mark_of script past w.item.settings) (four_of ts)) = rw at fits in
-    of_same (IsAllowed script past) (SendEntry (record { 0 = next_number past }) (w.request) w.index (mark_of script past w.item.settings) (four_of ts)) e same it
-
-send_of_next : (script : Script) (past : List Entry) (o : Option Queued) (e : Entry) → next script past ≡ o → send_next script past o ≡ Some e → IsAllowed script past e
-send_of_next script past None e at h = absurd (cc)
-send_of_next script past (Some w) e at h =
-    elim (cases_Bool (may_go script past w)) [
-      | inl may ↦ (let h' = rw may at h in sends_with_targets script past w (least_targets past (targets_in_order w.item)) e at may refl h')
-      | inr no' ↦ (let h' = rw no' at h in absurd (cc))
-    ]
-
-pub send-allowed : (script : Script) (past : List Entry) (e : Entry) → send_due script past ≡ Some e → IsAllowed script past e
-send-allowed script past e h = send_of_next script past (next script past) e refl h
 
 -- ---- moves
 

@@ -1,11 +1,13 @@
 use Rattle.std.specs.Prelude.{◌≡◌, ℕ, Bool, true, false, ◌&&◌, ◌≤◌, if◌then◌else◌, List, [], ◌∷◌, ◌++◌, min, Option, Some, None, option_to_list, All, Contains}
 use Rattle.std.specs.Option.{option_map}
 use Rattle.cam_types.specs.declared.four.Four.{Four}
+use Rattle.cam_types.specs.declared.number.FrameNo.{FrameNo}
+use Rattle.cam_types.specs.declared.row.RowView.{RowView}
 use Rattle.cam_types.specs.declared.row.TargetView.{TargetView}
 use Rattle.cam_types.specs.declared.row.RowVerdict.{RowVerdict}
 use Rattle.cam_types.specs.declared.row.RowVerdict.TheVariants.{Request, Parts, Nothing}
 use Rattle.error_notify.specs.declared.entry.ErrorEntry.{ErrorEntry}
-use Rattle.error_notify.specs.declared.entry.ErrorEntry.TheVariants.{Request as WholeRequest, Result as LostMetadata, Buffer as LostBuffer}
+use Rattle.error_notify.specs.declared.entry.ErrorEntry.TheVariants.{Request as WholeRequest, Result as LostMetadata, Buffer as LostBuffer, Device}
 
 -- Which error of a frame is told next (camera3.h, S6 and flush, points 2 and 3). The header asks that a capture that
 -- failed whole has no other error, and that each missing buffer has one of its own. That the metadata comes before the
@@ -39,16 +41,24 @@ pub record IsLeast (s : ℕ) (streams : List ℕ) : Type 0 where
   pub one_of : Contains streams s
   pub none_below : All (λ t. s ≤ t) streams
 
-abbrev pub lost_buffer : ℕ → ErrorEntry
-lost_buffer s = LostBuffer (record { 0 = s })
+abbrev pub lost_buffer : FrameNo → ℕ → ErrorEntry
+lost_buffer frame s = LostBuffer frame (record { 0 = s })
 
--- the next error: that of the whole request alone; else that of the metadata, if its turn has come; else that of the
--- least stream
-abbrev pub next_due : Four TargetView → RowVerdict → Bool → Option ErrorEntry
-next_due targets Request may_end = Some WholeRequest
-next_due targets (Parts metadata buffers) may_end =
-    if metadata && may_end then Some LostMetadata else option_map lost_buffer (least (missing_streams buffers targets))
-next_due targets Nothing may_end = None
+-- the next error of the row's frame: that of the whole request alone; else that of the metadata, if its turn has come;
+-- else that of the least stream
+abbrev pub next_due : RowView → RowVerdict → Bool → Option ErrorEntry
+next_due row Request may_end = Some (WholeRequest row.frame)
+next_due row (Parts metadata buffers) may_end =
+    if metadata && may_end then Some (LostMetadata row.frame)
+    else option_map (lost_buffer row.frame) (least (missing_streams buffers row.targets))
+next_due row Nothing may_end = None
+
+-- the frame that an error is of
+abbrev pub error_frame : ErrorEntry → Option FrameNo
+error_frame (WholeRequest frame) = Some frame
+error_frame (LostMetadata frame) = Some frame
+error_frame (LostBuffer frame stream) = Some frame
+error_frame Device = None
 
 -- none of the errors that the verdict names may be told: that of the metadata waits for its turn, and no buffer is named
 abbrev pub IsNothingDue : Four TargetView → RowVerdict → Bool → Type 0

@@ -1,12 +1,14 @@
-use cam_types::StreamIx;
+use cam_types::{FrameNo, StreamIx};
 
-/// An error message of a frame.
+/// An error message (camera3.h, camera3_error_msg).
 #[derive(Clone, Copy, Debug, PartialEq, Eq)]
 pub enum ErrorEntry {
-    /// ERROR_REQUEST: the capture failed whole.
-    Request,
-    /// ERROR_RESULT: the metadata that didn't come won't come.
-    Result,
-    /// ERROR_BUFFER: the buffer of this stream won't be filled.
-    Buffer(StreamIx),
+    /// ERROR_REQUEST: the capture of the frame failed whole.
+    Request(FrameNo),
+    /// ERROR_RESULT: the metadata of the frame that didn't come won't come.
+    Result(FrameNo),
+    /// ERROR_BUFFER: the buffer of the frame for the stream won't be filled.
+    Buffer(FrameNo, StreamIx),
+    /// ERROR_DEVICE: the device failed. It is of no frame.
+    Device,
 }

@@ -1,8 +1,8 @@
 //! Every verdict over one and two targets, in either order of their streams, on every row.
 use super::*;
 use cam_types::{
-    BufferId, Four, FrameNo, RequestId, RowView, SensorPlace, Settings, StreamIx, TargetState,
-    TargetView, Verdict,
+    BufferId, Four, FrameNo, RequestId, RowVerdict, RowView, SensorPlace, Settings, StreamIx,
+    TargetState, TargetView,
 };
 use std::process::Abort;
 
@@ -61,7 +61,7 @@ fn lower(first: Option<u8>, second: Option<u8>) -> Option<ErrorEntry> {
         (Some(first), _) => first,
         (None, second) => second?,
     };
-    Some(ErrorEntry::Buffer(StreamIx(below)))
+    Some(ErrorEntry::Buffer(FrameNo(7), StreamIx(below)))
 }
 
 /// Each bit of `named` is the metadata or one of the two buffers.
@@ -71,19 +71,19 @@ fn names_parts(rt: &impl Abort, number: u32, named: u32, may_end: bool, streams:
     let first = if a { Some(streams.0) } else { None };
     let second = if b { Some(streams.1) } else { None };
     let ends = if metadata && may_end {
-        Some(ErrorEntry::Result)
+        Some(ErrorEntry::Result(FrameNo(7)))
     } else {
         None
     };
 
-    let one = Verdict::Parts {
+    let one = RowVerdict::Parts {
         result: metadata,
         buffers: pair(a, None),
     };
     let next = next_error(row(number, streams.0, None), one, may_end);
     assert_eq!(rt; next, ends.or(lower(first, None)));
 
-    let two = Verdict::Parts {
+    let two = RowVerdict::Parts {
         result: metadata,
         buffers: pair(a, Some(b)),
     };
@@ -98,10 +98,10 @@ fn each_verdict_on_each_row(rt: HostRuntime) {
             for may_end in [false, true] {
                 let whole = row(number, streams.0, Some(streams.1));
                 assert_eq!(rt;
-                    next_error(whole, Verdict::Request, may_end),
-                    Some(ErrorEntry::Request)
+                    next_error(whole, RowVerdict::Request, may_end),
+                    Some(ErrorEntry::Request(FrameNo(7)))
                 );
-                assert_eq!(rt; next_error(whole, Verdict::Nothing, may_end), None);
+                assert_eq!(rt; next_error(whole, RowVerdict::Nothing, may_end), None);
                 for named in 0..8u32 {
                     names_parts(&rt, number, named, may_end, *streams);
                 }

@@ -1,4 +1,5 @@
-use Rattle.std.proofs.Common.{◌≡◌, Bool, true, false, ◌&&◌, ◌||◌, not, cond, nat_lt, Option, Some, None, is_some, IsTrue, IsSome, refl, arith, inl, inr}
+use Rattle.std.proofs.Common.{◌≡◌, Bool, true, false, ◌&&◌, ◌||◌, not, cond, Option, Some, None, is_some, IsTrue, IsSome, refl, arith, inl, inr}
+use Rattle.basic_lemmas.proofs.Tests.{and-false}
 use Rattle.std.proofs.lemmas.Bool.{cases_Bool}
 use Rattle.cam_types.specs.declared.four.Four.{Four}
 use Rattle.cam_types.specs.declared.row.RowFaults.{RowFaults}
@@ -6,6 +7,7 @@ use Rattle.cam_types.specs.declared.row.RowView.{RowView}
 use Rattle.cam_types.specs.declared.row.TargetView.{TargetView}
 use Rattle.cam_types.specs.declared.row.RowVerdict.{RowVerdict}
 use Rattle.cam_types.specs.declared.row.RowVerdict.TheVariants.{Request, Parts, Nothing}
+use Rattle.cam_types.specs.Rows.{awaits_metadata}
 use Rattle.flush_path.specs.Due.{fails_in_part, fails_whole, has_fault, is_all_said, is_awaited, is_awaited_at, is_bare, is_cut_short, is_some_true, is_true_at, misses_at, misses_metadata, missing_buffers, verdict_of}
 
 -- where a stop cuts the frame short, each buffer that the client waits for is missing
@@ -22,13 +24,9 @@ kept-at (Some f) None h = refl
 kept-at None (Some t) h = elim (is_awaited t) as (λ w. (w && false) ≡ false) [ true ↦ refl | false ↦ refl ]
 kept-at (Some f) (Some t) h = rw h (elim (is_awaited t) as (λ w. (w && false) ≡ false) [ true ↦ refl | false ↦ refl ])
 
-no-part : (b : Bool) → (b && false) ≡ false
-no-part true = refl
-no-part false = refl
-
 -- nothing is due where nothing is missing
 nothing-due : (whole part metadata buffers : Bool) (parts : RowVerdict) → whole ≡ false → metadata ≡ false → buffers ≡ false → cond whole Request (cond (part && (metadata || buffers)) parts Nothing) ≡ Nothing
-nothing-due whole part metadata buffers parts w m b = rw (w, m, b, no-part part) refl
+nothing-due whole part metadata buffers parts w m b = rw (w, m, b, and-false part) refl
 
 -- and the other way round
 due-none : (whole part missing : Bool) (m : Bool) (bs : Four Bool) → cond whole Request (cond (part && missing) (Parts m bs) Nothing) ≡ Nothing → (whole ≡ false) × ((part && missing) ≡ false)
@@ -59,8 +57,8 @@ pub no_cause : (row : RowView) (faults : RowFaults) → row.stopped ≡ false �
 no_cause row faults going faultless =
     let fs = no_cause-three faults.request faults.result (is_some_true faults.buffers) faultless in
     let cut : is_cut_short row ≡ false = rw going refl in
-    let whole : fails_whole row faults ≡ false = rw (going, fs.0) (no-part (is_bare row)) in
-    let metadata : misses_metadata row faults ≡ false = rw (fs.1, cut) (no-part (not row.result_error && nat_lt row.parts 3)) in
+    let whole : fails_whole row faults ≡ false = rw (going, fs.0) (and-false (is_bare row)) in
+    let metadata : misses_metadata row faults ≡ false = rw (fs.1, cut) (and-false (awaits_metadata row)) in
     nothing-due (fails_whole row faults) (fails_in_part row faults) (misses_metadata row faults) (is_some_true (missing_buffers row faults)) (Parts (misses_metadata row faults) (missing_buffers row faults)) whole metadata (kept-all row faults cut fs.2)
 
 -- what a frame cut short misses
@@ -72,14 +70,14 @@ missed-all row faults cut =
     let d = missed-at faults.buffers.d row.targets.d in
     rw (cut, a, b, c, d) refl
 
-all_said-cases : (failed exposed fault result lt fault_result awaited : Bool) → exposed ≡ true → ((exposed && not failed) && (not fault || true)) && (((not result && lt) && (fault_result || true)) || awaited) ≡ false → IsTrue (failed || ((result || not lt) && not awaited))
-all_said-cases failed exposed fault result lt fault_result awaited e h = grind arith
+all_said-cases : (failed exposed fault waits fault_result awaited : Bool) → exposed ≡ true → ((exposed && not failed) && (not fault || true)) && ((waits && (fault_result || true)) || awaited) ≡ false → IsTrue (failed || (not waits && not awaited))
+all_said-cases failed exposed fault waits fault_result awaited e h = grind arith
 
 all_said-cut : (row : RowView) (faults : RowFaults) → row.stopped ≡ true → is_some row.shutter ≡ true → is_cut_short row ≡ true → (fails_in_part row faults && (misses_metadata row faults || is_some_true (missing_buffers row faults))) ≡ false → IsTrue (is_all_said row)
 all_said-cut row faults stopped shutter cut none =
     let missed = missed-all row faults cut in
     let none' = rw (missed, cut, stopped) at none in
-    all_said-cases row.request_error (is_some row.shutter) faults.request row.result_error (nat_lt row.parts 3) faults.result (is_awaited_at row.targets.a || (is_awaited_at row.targets.b || (is_awaited_at row.targets.c || is_awaited_at row.targets.d))) shutter none'
+    all_said-cases row.request_error (is_some row.shutter) faults.request (awaits_metadata row) faults.result (is_awaited_at row.targets.a || (is_awaited_at row.targets.b || (is_awaited_at row.targets.c || is_awaited_at row.targets.d))) shutter none'
 
 pub all_said : (row : RowView) (faults : RowFaults) → row.stopped ≡ true → IsSome row.shutter → verdict_of row faults ≡ Nothing → IsTrue (is_all_said row)
 all_said row faults stopped shutter none =

@@ -1,10 +1,9 @@
-use Rattle.std.specs.Prelude.{Bool, true, false, ◌&&◌, ◌||◌, ◌==◌, not, nat_lt, Option, Some, None, is_some, if◌then◌else◌}
+use Rattle.std.specs.Prelude.{Bool, true, false, ◌&&◌, ◌||◌, ◌==◌, not, Option, Some, None, is_some, if◌then◌else◌}
 use Rattle.cam_types.specs.declared.four.Four.{Four}
 use Rattle.cam_types.specs.declared.row.RowFaults.{RowFaults}
 use Rattle.cam_types.specs.declared.row.RowView.{RowView}
-use Rattle.cam_types.specs.declared.row.TargetState.{TargetState}
-use Rattle.cam_types.specs.declared.row.TargetState.TheVariants.{ReturnedEarly, EarlyFilled, ReturnedOk, ReturnedFailed}
 use Rattle.cam_types.specs.declared.row.TargetView.{TargetView}
+use Rattle.cam_types.specs.Rows.{awaits_metadata, is_returned}
 use Rattle.cam_types.specs.declared.row.RowVerdict.{RowVerdict}
 use Rattle.cam_types.specs.declared.row.RowVerdict.TheVariants.{Request, Parts, Nothing}
 
@@ -13,14 +12,6 @@ use Rattle.cam_types.specs.declared.row.RowVerdict.TheVariants.{Request, Parts, 
 -- come and ERROR_BUFFER each buffer that won't be filled. A fault of the frame is the cause, or a stop: a flush, a
 -- disconnect or a device failure that began after the frame was sent. That a stop takes all that hasn't come yet is our
 -- own choice: the header lets a device finish what it can.
-
--- the buffer came back, filled, failed or early
-abbrev pub is_returned : TargetState → Bool
-is_returned ReturnedEarly = true
-is_returned EarlyFilled = true
-is_returned ReturnedOk = true
-is_returned ReturnedFailed = true
-is_returned _ = false
 
 -- the client still waits for word of the buffer: it isn't back, and its error isn't announced
 abbrev pub is_awaited : TargetView → Bool
@@ -55,7 +46,7 @@ is_cut_short row = row.stopped && not (is_bare row)
 
 -- metadata is missing, and won't come
 abbrev pub misses_metadata : RowView → RowFaults → Bool
-misses_metadata row faults = (not row.result_error && nat_lt row.parts 3) && (faults.result || is_cut_short row)
+misses_metadata row faults = awaits_metadata row && (faults.result || is_cut_short row)
 
 -- the buffer of a target is missing, and won't be filled; where no fault is given for the target it has none
 abbrev pub misses_buffer : Bool → Option Bool → TargetView → Bool
@@ -99,5 +90,5 @@ has_fault faults = faults.request || (faults.result || is_some_true faults.buffe
 abbrev pub is_all_said : RowView → Bool
 is_all_said row =
     row.request_error
-    || ((row.result_error || not (nat_lt row.parts 3))
+    || (not (awaits_metadata row)
     && not (is_awaited_at row.targets.a || (is_awaited_at row.targets.b || (is_awaited_at row.targets.c || is_awaited_at row.targets.d))))

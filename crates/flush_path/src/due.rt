@@ -1,44 +1,32 @@
 ghost use Rattle.std.specs.Prelude.{◌≡◌, ◌↔◌, IsTrue};
-ghost use Rattle.flush_path.specs.Due.{fails_in_part, fails_whole, is_awaited, is_bare, is_cut_short, is_returned, is_some_true, is_true_at, is_untouched, misses_at, misses_buffer, misses_metadata, missing_buffers, verdict_of};
+ghost use Rattle.flush_path.specs.Due.{fails_in_part, fails_whole, is_awaited, is_bare, is_cut_short, is_some_true, is_true_at, is_untouched, misses_at, misses_buffer, misses_metadata, missing_buffers, verdict_of};
 
-use cam_types::{Four, PART_COUNT, RowFaults, RowView, TargetState, TargetView, Verdict};
+use cam_types::{Four, RowFaults, RowVerdict, RowView, TargetView};
 
 /// The errors that are due for an open frame with these faults. `buffers` of both has the order of the row's targets;
 /// a target without an entry in `faults.buffers` has no fault of its buffer.
-pub fn verdict(row: RowView, faults: RowFaults) -> Verdict
+pub fn verdict(row: RowView, faults: RowFaults) -> RowVerdict
     ensures value { result ≡ verdict_of row faults }
 
     // The whole capture fails exactly where nothing of it came and it has a cause; no other error follows.
-    ensures whole { (result ≡ Verdict.Request) ↔ IsTrue (fails_whole row faults) }
-    ensures failed_already { IsTrue row.request_error → result ≡ Verdict.Nothing }
+    ensures whole { (result ≡ RowVerdict.Request) ↔ IsTrue (fails_whole row faults) }
+    ensures failed_already { IsTrue row.request_error → result ≡ RowVerdict.Nothing }
 {
     if fails_whole(row, faults) {
-        return Verdict::Request;
+        return RowVerdict::Request;
     }
     let result = misses_metadata(row, faults);
     let buffers = missing_buffers(row, faults);
     if fails_in_part(row, faults) && (result || is_some_true(buffers)) {
-        return Verdict::Parts { result, buffers };
+        return RowVerdict::Parts { result, buffers };
     }
-    Verdict::Nothing
-}
-
-fn is_returned(state: TargetState) -> bool
-    ensures { result ≡ is_returned state }
-{
-    matches!(
-        state,
-        TargetState::ReturnedEarly
-            | TargetState::EarlyFilled
-            | TargetState::ReturnedOk
-            | TargetState::ReturnedFailed
-    )
+    RowVerdict::Nothing
 }
 
 fn is_awaited(target: TargetView) -> bool
     ensures { result ≡ is_awaited target }
 {
-    !target.announced && !is_returned(target.state)
+    !target.announced && !target.state.is_returned()
 }
 
 fn is_untouched(target: Option<TargetView>) -> bool
@@ -79,7 +67,7 @@ fn is_cut_short(row: RowView) -> bool
 fn misses_metadata(row: RowView, faults: RowFaults) -> bool
     ensures { result ≡ misses_metadata row faults }
 {
-    (!row.result_error && row.parts < PART_COUNT) && (faults.result || is_cut_short(row))
+    row.awaits_metadata() && (faults.result || is_cut_short(row))
 }
 
 fn misses_buffer(cut_short: bool, fault: Option<bool>, target: TargetView) -> bool

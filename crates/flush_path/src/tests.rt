@@ -1,8 +1,8 @@
 //! Frames at each stage of their life when a flush begins, and every row of one or two targets under every fault.
 use super::*;
 use cam_types::{
-    BufferId, Four, FrameNo, RequestId, RowFaults, RowView, SensorPlace, Settings, StreamIx,
-    TargetState, TargetView, Verdict,
+    BufferId, Four, FrameNo, RequestId, RowFaults, RowVerdict, RowView, SensorPlace, Settings,
+    StreamIx, TargetState, TargetView,
 };
 
 const SETTINGS: Settings = Settings {
@@ -49,8 +49,8 @@ fn row(exposed: bool, parts: u8, stopped: bool, targets: Four<TargetView>) -> Ro
     }
 }
 
-fn missing(metadata: bool, first: bool, second: bool) -> Verdict {
-    Verdict::Parts {
+fn missing(metadata: bool, first: bool, second: bool) -> RowVerdict {
+    RowVerdict::Parts {
         result: metadata,
         buffers: pair(first, Some(second)),
     }
@@ -114,20 +114,34 @@ const STAGES: &[Stage] = &[
         (false, TargetState::ReturnedOk),
         (true, TargetState::ReturnedFailed),
     ),
+    (
+        true,
+        0,
+        (false, TargetState::ReturnedEarly),
+        (false, TargetState::Waiting),
+    ),
+    (
+        true,
+        3,
+        (false, TargetState::EarlyFilled),
+        (false, TargetState::ReturnedEarly),
+    ),
 ];
 
 #[test]
 fn a_flush_at_each_stage(rt: HostRuntime) {
     let wants = [
-        Verdict::Request,
-        Verdict::Request,
+        RowVerdict::Request,
+        RowVerdict::Request,
         missing(true, true, true),
         missing(false, true, true),
         missing(true, false, true),
         missing(true, false, false),
         missing(false, false, true),
         missing(true, false, false),
-        Verdict::Nothing,
+        RowVerdict::Nothing,
+        missing(true, false, true),
+        RowVerdict::Nothing,
     ];
     let faults = RowFaults {
         request: false,
@@ -146,37 +160,39 @@ fn a_flush_at_each_stage(rt: HostRuntime) {
         );
         assert_eq!(rt;
             verdict(row(*exposed, *parts, false, targets), faults),
-            Verdict::Nothing
+            RowVerdict::Nothing
         );
     }
 }
 
 fn is_quiet(target: TargetView) -> bool {
-    target.announced
-        || target.state == TargetState::ReturnedOk
-        || target.state == TargetState::ReturnedFailed
+    let is_at_device = matches!(
+        target.state,
+        TargetState::Waiting | TargetState::Out | TargetState::Filled
+    );
+    target.announced || !is_at_device
 }
 
 /// The verdict case by case: a frame that failed, one that wasn't exposed, one of which nothing came, and the others.
-fn expected(row: RowView, faults: RowFaults, first: Faulty, second: Option<Faulty>) -> Verdict {
+fn expected(row: RowView, faults: RowFaults, first: Faulty, second: Option<Faulty>) -> RowVerdict {
     let came = row.parts > 0
         || row.result_error
         || is_quiet(first.0)
         || second.is_some_and(|other| is_quiet(other.0));
     if row.request_error {
-        return Verdict::Nothing;
+        return RowVerdict::Nothing;
     }
     if !came && row.stopped {
-        return Verdict::Request;
+        return RowVerdict::Request;
     }
     if row.shutter.is_none() {
-        return Verdict::Nothing;
+        return RowVerdict::Nothing;
     }
     if faults.request && !row.stopped {
         return if came {
-            Verdict::Nothing
+            RowVerdict::Nothing
         } else {
-            Verdict::Request
+            RowVerdict::Request
         };
     }
     let result = row.parts != 3 && !row.result_error && (row.stopped || faults.result);
@@ -184,9 +200,9 @@ fn expected(row: RowView, faults: RowFaults, first: Faulty, second: Option<Fault
     let first_missing = is_missing(first);
     let second_missing = second.map(is_missing);
     if !result && !first_missing && second_missing != Some(true) {
-        return Verdict::Nothing;
+        return RowVerdict::Nothing;
     }
-    Verdict::Parts {
+    RowVerdict::Parts {
         result,
         buffers: pair(first_missing, second_missing),
     }
@@ -198,7 +214,9 @@ fn some_target(stream: u8, number: u32) -> Faulty {
         0 => TargetState::Waiting,
         1 => TargetState::Out,
         2 => TargetState::Filled,
-        3 => TargetState::ReturnedOk,
+        3 => TargetState::ReturnedEarly,
+        4 => TargetState::EarlyFilled,
+        5 => TargetState::ReturnedOk,
         _ => TargetState::ReturnedFailed,
     };
     (target(stream, number % 2 == 1, state), number / 2 % 2 == 1)
@@ -230,11 +248,11 @@ fn some_row(number: u32, first: Faulty, second: Option<Faulty>) -> (RowView, Row
 #[test]
 fn every_row_of_one_or_two_targets(rt: HostRuntime) {
     for number in 0..512u32 {
-        for first in 0..20u32 {
+        for first in 0..28u32 {
             let first = some_target(0, first);
             let (one, faults) = some_row(number, first, None);
             assert_eq!(rt; verdict(one, faults), expected(one, faults, first, None));
-            for second in 0..20u32 {
+            for second in 0..28u32 {
                 let second = some_target(1, second);
                 let (two, faults) = some_row(number, first, Some(second));
                 assert_eq!(rt;

@@ -1,3 +1,4 @@
+pub mod General
 pub mod Reach
 pub mod RowsLemmas
 pub mod Places

@@ -1,15 +1,20 @@
-use Rattle.std.proofs.Common.{◌≡◌, ℕ, zero, suc, ◌+◌, ◌<◌, ◌≤◌, Bool, true, false, cond, List, [], ◌∷◌, ◌++◌, length, Option, Some, None, is_some, slice_set, get_or, refl, arith, sym, ◌∙◌, ap}
+use Rattle.std.proofs.Common.{◌≡◌, ℕ, zero, suc, ◌<◌, ◌≤◌, Bool, true, false, cond, List, [], ◌∷◌, ◌++◌, length, Option, Some, None, is_some, slice_set, get_or, refl, arith, sym, ◌∙◌, ap}
 use Rattle.std.specs.List.{list_all, position, remove}
 use Rattle.std.specs.Option.{option_and_then, option_map}
+use Rattle.std.proofs.lemmas.Bool.Decides.{nat_tests}
 use Rattle.std.proofs.lemmas.Grind.{common_steps}
 use Rattle.std.proofs.lemmas.List.Edits.{length-remove}
 use Rattle.std.proofs.lemmas.List.Quantifiers.{position-Some}
 use Rattle.cam_types.specs.declared.four.Four.{Four}
 use Rattle.inflight_table.specs.declared.row.Row.{Row}
 use Rattle.inflight_table.specs.Kept.{IsKept}
-use Rattle.inflight_table.specs.Rows.{are_below, are_in_order, frame_of, has_place, is_of, is_sound, parked_at, parked_for, passes, placed_at, row_of, view_of, with_parked, with_row, without}
+use Rattle.inflight_table.specs.Rows.{are_below, are_in_order, frame_of, has_place, is_of, is_sound, parked_at, parked_for, passes, placed_at, Rows, row_of, view_of, with_parked, with_row, without}
 use Rattle.inflight_table.proofs.RowsLemmas.{all-at, all-remove, order-push, order-remove, order-set, position-none, row_of-at, with_row-at, with_row-none, without-at}
 use Rattle.inflight_table.proofs.Reach.{sound-push, sound-set}
+
+-- a table of these rows, of which so many may stand
+abbrev pub table_of : {B : Type 0} → List (Row B) → ℕ → Rows B
+table_of rows capacity = record { rows = rows; capacity = capacity }
 
 -- no row of the frame stands
 pub record Absent {B : Type 0} (f : ℕ) (rows : List (Row B)) : Type 0 where
@@ -112,24 +117,38 @@ length-changed xs i x = grind (arith, common_steps)
 pub sound-at : {B : Type 0} (rows : List (Row B)) (i : ℕ) (row : Row B) → list_all is_sound rows ≡ true → i < length rows → row ≡ get_or rows i row → is_sound row ≡ true
 sound-at rows i row sound l is = rw (← is) at (all-at is_sound rows i row sound l)
 
-pub kept-set : {B : Type 0} (f : ℕ) (rows : List (Row B)) (i : ℕ) (row new : Row B) (capacity : ℕ) → IsKept rows capacity → Present f rows i row → frame_of new ≡ frame_of row → is_sound new ≡ true → IsKept (slice_set rows i new) capacity
-kept-set f rows i row new capacity kept there same sound = record {
+pub kept-set : {B : Type 0} (f : ℕ) (rows : List (Row B)) (i : ℕ) (row new : Row B) (capacity room : ℕ) → IsKept rows capacity room → Present f rows i row → frame_of new ≡ frame_of row → is_sound new ≡ true → IsKept (slice_set rows i new) capacity room
+kept-set f rows i row new capacity room kept there same sound = record {
+  few = kept.few;
   room = kept.room;
   within = rw (length-changed rows i new) kept.within;
   ordered = there.ordered new same;
   sound = sound-set is_sound rows i new kept.sound sound;
 }
 
-pub kept-push : {B : Type 0} (rows after : List (Row B)) (new : Row B) (capacity more : ℕ) → IsKept rows capacity → capacity ≤ more → length rows < 6 → are_below (frame_of new) rows ≡ true → is_sound new ≡ true → after ≡ rows ++ new ∷ [] → IsKept after more
-kept-push rows after new capacity more kept l room below sound is =
+pub kept-push : {B : Type 0} (rows after : List (Row B)) (new : Row B) (capacity room more : ℕ) → IsKept rows capacity room → room ≤ more → length rows < capacity → are_below (frame_of new) rows ≡ true → is_sound new ≡ true → after ≡ rows ++ new ∷ [] → IsKept after capacity more
+kept-push rows after new capacity room more kept l free below sound is =
     let old = kept.room in
-    let size : length (rows ++ new ∷ []) ≤ 6 = grind (arith, common_steps) in
-    rw is (record { room = omega arith; within = size; ordered = order-push rows new kept.ordered below; sound = sound-push is_sound rows new kept.sound sound })
+    let size : length (rows ++ new ∷ []) ≤ capacity = grind (arith, common_steps) in
+    rw is (record { few = kept.few; room = omega arith; within = size; ordered = order-push rows new kept.ordered below; sound = sound-push is_sound rows new kept.sound sound })
 
-pub kept-remove : {B : Type 0} (rows after : List (Row B)) (i capacity same : ℕ) → IsKept rows capacity → same ≡ capacity → i < length rows → after ≡ remove rows i → IsKept after same
-kept-remove rows after i capacity same kept e l is =
+pub kept-remove : {B : Type 0} (rows after : List (Row B)) (i capacity room same : ℕ) → IsKept rows capacity room → same ≡ room → i < length rows → after ≡ remove rows i → IsKept after capacity same
+kept-remove rows after i capacity room same kept e l is =
     let old = kept.room in
     let old' = kept.within in
     let size = length-remove rows i l in
-    let within : length (remove rows i) ≤ 6 = omega arith in
-    rw is (record { room = omega arith; within = within; ordered = order-remove rows i kept.ordered; sound = all-remove is_sound rows i kept.sound })
+    let within : length (remove rows i) ≤ capacity = omega arith in
+    rw is (record { few = kept.few; room = omega arith; within = within; ordered = order-remove rows i kept.ordered; sound = all-remove is_sound rows i kept.sound })
+
+-- tables with the same rows, of which as many may stand
+pub same-rows : {B : Type 0} (capacity : ℕ) (xs ys : List (Row B)) → xs ≡ ys → table_of xs capacity ≡ table_of ys capacity
+same-rows {B} capacity xs ys e = ap (λ (z : List (Row B)). table_of z capacity) e
+
+-- the row at a place is the one that its frame finds
+pub found-at : {B : Type 0} (rows lent : List (Row B)) (i : ℕ) (row : Row B) → are_in_order rows ≡ true → lent ≡ rows → i < length lent → row ≡ get_or lent i row → option_map view_of (row_of row.view.frame.0 rows) ≡ Some row.view
+found-at {B} rows lent i row order same l at =
+    let l' : i < length rows = rw (← same) l in
+    let is : row ≡ get_or rows i row = rw same at at in
+    let own : is_of row.view.frame.0 row ≡ true = grind (arith, nat_tests) in
+    let own' : is_of row.view.frame.0 (get_or rows i row) ≡ true = rw (← is) own in
+    ap (λ (z : Option (Row B)). option_map view_of z) (row_of-at row.view.frame.0 rows i row order l' own') ∙ ap (λ (z : Row B). Some z.view) (sym is)

@@ -1,6 +1,6 @@
-use Rattle.std.proofs.Common.{◌≡◌, ℕ, zero, suc, ◌+◌, Bool, true, false, ◌&&◌, ◌==◌, not, cond, List, [], ◌∷◌, ◌++◌, Option, Some, None, is_some, slice_set, refl, arith, ◌∙◌, inl, inr}
+use Rattle.std.proofs.Common.{◌≡◌, ℕ, zero, suc, Bool, true, false, ◌&&◌, ◌==◌, not, cond, List, [], ◌∷◌, ◌++◌, Option, Some, None, is_some, slice_set, refl, arith, ◌∙◌, inl, inr}
 use Rattle.std.specs.List.{list_all}
-use Rattle.std.proofs.lemmas.Bool.{cases_Bool}
+use Rattle.std.proofs.lemmas.Bool.{and_parts, cases_Bool}
 use Rattle.std.proofs.lemmas.Bool.Decides.{nat_tests}
 use Rattle.std.proofs.lemmas.Grind.{common_steps}
 use Rattle.std.proofs.lemmas.List.Folds.{list_all-append}
@@ -12,10 +12,6 @@ use Rattle.inflight_table.specs.declared.mark.Mark.TheVariants.{Shutter, Part, R
 use Rattle.inflight_table.specs.declared.row.Row.{Row}
 use Rattle.inflight_table.specs.Marks.{as_announced, if_of_stream, in_state, marked, with_target}
 use Rattle.inflight_table.specs.Rows.{are_apart, are_both, has_place, is_apart, is_at_target, is_cleared, is_for, is_in_reach, is_one_each, is_sound, parked_at, parked_for, placed_at}
-
-and-parts : (a b : Bool) → (a && b) ≡ true → (a ≡ true) × (b ≡ true)
-and-parts true b h = (refl, h)
-and-parts false b h = absurd (cc)
 
 -- ---- the law
 
@@ -70,11 +66,11 @@ pub record Apart (targets : Four TargetView) : Type 0 where
 
 apart-facts : (targets : Four TargetView) → are_apart targets ≡ true → Apart targets
 apart-facts targets h =
-    let p = and-parts (is_apart targets.a targets.b && (is_apart targets.a targets.c && is_apart targets.a targets.d)) ((is_apart targets.b targets.c && is_apart targets.b targets.d) && is_apart targets.c targets.d) h in
-    let a = and-parts (is_apart targets.a targets.b) (is_apart targets.a targets.c && is_apart targets.a targets.d) p.0 in
-    let a' = and-parts (is_apart targets.a targets.c) (is_apart targets.a targets.d) a.1 in
-    let b = and-parts (is_apart targets.b targets.c && is_apart targets.b targets.d) (is_apart targets.c targets.d) p.1 in
-    let b' = and-parts (is_apart targets.b targets.c) (is_apart targets.b targets.d) b.0 in
+    let p = and_parts (is_apart targets.a targets.b && (is_apart targets.a targets.c && is_apart targets.a targets.d)) ((is_apart targets.b targets.c && is_apart targets.b targets.d) && is_apart targets.c targets.d) h in
+    let a = and_parts (is_apart targets.a targets.b) (is_apart targets.a targets.c && is_apart targets.a targets.d) p.0 in
+    let a' = and_parts (is_apart targets.a targets.c) (is_apart targets.a targets.d) a.1 in
+    let b = and_parts (is_apart targets.b targets.c && is_apart targets.b targets.d) (is_apart targets.c targets.d) p.1 in
+    let b' = and_parts (is_apart targets.b targets.c) (is_apart targets.b targets.d) b.0 in
     record { ab = a.0; ac = a'.0; ad = a'.1; bc = b'.0; bd = b'.1; cd = b.1 }
 
 -- what a sound row keeps, place by place
@@ -86,9 +82,9 @@ pub record Within {B : Type 0} (targets : Four TargetView) (parked : Four B) : T
 
 within-facts : {B : Type 0} (targets : Four TargetView) (parked : Four B) → (is_at_target targets.a parked.a && (is_at_target targets.b parked.b && (is_at_target targets.c parked.c && is_at_target targets.d parked.d))) ≡ true → Within targets parked
 within-facts targets parked h =
-    let a = and-parts (is_at_target targets.a parked.a) (is_at_target targets.b parked.b && (is_at_target targets.c parked.c && is_at_target targets.d parked.d)) h in
-    let b = and-parts (is_at_target targets.b parked.b) (is_at_target targets.c parked.c && is_at_target targets.d parked.d) a.1 in
-    let c = and-parts (is_at_target targets.c parked.c) (is_at_target targets.d parked.d) b.1 in
+    let a = and_parts (is_at_target targets.a parked.a) (is_at_target targets.b parked.b && (is_at_target targets.c parked.c && is_at_target targets.d parked.d)) h in
+    let b = and_parts (is_at_target targets.b parked.b) (is_at_target targets.c parked.c && is_at_target targets.d parked.d) a.1 in
+    let c = and_parts (is_at_target targets.c parked.c) (is_at_target targets.d parked.d) b.1 in
     record { a = a.0; b = b.0; c = c.0; d = c.1 }
 
 in_reach : {B : Type 0} (targets : Four TargetView) (parked : Four B) → are_apart targets ≡ true → Within targets parked → is_in_reach targets parked ≡ true
@@ -97,7 +93,7 @@ in_reach targets parked apart at = rw (apart, at.a, at.b, at.c, at.d) refl
 pub cleared : {B : Type 0} (row : Row B) → is_sound row ≡ true → ((s : ℕ) → parked_for s row ≡ None) → is_cleared row ≡ true
 cleared row sound none =
     let targets = row.view.targets in
-    let p = and-parts (are_apart row.view.targets) (is_at_target row.view.targets.a row.parked.a && (is_at_target row.view.targets.b row.parked.b && (is_at_target row.view.targets.c row.parked.c && is_at_target row.view.targets.d row.parked.d))) sound in
+    let p = and_parts (are_apart row.view.targets) (is_at_target row.view.targets.a row.parked.a && (is_at_target row.view.targets.b row.parked.b && (is_at_target row.view.targets.c row.parked.c && is_at_target row.view.targets.d row.parked.d))) sound in
     let apart = apart-facts row.view.targets p.0 in
     let at = within-facts row.view.targets row.parked p.1 in
     let a = cleared-a row.view.targets row.parked row.view.targets.a refl at.a none in
@@ -115,9 +111,9 @@ both-at (Some t) thing h = refl
 -- a row that is admitted
 pub sound-new : {B : Type 0} (targets : Four TargetView) (parked : Four B) → are_apart targets ≡ true → is_one_each targets parked ≡ true → is_in_reach targets parked ≡ true
 sound-new targets parked apart each =
-    let a = and-parts (are_both targets.a parked.a) (are_both targets.b parked.b && (are_both targets.c parked.c && are_both targets.d parked.d)) each in
-    let b = and-parts (are_both targets.b parked.b) (are_both targets.c parked.c && are_both targets.d parked.d) a.1 in
-    let c = and-parts (are_both targets.c parked.c) (are_both targets.d parked.d) b.1 in
+    let a = and_parts (are_both targets.a parked.a) (are_both targets.b parked.b && (are_both targets.c parked.c && are_both targets.d parked.d)) each in
+    let b = and_parts (are_both targets.b parked.b) (are_both targets.c parked.c && are_both targets.d parked.d) a.1 in
+    let c = and_parts (are_both targets.c parked.c) (are_both targets.d parked.d) b.1 in
     in_reach targets parked apart (record { a = both-at targets.a parked.a a.0; b = both-at targets.b parked.b b.0; c = both-at targets.c parked.c c.0; d = both-at targets.d parked.d c.1 })
 
 filled-at : {B : Type 0} (s : ℕ) (target : Option TargetView) (thing : Option B) → is_for s target ≡ true → is_at_target target thing ≡ true
@@ -143,7 +139,7 @@ within-placed s targets thing parked at =
 
 pub sound-placed : {B : Type 0} (s : ℕ) (targets : Four TargetView) (thing : Option B) (parked new : Four B) → is_in_reach targets parked ≡ true → new ≡ placed_at s targets thing parked → is_in_reach targets new ≡ true
 sound-placed s targets thing parked new sound e =
-    let p = and-parts (are_apart targets) (is_at_target targets.a parked.a && (is_at_target targets.b parked.b && (is_at_target targets.c parked.c && is_at_target targets.d parked.d))) sound in
+    let p = and_parts (are_apart targets) (is_at_target targets.a parked.a && (is_at_target targets.b parked.b && (is_at_target targets.c parked.c && is_at_target targets.d parked.d))) sound in
     rw e (in_reach targets (placed_at s targets thing parked) p.0 (within-placed s targets thing parked (within-facts targets parked p.1)))
 
 sound-kept : {B : Type 0} (b : Bool) (s : ℕ) (targets : Four TargetView) (thing : Option B) (parked new : Four B) → is_in_reach targets parked ≡ true → new ≡ cond b (placed_at s targets thing parked) parked → is_in_reach targets new ≡ true
@@ -170,7 +166,7 @@ apart-changed s change (Some f) (Some t) keeps =
 
 sound-changed : {B : Type 0} (s : ℕ) (change : TargetView → TargetView) (targets : Four TargetView) (parked : Four B) → ((u : TargetView) → (change u).stream ≡ u.stream) → is_in_reach targets parked ≡ true → is_in_reach (with_target s change targets) parked ≡ true
 sound-changed s change targets parked keeps sound =
-    let p = and-parts (are_apart targets) (is_at_target targets.a parked.a && (is_at_target targets.b parked.b && (is_at_target targets.c parked.c && is_at_target targets.d parked.d))) sound in
+    let p = and_parts (are_apart targets) (is_at_target targets.a parked.a && (is_at_target targets.b parked.b && (is_at_target targets.c parked.c && is_at_target targets.d parked.d))) sound in
     let f = apart-facts targets p.0 in
     let at = within-facts targets parked p.1 in
     let ab = apart-changed s change targets.a targets.b keeps ∙ f.ab in
@@ -204,9 +200,9 @@ sound-marked mark view new parked h e = rw e (sound-mark mark view parked h)
 
 pub sound-set : {X : Type 0} (p : X → Bool) (xs : List X) (i : ℕ) (x : X) → list_all p xs ≡ true → p x ≡ true → list_all p (slice_set xs i x) ≡ true
 sound-set p [] i x h new = grind (arith, common_steps)
-sound-set p (y ∷ ys) zero x h new = rw new ((and-parts (p y) (list_all p ys) h).1)
+sound-set p (y ∷ ys) zero x h new = rw new ((and_parts (p y) (list_all p ys) h).1)
 sound-set p (y ∷ ys) (suc i) x h new =
-    let parts = and-parts (p y) (list_all p ys) h in
+    let parts = and_parts (p y) (list_all p ys) h in
     rw (parts.0, sound-set p ys i x parts.1 new) refl
 
 pub sound-push : {X : Type 0} (p : X → Bool) (xs : List X) (x : X) → list_all p xs ≡ true → p x ≡ true → list_all p (xs ++ x ∷ []) ≡ true

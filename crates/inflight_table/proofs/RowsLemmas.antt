@@ -1,29 +1,20 @@
 use Rattle.std.proofs.Common.{◌≡◌, ℕ, zero, suc, ◌+◌, ◌<◌, ◌≤◌, Bool, true, false, ◌&&◌, not, nat_lt, cond, List, [], ◌∷◌, ◌++◌, length, Some, None, slice_set, get_or, refl, arith, ap, inl, inr}
+use Rattle.basic_lemmas.proofs.Lists.{all-where}
 use Rattle.std.specs.List.{find, list_all, position, position_or_len, remove}
-use Rattle.std.proofs.lemmas.Bool.{cases_Bool}
+use Rattle.std.proofs.lemmas.Bool.{and_parts, cases_Bool}
 use Rattle.std.proofs.lemmas.Bool.Decides.{nat_tests}
 use Rattle.std.proofs.lemmas.Grind.{common_steps}
 use Rattle.std.proofs.lemmas.List.Folds.{list_all-append}
 use Rattle.inflight_table.specs.declared.row.Row.{Row}
 use Rattle.inflight_table.specs.Rows.{are_below, are_in_order, frame_of, is_of, row_of, with_row, without}
 
-and-parts : (a b : Bool) → (a && b) ≡ true → (a ≡ true) × (b ≡ true)
-and-parts true b h = (refl, h)
-and-parts false b h = absurd (cc)
-
 and-both : (a b : Bool) → a ≡ true → b ≡ true → (a && b) ≡ true
 and-both a b p q = rw (p, q) refl
 
 pub all-at : {X : Type 0} (p : X → Bool) (xs : List X) (i : ℕ) (d : X) → list_all p xs ≡ true → i < length xs → p (get_or xs i d) ≡ true
 all-at p [] i d h l = absurd (omega arith)
-all-at p (x ∷ xs) zero d h l = (and-parts (p x) (list_all p xs) h).0
-all-at p (x ∷ xs) (suc i) d h l = all-at p xs i d (and-parts (p x) (list_all p xs) h).1 (omega arith)
-
-all-weaker : {X : Type 0} (p q : X → Bool) (xs : List X) → ((x : X) → p x ≡ true → q x ≡ true) → list_all p xs ≡ true → list_all q xs ≡ true
-all-weaker p q [] w h = refl
-all-weaker p q (x ∷ xs) w h =
-    let parts = and-parts (p x) (list_all p xs) h in
-    and-both (q x) (list_all q xs) (w x parts.0) (all-weaker p q xs w parts.1)
+all-at p (x ∷ xs) zero d h l = (and_parts (p x) (list_all p xs) h).0
+all-at p (x ∷ xs) (suc i) d h l = all-at p xs i d (and_parts (p x) (list_all p xs) h).1 (omega arith)
 
 -- where no element passes, the first that does isn't found
 none-found : {X : Type 0} (p : X → Bool) (xs : List X) → nat_lt (position_or_len p xs) (length xs) ≡ false → find p xs ≡ None
@@ -56,14 +47,14 @@ found-none f (r ∷ rs) h =
 with-none : {B : Type 0} (f : ℕ) (change : Row B → Row B) (rows : List (Row B)) → HasNone f rows → with_row f change rows ≡ rows
 with-none f change [] h = refl
 with-none f change (r ∷ rs) h =
-    let parts = and-parts (not (is_of f r)) (list_all (λ row. not (is_of f row)) rs) h in
+    let parts = and_parts (not (is_of f r)) (list_all (λ row. not (is_of f row)) rs) h in
     let n : is_of f r ≡ false = grind arith in
     rw (n, with-none f change rs parts.1) refl
 
 without-none : {B : Type 0} (f : ℕ) (rows : List (Row B)) → HasNone f rows → without f rows ≡ rows
 without-none f [] h = refl
 without-none f (r ∷ rs) h =
-    let parts = and-parts (not (is_of f r)) (list_all (λ row. not (is_of f row)) rs) h in
+    let parts = and_parts (not (is_of f r)) (list_all (λ row. not (is_of f row)) rs) h in
     rw (parts.0, without-none f rs parts.1) refl
 
 -- where no such row stands, nothing changes
@@ -74,7 +65,7 @@ not_of-above : {B : Type 0} (f n : ℕ) (row : Row B) → f ≤ n → nat_lt n (
 not_of-above f n row l h = grind (arith, nat_tests)
 
 none-above : {B : Type 0} (f n : ℕ) (rows : List (Row B)) → f ≤ n → list_all (λ row. nat_lt n (frame_of row)) rows ≡ true → HasNone f rows
-none-above f n rows l h = all-weaker (λ row. nat_lt n (frame_of row)) (λ row. not (is_of f row)) rows (λ row b. not_of-above f n row l b) h
+none-above f n rows l h = all-where (λ row. nat_lt n (frame_of row)) (λ row. not (is_of f row)) rows (λ row b. not_of-above f n row l b) h
 
 same-frame : {B : Type 0} (f : ℕ) (row : Row B) → is_of f row ≡ true → frame_of row ≡ f
 same-frame f row h = grind (arith, nat_tests)
@@ -91,31 +82,31 @@ pub row_of-at : {B : Type 0} (f : ℕ) (rows : List (Row B)) (i : ℕ) (d : Row 
 row_of-at f [] i d order l h = absurd (omega arith)
 row_of-at f (r ∷ rs) zero d order l h = rw h refl
 row_of-at f (r ∷ rs) (suc i) d order l h =
-    let parts = and-parts (list_all (λ other. nat_lt (frame_of r) (frame_of other)) rs) (are_in_order rs) order in
+    let parts = and_parts (list_all (λ other. nat_lt (frame_of r) (frame_of other)) rs) (are_in_order rs) order in
     let n = earlier f r rs i d parts.0 (omega arith) h in
     rw n (row_of-at f rs i d parts.1 (omega arith) h)
 
 pub with_row-at : {B : Type 0} (f : ℕ) (change : Row B → Row B) (rows : List (Row B)) (i : ℕ) (d : Row B) → are_in_order rows ≡ true → i < length rows → is_of f (get_or rows i d) ≡ true → with_row f change rows ≡ slice_set rows i (change (get_or rows i d))
 with_row-at f change [] i d order l h = absurd (omega arith)
 with_row-at f change (r ∷ rs) zero d order l h =
-    let parts = and-parts (list_all (λ other. nat_lt (frame_of r) (frame_of other)) rs) (are_in_order rs) order in
+    let parts = and_parts (list_all (λ other. nat_lt (frame_of r) (frame_of other)) rs) (are_in_order rs) order in
     let same = same-frame f r h in
     let rest = with-none f change rs (none-above f (frame_of r) rs (omega arith) parts.0) in
     rw (h, rest) refl
 with_row-at {B} f change (r ∷ rs) (suc i) d order l h =
-    let parts = and-parts (list_all (λ other. nat_lt (frame_of r) (frame_of other)) rs) (are_in_order rs) order in
+    let parts = and_parts (list_all (λ other. nat_lt (frame_of r) (frame_of other)) rs) (are_in_order rs) order in
     let n = earlier f r rs i d parts.0 (omega arith) h in
     rw n (ap (λ (z : List (Row B)). r ∷ z) (with_row-at f change rs i d parts.1 (omega arith) h))
 
 pub without-at : {B : Type 0} (f : ℕ) (rows : List (Row B)) (i : ℕ) (d : Row B) → are_in_order rows ≡ true → i < length rows → is_of f (get_or rows i d) ≡ true → without f rows ≡ remove rows i
 without-at f [] i d order l h = absurd (omega arith)
 without-at f (r ∷ rs) zero d order l h =
-    let parts = and-parts (list_all (λ other. nat_lt (frame_of r) (frame_of other)) rs) (are_in_order rs) order in
+    let parts = and_parts (list_all (λ other. nat_lt (frame_of r) (frame_of other)) rs) (are_in_order rs) order in
     let same = same-frame f r h in
     let rest = without-none f rs (none-above f (frame_of r) rs (omega arith) parts.0) in
     rw (h, rest) refl
 without-at {B} f (r ∷ rs) (suc i) d order l h =
-    let parts = and-parts (list_all (λ other. nat_lt (frame_of r) (frame_of other)) rs) (are_in_order rs) order in
+    let parts = and_parts (list_all (λ other. nat_lt (frame_of r) (frame_of other)) rs) (are_in_order rs) order in
     let n = earlier f r rs i d parts.0 (omega arith) h in
     rw n (ap (λ (z : List (Row B)). r ∷ z) (without-at f rs i d parts.1 (omega arith) h))
 
@@ -134,28 +125,28 @@ order-set (r ∷ rs) (suc i) d new l e = rw (all-set (frame_of r) rs i d new (om
 pub order-push : {B : Type 0} (rows : List (Row B)) (new : Row B) → are_in_order rows ≡ true → are_below (frame_of new) rows ≡ true → are_in_order (rows ++ new ∷ []) ≡ true
 order-push [] new order below = refl
 order-push (r ∷ rs) new order below =
-    let parts = and-parts (list_all (λ other. nat_lt (frame_of r) (frame_of other)) rs) (are_in_order rs) order in
-    let low = and-parts (nat_lt (frame_of r) (frame_of new)) (list_all (λ row. nat_lt (frame_of row) (frame_of new)) rs) below in
+    let parts = and_parts (list_all (λ other. nat_lt (frame_of r) (frame_of other)) rs) (are_in_order rs) order in
+    let low = and_parts (nat_lt (frame_of r) (frame_of new)) (list_all (λ row. nat_lt (frame_of row) (frame_of new)) rs) below in
     let ih = order-push rs new parts.1 low.1 in
     rw (list_all-append (λ other. nat_lt (frame_of r) (frame_of other)) rs (new ∷ []), parts.0, low.0, ih) refl
 
 pub all-remove : {X : Type 0} (p : X → Bool) (xs : List X) (i : ℕ) → list_all p xs ≡ true → list_all p (remove xs i) ≡ true
 all-remove p [] i h = grind (arith, common_steps)
-all-remove p (x ∷ xs) zero h = (and-parts (p x) (list_all p xs) h).1
+all-remove p (x ∷ xs) zero h = (and_parts (p x) (list_all p xs) h).1
 all-remove p (x ∷ xs) (suc i) h =
-    let parts = and-parts (p x) (list_all p xs) h in
+    let parts = and_parts (p x) (list_all p xs) h in
     and-both (p x) (list_all p (remove xs i)) parts.0 (all-remove p xs i parts.1)
 
 pub order-remove : {B : Type 0} (rows : List (Row B)) (i : ℕ) → are_in_order rows ≡ true → are_in_order (remove rows i) ≡ true
 order-remove [] i order = grind (arith, common_steps)
-order-remove (r ∷ rs) zero order = (and-parts (list_all (λ other. nat_lt (frame_of r) (frame_of other)) rs) (are_in_order rs) order).1
+order-remove (r ∷ rs) zero order = (and_parts (list_all (λ other. nat_lt (frame_of r) (frame_of other)) rs) (are_in_order rs) order).1
 order-remove (r ∷ rs) (suc i) order =
-    let parts = and-parts (list_all (λ other. nat_lt (frame_of r) (frame_of other)) rs) (are_in_order rs) order in
+    let parts = and_parts (list_all (λ other. nat_lt (frame_of r) (frame_of other)) rs) (are_in_order rs) order in
     and-both (list_all (λ other. nat_lt (frame_of r) (frame_of other)) (remove rs i)) (are_in_order (remove rs i)) (all-remove (λ other. nat_lt (frame_of r) (frame_of other)) rs i parts.0) (order-remove rs i parts.1)
 
 -- a row of the next frame keeps all below the one after it
 pub below_push : {B : Type 0} (f : ℕ) (rows : List (Row B)) (new : Row B) → frame_of new ≡ f → are_below f rows ≡ true → are_below (f + 1) (rows ++ new ∷ []) ≡ true
 below_push f rows new same below =
-    let more = all-weaker (λ row. nat_lt (frame_of row) f) (λ row. nat_lt (frame_of row) (f + 1)) rows (λ row h. grind (arith, nat_tests)) below in
+    let more = all-where (λ row. nat_lt (frame_of row) f) (λ row. nat_lt (frame_of row) (f + 1)) rows (λ row h. grind (arith, nat_tests)) below in
     let last : nat_lt (frame_of new) (f + 1) ≡ true = grind (arith, nat_tests) in
     rw (list_all-append (λ row. nat_lt (frame_of row) (f + 1)) rows (new ∷ []), more, last) refl

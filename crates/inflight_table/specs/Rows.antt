@@ -131,3 +131,14 @@ is_sound row = is_in_reach row.view.targets row.parked
 abbrev pub are_in_order : {B : Type 0} → List (Row B) → Bool
 are_in_order [] = true
 are_in_order (row ∷ later) = list_all (λ other. nat_lt (frame_of row) (frame_of other)) later && are_in_order later
+
+-- ---- what a contract sees of a table
+
+-- the rows that stand, and how many may stand at once
+pub record Rows (B : Type 0) : Type 0 where
+  pub rows : List (Row B)
+  pub capacity : ℕ
+
+-- the table with these rows in place of its own: how many may stand stays
+abbrev pub with_rows : {B : Type 0} → List (Row B) → Rows B → Rows B
+with_rows rows table = record { rows = rows; capacity = table.capacity }

@@ -61,9 +61,9 @@ fn row(frame: u32, first: TargetView, second: TargetView) -> RowView {
 /// Admits a row of the streams 1 and 3, with the parcels 10 and 11 for frame 1, 20 and 21 for frame 2, and so on.
 #[tactic(auto, using(crate::proofs::RowsLemmas::below_push))]
 fn admit(table: &mut Table<Parcel>, frame: u32) -> Result<(), Numbers>
-    requires later { IsTrue (are_below frame table.old) }
+    requires later { IsTrue (are_below frame table.old.rows) }
     requires few { frame < 100 }
-    ensures { OnOk result (IsTrue (are_below (frame + 1) table.new)) }
+    ensures { OnOk result (IsTrue (are_below (frame + 1) table.new.rows)) }
 {
     let first = TargetView {
         stream: StreamIx(1),
@@ -111,7 +111,6 @@ const MARKS: &[Mark] = &[
     Mark::Announced(StreamIx(3)),
     Mark::Target(StreamIx(1), TargetState::Filled),
     Mark::Sensor(SensorPlace::Home),
-    Mark::Stopped,
     Mark::Announced(StreamIx(0)),
     Mark::Target(StreamIx(2), TargetState::Out),
 ];
@@ -135,7 +134,6 @@ fn marks_one_row(rt: &impl Abort, table: &mut Table<Parcel>) {
         request_error: true,
         result_error: true,
         sensor: SensorPlace::Home,
-        stopped: true,
         ..row(2, first, second)
     };
     assert_eq!(rt; table.view(FrameNo(2)), Some(marked));
@@ -161,6 +159,13 @@ fn moves_what_is_parked(rt: &impl Abort, table: &mut Table<Parcel>) {
     assert_eq!(rt; table.at(2), Some(row(3, target(1), target(3))));
 }
 
+fn stopped(frame: u32) -> RowView {
+    RowView {
+        stopped: true,
+        ..row(frame, target(1), target(3))
+    }
+}
+
 /// The frames that are left, with the parcels of each.
 const LEFT: &[(u32, u32, u32)] = &[
     (0, 0, 1),
@@ -170,24 +175,63 @@ const LEFT: &[(u32, u32, u32)] = &[
     (5, 50, 51),
 ];
 
+/// Stops all rows, and empties them.
+fn stops_each_row(rt: &impl Abort, table: &mut Table<Parcel>) {
+    table.mark_all(Mark::Stopped);
+    for (place, (frame, first, second)) in LEFT.iter().enumerate() {
+        assert_eq!(rt; table.at(place as u32), Some(stopped(*frame)));
+        assert_eq!(rt; take(table, *frame, 1), Some(*first));
+        assert_eq!(rt; take(table, *frame, 3), Some(*second));
+    }
+    for (frame, _, _) in LEFT {
+        assert!(rt; table.retire(FrameNo(*frame)));
+    }
+}
+
 #[test]
 fn six_rows_and_no_more(rt: HostRuntime) -> Result<(), Fail> {
-    let mut table = Table::new(rt.alloc())?;
+    let mut table = Table::new(rt.alloc(), 6)?;
     'admitting: for frame in 0..6u32 {
         let admitted = admit(&mut table, frame);
         assert!(rt; admitted.is_ok());
     }
+    assert_eq!(rt; table.len(), 6);
     let seventh = admit(&mut table, 6);
     assert_eq!(rt; seventh, Err((Some(60), Some(61), None, None)));
     marks_one_row(&rt, &mut table);
     moves_what_is_parked(&rt, &mut table);
-    for (frame, first, second) in LEFT {
-        assert_eq!(rt; take(&mut table, *frame, 1), Some(*first));
-        assert_eq!(rt; take(&mut table, *frame, 3), Some(*second));
-        assert!(rt; table.retire(FrameNo(*frame)));
-    }
+    assert_eq!(rt; table.len(), 5);
+    stops_each_row(&rt, &mut table);
     let is_empty = table.is_empty();
     assert!(rt; is_empty);
     table.close();
+    Ok(())
+}
+
+/// Takes out what is parked in the first row and retires it, until no row stands.
+fn empties(rt: &impl Abort, table: &mut Table<Parcel>) {
+    for frame in 0..table.len() {
+        assert!(rt; take(table, frame, 1).is_some());
+        assert!(rt; take(table, frame, 3).is_some());
+        assert!(rt; table.retire(FrameNo(frame)));
+    }
+}
+
+#[test]
+fn as_many_rows_as_were_asked_for(rt: HostRuntime) -> Result<(), Fail> {
+    for rows in [1u32, 8, 16] {
+        let mut table = Table::new(rt.alloc(), rows)?;
+        'admitting: for frame in 0..rows {
+            let admitted = admit(&mut table, frame);
+            assert!(rt; admitted.is_ok());
+        }
+        let more = admit(&mut table, rows);
+        assert!(rt; more.is_err());
+        assert_eq!(rt; table.len(), rows);
+        empties(&rt, &mut table);
+        let is_empty = table.is_empty();
+        assert!(rt; is_empty);
+        table.close();
+    }
     Ok(())
 }

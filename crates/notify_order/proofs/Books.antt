@@ -1,12 +1,14 @@
 use Rattle.std.proofs.Common.{◌≡◌, ℕ, zero, suc, ◌+◌, ◌<◌, ◌≤◌, Bool, true, false, ◌&&◌, ◌||◌, not, nat_lt, List, [], ◌∷◌, length, Option, Some, None, slice_index_or, refl, arith, ◌∙◌, inl, inr}
+use Rattle.basic_lemmas.proofs.Tests.{and-false}
 use Rattle.std.specs.List.{list_all}
-use Rattle.std.proofs.lemmas.Bool.{cases_lt}
+use Rattle.std.proofs.lemmas.Bool.{and_parts, cases_lt}
 use Rattle.std.proofs.lemmas.Bool.Decides.{nat_tests}
 use Rattle.std.proofs.lemmas.Grind.{common_steps}
 use Rattle.cam_types.specs.declared.number.FrameNo.{FrameNo}
 use Rattle.cam_types.specs.declared.row.RowView.{RowView}
 use Rattle.cam_types.specs.declared.row.TargetView.{TargetView}
-use Rattle.notify_order.specs.Order.{awaits_metadata, book_of, each_below, empty_order, has_known_streams, held_with, holds_back, is_held_for, is_known, is_none_below, least_with, may_come, may_end}
+use Rattle.cam_types.specs.Rows.{awaits_metadata}
+use Rattle.notify_order.specs.Order.{book_of, each_below, empty_order, has_known_streams, held_with, holds_back, is_held_for, is_known, is_none_below, least_with, may_come, may_end}
 
 -- what a frame that counts, or doesn't, changes
 below-with : (frame : ℕ) (counts : Bool) (f : FrameNo) (standing : Option FrameNo) → is_none_below frame (least_with counts f standing) ≡ ((not (nat_lt f.0 frame) || not counts) && is_none_below frame standing)
@@ -45,20 +47,12 @@ unknown-at : (s : ℕ) (target : Option TargetView) → 4 ≤ s → is_known tar
 unknown-at s None l h = refl
 unknown-at s (Some t) l h = grind (arith, nat_tests)
 
-and-parts : (a b : Bool) → (a && b) ≡ true → (a ≡ true) × (b ≡ true)
-and-parts true b h = (refl, h)
-and-parts false b h = absurd (cc)
-
-no-and : (b : Bool) → (b && false) ≡ false
-no-and true = refl
-no-and false = refl
-
 unknown : (s : ℕ) (row : RowView) → 4 ≤ s → has_known_streams row ≡ true → holds_back s row ≡ false
 unknown s row l h =
-    let a = and-parts (is_known row.targets.a) (is_known row.targets.b && (is_known row.targets.c && is_known row.targets.d)) h in
-    let b = and-parts (is_known row.targets.b) (is_known row.targets.c && is_known row.targets.d) a.1 in
-    let c = and-parts (is_known row.targets.c) (is_known row.targets.d) b.1 in
-    rw (unknown-at s row.targets.a l a.0, unknown-at s row.targets.b l b.0, unknown-at s row.targets.c l c.0, unknown-at s row.targets.d l c.1) (no-and (not row.request_error))
+    let a = and_parts (is_known row.targets.a) (is_known row.targets.b && (is_known row.targets.c && is_known row.targets.d)) h in
+    let b = and_parts (is_known row.targets.b) (is_known row.targets.c && is_known row.targets.d) a.1 in
+    let c = and_parts (is_known row.targets.c) (is_known row.targets.d) b.1 in
+    rw (unknown-at s row.targets.a l a.0, unknown-at s row.targets.b l b.0, unknown-at s row.targets.c l c.0, unknown-at s row.targets.d l c.1) (and-false (not row.request_error))
 
 -- for every stream, known or not
 stand-at : (s : ℕ) (row : RowView) (standing : List (Option FrameNo)) → length standing ≡ 4 → has_known_streams row ≡ true → slice_index_or (held_with 0 row standing) s None ≡ least_with (holds_back s row) row.frame (slice_index_or standing s None)
@@ -74,6 +68,6 @@ empty-at s = grind (arith, common_steps)
 pub streams-all : (rows : List RowView) (frame s : ℕ) → list_all has_known_streams rows ≡ true → may_come frame s (book_of rows) ≡ each_below frame (λ row. not (holds_back s row)) rows
 streams-all [] frame s h = rw (empty-at s) refl
 streams-all (row ∷ rows) frame s h =
-    let parts = and-parts (has_known_streams row) (list_all has_known_streams rows) h in
+    let parts = and_parts (has_known_streams row) (list_all has_known_streams rows) h in
     let ih = streams-all rows frame s parts.1 in
     rw (stand-at s row (book_of rows).streams (length-book rows) parts.0, below-with frame (holds_back s row) row.frame (slice_index_or (book_of rows).streams s None), ih) refl

@@ -2,24 +2,12 @@ use Rattle.std.specs.Prelude.{ℕ, Bool, true, false, ◌&&◌, ◌||◌, ◌==�
 use Rattle.std.specs.List.{list_all}
 use Rattle.cam_types.specs.declared.number.FrameNo.{FrameNo}
 use Rattle.cam_types.specs.declared.row.RowView.{RowView}
-use Rattle.cam_types.specs.declared.row.TargetState.{TargetState}
-use Rattle.cam_types.specs.declared.row.TargetState.TheVariants.{ReturnedEarly, EarlyFilled, ReturnedOk, ReturnedFailed}
 use Rattle.cam_types.specs.declared.row.TargetView.{TargetView}
+use Rattle.cam_types.specs.Rows.{awaits_metadata, is_returned}
 
 -- The order of callbacks (camera3.h, process_capture_result): the metadata of frames ends in the order of frames, and so
 -- do filled buffers of one stream come back; streams are independent of each other. A buffer whose error is announced
 -- keeps no later one waiting (flush, point 3.6), nor does a frame that failed whole.
-
-abbrev pub is_returned : TargetState → Bool
-is_returned ReturnedEarly = true
-is_returned EarlyFilled = true
-is_returned ReturnedOk = true
-is_returned ReturnedFailed = true
-is_returned _ = false
-
--- the metadata of the frame hasn't ended: its last part and an error that ends it are still to come
-abbrev pub awaits_metadata : RowView → Bool
-awaits_metadata row = nat_lt row.parts 3 && (not row.result_error && not row.request_error)
 
 -- the target is of this stream, and its buffer may still come back filled
 abbrev pub is_held_for : ℕ → Option TargetView → Bool

@@ -1,7 +1,7 @@
 ghost use Rattle.std.specs.Prelude.{◌≡◌, IsTrue};
 ghost use Rattle.notify_order.specs.Order.{empty_order, has_known_streams, held_with, is_none_below, least_with, lesser, may_come, may_end, noted};
 
-use crate::row::{awaits_metadata, holds_back};
+use crate::row::holds_back;
 use cam_types::{FrameNo, RowView, StreamIx};
 use std::marker::Model;
 
@@ -38,7 +38,7 @@ impl OrderBook {
         requires { IsTrue (has_known_streams row) }
         ensures { self.new ≡ noted row self.old }
     {
-        self.metadata = least_with(awaits_metadata(row), row.frame, self.metadata);
+        self.metadata = least_with(row.awaits_metadata(), row.frame, self.metadata);
         self.streams = held_with(row, self.streams);
     }
 

@@ -3,7 +3,8 @@
 ghost use Rattle.std.specs.Prelude.{◌≡◌, ℕ, List, not, true};
 ghost use Rattle.std.specs.List.{list_all};
 ghost use Rattle.cam_types.specs.declared.row.RowView.{RowView as ARow};
-ghost use Rattle.notify_order.specs.Order.{awaits_metadata, book_of, each_below, has_known_streams, holds_back, may_come, may_end};
+ghost use Rattle.cam_types.specs.Rows.{awaits_metadata};
+ghost use Rattle.notify_order.specs.Order.{book_of, each_below, has_known_streams, holds_back, may_come, may_end};
 
 /// The metadata of a frame may end exactly where that of each frame below has ended.
 pub fn metadata_ends_after_all_below()

@@ -1,33 +1,14 @@
 ghost use Rattle.std.specs.Prelude.{◌≡◌};
-ghost use Rattle.notify_order.specs.Order.{awaits_metadata, holds_back, is_held_for, is_returned};
+ghost use Rattle.notify_order.specs.Order.{holds_back, is_held_for};
 
-use cam_types::{Four, PART_COUNT, RowView, TargetState, TargetView};
-
-fn is_returned(state: TargetState) -> bool
-    ensures { result ≡ is_returned state }
-{
-    matches!(
-        state,
-        TargetState::ReturnedEarly
-            | TargetState::EarlyFilled
-            | TargetState::ReturnedOk
-            | TargetState::ReturnedFailed
-    )
-}
-
-/// Whether the metadata of the frame hasn't ended.
-pub(crate) fn awaits_metadata(row: RowView) -> bool
-    ensures { result ≡ awaits_metadata row }
-{
-    row.parts < PART_COUNT && (!row.result_error && !row.request_error)
-}
+use cam_types::{Four, RowView, TargetView};
 
 fn is_held_for(stream: u8, target: Option<TargetView>) -> bool
     ensures { result ≡ is_held_for stream target }
 {
     match target {
         Some(target) => {
-            target.stream.0 == stream && (!is_returned(target.state) && !target.announced)
+            target.stream.0 == stream && (!target.state.is_returned() && !target.announced)
         }
         None => false,
     }

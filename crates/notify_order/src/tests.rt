@@ -79,6 +79,22 @@ const FRAMES: &[Frame] = &[
         (0, false, TargetState::Filled),
         (1, false, TargetState::Waiting),
     ),
+    (
+        1,
+        3,
+        false,
+        false,
+        (2, false, TargetState::ReturnedEarly),
+        (3, false, TargetState::EarlyFilled),
+    ),
+    (
+        0,
+        2,
+        false,
+        false,
+        (1, false, TargetState::EarlyFilled),
+        (0, false, TargetState::ReturnedEarly),
+    ),
 ];
 
 fn target(target: Target) -> Option<TargetView> {
@@ -129,8 +145,11 @@ fn has_known_streams(row: RowView) -> bool
 
 /// Whether the target keeps a later buffer of the stream waiting.
 fn keeps_waiting(target: Target, stream: u8) -> bool {
-    let is_back = target.2 == TargetState::ReturnedOk || target.2 == TargetState::ReturnedFailed;
-    !(target.0 != stream || target.1 || is_back)
+    let is_at_device = matches!(
+        target.2,
+        TargetState::Waiting | TargetState::Out | TargetState::Filled
+    );
+    target.0 == stream && !target.1 && is_at_device
 }
 
 fn asks_each(rt: &impl Abort, book: &OrderBook, noted: &[Frame]) {

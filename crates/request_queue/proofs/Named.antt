@@ -3,7 +3,7 @@ use Rattle.std.proofs.lemmas.Grind.{common_steps}
 use Rattle.circular_buffer.specs.Buffer.{keep_last}
 use Rattle.cam_types.specs.declared.item.Item.{Item}
 use Rattle.cam_types.specs.declared.number.RequestId.{RequestId}
-use Rattle.request_queue.specs.declared.item.Waiting.{Waiting}
+use Rattle.cam_types.specs.declared.request.WaitingItem.{WaitingItem}
 use Rattle.request_queue.specs.Requests.{named}
 
 pub length-named : (r : RequestId) (i : ℕ) (items : List Item) → length (named r i items) ≡ length items
@@ -23,7 +23,7 @@ pub keep_last-all : {X : Type 0} (n : ℕ) (xs : List X) → length xs ≤ n →
 keep_last-all n xs l = let e : length xs - n ≡ 0 = omega arith in grind (arith, common_steps)
 
 -- the item at place i is appended to those before it
-pub append-step : (xs : List Waiting) (r : RequestId) (items : List Item) (i n : ℕ) (d : Item) → i < length items → length xs + length items ≤ n → keep_last n ((xs ++ named r 0 (take i items)) ++ record { request = r; index = i; item = get_or items i d } ∷ []) ≡ xs ++ named r 0 (take (i + 1) items)
+pub append-step : (xs : List WaitingItem) (r : RequestId) (items : List Item) (i n : ℕ) (d : Item) → i < length items → length xs + length items ≤ n → keep_last n ((xs ++ named r 0 (take i items)) ++ record { request = r; index = i; item = get_or items i d } ∷ []) ≡ xs ++ named r 0 (take (i + 1) items)
 append-step xs r items i n d l fits =
     let more : take (i + 1) items ≡ take i items ++ get_or items i d ∷ [] = grind (arith, common_steps) in
     let count : length (take i items) ≡ i = grind (arith, common_steps) in

@@ -2,21 +2,17 @@ use Rattle.std.specs.Prelude.{ℕ, ◌+◌, ◌<◌, ◌≤◌, ◌%◌, true, f
 use Rattle.std.specs.Option.{option_map, option_or}
 use Rattle.cam_types.specs.declared.item.Item.{Item}
 use Rattle.cam_types.specs.declared.number.RequestId.{RequestId}
-use Rattle.request_queue.specs.declared.item.Queued.{Queued}
-use Rattle.request_queue.specs.declared.item.Waiting.{Waiting}
+use Rattle.cam_types.specs.declared.request.Queued.{Queued}
+use Rattle.cam_types.specs.declared.request.WaitingItem.{WaitingItem}
+use Rattle.cam_types.specs.Requests.{Repeating}
 
 -- What is to be captured next: each item of a once or a burst comes one time, in the order of the calls, and the list
 -- of a repeat fills the time in which nothing waits (camera3.h, S2: the framework sends a steady stream of requests;
 -- the queue and the list are our own choice).
 
--- the list that repeats, and the request that it is of
-pub record Repeating : Type 0 where
-  pub request : RequestId
-  pub items : List Item
-
 -- what a queue holds: the items that wait, the list that repeats, and the place in it of the item whose turn it is
 pub record Requests : Type 0 where
-  pub queued : List Waiting
+  pub queued : List WaitingItem
   pub repeating : Option Repeating
   pub place : ℕ
 
@@ -24,15 +20,15 @@ abbrev pub no_requests : Requests
 no_requests = record { queued = []; repeating = None; place = 0 }
 
 -- the items of a request, from place i on
-abbrev pub named : RequestId → ℕ → List Item → List Waiting
+abbrev pub named : RequestId → ℕ → List Item → List WaitingItem
 named r i [] = []
 named r i (item ∷ items) = record { request = r; index = i; item = item } ∷ named r (i + 1) items
 
-abbrev pub as_queued : Waiting → Queued
+abbrev pub as_queued : WaitingItem → Queued
 as_queued w = record { request = w.request; index = w.index; item = w.item; repeating = false }
 
 -- the first that waits
-abbrev pub first_queued : List Waiting → Option Queued
+abbrev pub first_queued : List WaitingItem → Option Queued
 first_queued waiting = option_map as_queued (slice_get waiting 0)
 
 abbrev pub as_repeated : RequestId → ℕ → Item → Queued
@@ -53,7 +49,7 @@ place_after None place = place
 place_after (Some r) place = (place + 1) % length r.items
 
 -- what stays once the next item is taken: the others that wait, or where none does the list with the place moved on
-abbrev pub after_next : List Waiting → Option Repeating → ℕ → Requests
+abbrev pub after_next : List WaitingItem → Option Repeating → ℕ → Requests
 after_next [] repeating place = record { queued = []; repeating = repeating; place = place_after repeating place }
 after_next (_ ∷ others) repeating place = record { queued = others; repeating = repeating; place = place }
 

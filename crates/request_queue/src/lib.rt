@@ -4,7 +4,8 @@
 mod item;
 mod queue;
 
-pub use item::{QueueFull, Queued, Waiting};
+pub use cam_types::Queued;
+pub use item::QueueFull;
 pub use queue::Queue;
 
 #[cfg(test)]

@@ -2,8 +2,10 @@ ghost use Rattle.std.specs.Prelude.{◌≡◌, ◌↔◌, ◌+◌, ◌<◌, ◌�
 ghost use Rattle.circular_buffer.specs.Buffer.{buffer};
 ghost use Rattle.request_queue.specs.Requests.{IsWithin, after_next, first_queued, named, next_item, no_requests, place_after, repeated_at};
 
-use crate::item::{QueueFull, Queued, Waiting};
-use cam_types::{Item, ItemList, NoMemory, QUEUE_LIMIT, REPEAT_LIMIT, RequestId};
+use crate::item::{QueueFull, as_queued};
+use cam_types::{
+    Item, ItemList, NoMemory, QUEUE_LIMIT, Queued, REPEAT_LIMIT, RequestId, WaitingItem,
+};
 use circular_buffer::HeapCircularBuffer;
 use std::alloc::Global;
 use std::marker::Model;
@@ -12,7 +14,7 @@ use std::marker::Model;
 /// repeats, in a cycle. All its memory is taken by `new`.
 #[derive(Drop)]
 pub struct Queue {
-    waiting: HeapCircularBuffer<Waiting>,
+    waiting: HeapCircularBuffer<WaitingItem>,
     /// The items of the list that repeats, where `repeating` names its request.
     cycle: HeapCircularBuffer<Item>,
     repeating: Option<RequestId>,
@@ -86,7 +88,7 @@ impl Queue {
         ensures within { IsWithin self.now }
     {
         match self.waiting.front() {
-            Some(first) => Some(first.queued()),
+            Some(first) => Some(as_queued(*first)),
             None => self.repeated(),
         }
     }
@@ -111,7 +113,7 @@ impl Queue {
         ensures left { self.new ≡ record self.old { queued = drop 1 self.old.queued } }
     {
         let first = self.waiting.pop_front()?;
-        Some(first.queued())
+        Some(as_queued(first))
     }
 
     /// The item of the list that repeats whose turn it is.
@@ -141,13 +143,13 @@ impl Queue {
 }
 
 /// Appends all items of a request to those that wait.
-fn append(waiting: &mut HeapCircularBuffer<Waiting>, request: RequestId, items: &[Item])
+fn append(waiting: &mut HeapCircularBuffer<WaitingItem>, request: RequestId, items: &[Item])
     requires room { length waiting.old.items + length items.now ≤ waiting.old.capacity }
     requires capacity { waiting.old.capacity ≡ QUEUE_LIMIT }
     ensures { waiting.new ≡ buffer (waiting.old.items ++ named request 0 items.now) waiting.old.capacity }
 {
     for (index, item) in items.iter().enumerate() {
-        waiting.push_back(Waiting {
+        waiting.push_back(WaitingItem {
             request,
             index: index as u32,
             item: *item,

@@ -1,2 +1,2 @@
-pub mod Refusal
+pub mod Refused
 pub mod Plan

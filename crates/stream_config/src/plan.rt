@@ -1,8 +1,9 @@
-ghost use Rattle.std.specs.Prelude.{◌≡◌, slice_get};
+ghost use Rattle.std.specs.Prelude.{◌≡◌, slice_get, IsTrue};
 ghost use Rattle.std.specs.Option.{option_map};
-ghost use Rattle.stream_config.specs.Plan.{plan_of, plan_stream, max_buffers};
+ghost use Rattle.cam_types.specs.Profile.{is_profile};
+ghost use Rattle.stream_config.specs.Plan.{plan_of, plan_stream};
 
-use cam_types::{Format, Four, RAW_BUFFERS, SPARE_BUFFERS, StreamSpec, YUV_BUFFERS};
+use cam_types::{Four, Profile, StreamSpec};
 
 /// A stream of an accepted configuration, with the number of its buffers that may be at the device and the number of
 /// buffers in its pool.
@@ -20,43 +21,35 @@ pub struct Plan {
 }
 
 /// The plan of the first four streams.
-pub(crate) fn make_plan(specs: &[StreamSpec]) -> Plan
-    ensures { result ≡ plan_of specs.now }
+pub(crate) fn make_plan(specs: &[StreamSpec], profile: Profile) -> Plan
+    requires { IsTrue (is_profile profile) }
+    ensures { result ≡ plan_of profile specs.now }
 {
     Plan {
         streams: Four {
-            a: stream_at(specs, 0),
-            b: stream_at(specs, 1),
-            c: stream_at(specs, 2),
-            d: stream_at(specs, 3),
+            a: stream_at(specs, 0, profile),
+            b: stream_at(specs, 1, profile),
+            c: stream_at(specs, 2, profile),
+            d: stream_at(specs, 3, profile),
         },
     }
 }
 
-fn stream_at(specs: &[StreamSpec], place: usize) -> Option<PlanStream>
-    ensures { result ≡ option_map plan_stream (slice_get specs.now place) }
+fn stream_at(specs: &[StreamSpec], place: usize, profile: Profile) -> Option<PlanStream>
+    requires { IsTrue (is_profile profile) }
+    ensures { result ≡ option_map (plan_stream profile) (slice_get specs.now place) }
 {
     let spec = specs.get(place)?;
-    Some(planned(*spec))
+    Some(planned(*spec, profile))
 }
 
-fn planned(spec: StreamSpec) -> PlanStream
-    ensures { result ≡ plan_stream spec }
+fn planned(spec: StreamSpec, profile: Profile) -> PlanStream
+    requires { IsTrue (is_profile profile) }
+    ensures { result ≡ plan_stream profile spec }
 {
-    let at_device = buffers_at_device(spec.format);
     PlanStream {
         spec,
-        max_buffers: at_device,
-        pool: at_device + SPARE_BUFFERS,
-    }
-}
-
-fn buffers_at_device(format: Format) -> u32
-    ensures { result ≡ max_buffers format }
-{
-    match format {
-        Format::Raw16 => RAW_BUFFERS,
-        Format::Yuv => YUV_BUFFERS,
-        Format::Other(_) => 0,
+        max_buffers: profile.max_buffers(spec.format),
+        pool: profile.pool_size(spec.format),
     }
 }

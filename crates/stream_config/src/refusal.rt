@@ -1,9 +1,14 @@
 ghost use Rattle.std.specs.Prelude.{◌≡◌, ◌==◌, ◌&&◌, ◌^◌, ◌<◌, ◌≤◌, length, not, count_by, IfSome, IfNone};
 ghost use Rattle.std.specs.List.{list_any, position_from};
+ghost use Rattle.std.specs.Option.{option_map};
 ghost use Rattle.cam_types.specs.Picture.{is_size_of};
-ghost use Rattle.stream_config.specs.Refusal.{at_place, is_raw, is_yuv, specs_refusal};
+ghost use Rattle.cam_types.specs.Refusals.{is_raw, is_yuv, specs_refusal};
+ghost use Rattle.stream_config.specs.Refused.{as_reply};
 
-use cam_types::{Format, STREAM_LIMIT, StreamSpec, frame_bytes};
+use cam_types::{
+    BAD_FORMAT, BAD_SIZE, Format, INPUT_STREAM, NO_OUTPUT, RAW_STREAMS, Reply, STREAM_LIMIT,
+    StreamSpec, TOO_MANY, TOO_MANY_RAW, TOO_MANY_YUV, YUV_STREAMS, frame_bytes,
+};
 
 /// Why a configuration is refused: the refusal's number, and the place of the stream that it speaks of, counted
 /// from 0. The numbers are 21 no output stream, 22 more than 4 streams, 23 an input stream, 24 a format that isn't
@@ -15,30 +20,23 @@ pub struct ConfigRefused {
     pub stream: Option<u32>,
 }
 
-const NO_OUTPUT: u8 = 21;
-
-const TOO_MANY: u8 = 22;
-
-const INPUT_STREAM: u8 = 23;
-
-const BAD_FORMAT: u8 = 24;
-
-const BAD_SIZE: u8 = 25;
-
-const TOO_MANY_RAW: u8 = 26;
-
-const TOO_MANY_YUV: u8 = 27;
-
-/// The most RAW16 streams of a configuration.
-const RAW_STREAMS: usize = 1;
-
-/// The most YUV streams of a configuration.
-const YUV_STREAMS: usize = 3;
+impl ConfigRefused {
+    /// The reply that the refusal is: its stream is the first number.
+    pub fn reply(self) -> Reply
+        ensures { result ≡ as_reply self }
+    {
+        Reply::Refused {
+            code: self.code,
+            first: self.stream,
+            second: None,
+        }
+    }
+}
 
 /// The first refusal whose condition holds.
 pub(crate) fn first_refusal(specs: &[StreamSpec]) -> Option<ConfigRefused>
     requires { length specs.now < 2 ^ 32 }
-    ensures value { result ≡ specs_refusal specs.now }
+    ensures value { option_map as_reply result ≡ specs_refusal specs.now }
     ensures few { IfNone result (length specs.now ≤ STREAM_LIMIT) }
 {
     if !has_output(specs) {

@@ -1,6 +1,6 @@
 //! Each refusal with its stream, the first of two causes, and an accepted configuration.
 use super::*;
-use cam_types::{Format, Four, Listing, NoMemory, SpecList, StreamSpec};
+use cam_types::{Format, Four, Listing, NoMemory, Profile, SpecList, StreamSpec};
 use std::alloc::Global;
 use std::test::Fail;
 
@@ -82,7 +82,7 @@ fn list(alloc: Global, specs: &[StreamSpec]) -> Result<SpecList, NoMemory> {
 #[test]
 fn the_first_cause_refuses(rt: HostRuntime) -> Result<(), Fail> {
     for (specs, code, stream) in REFUSED {
-        let answer = check(&list(rt.alloc(), specs)?);
+        let answer = check(&list(rt.alloc(), specs)?, Profile::PLAIN);
         assert_eq!(rt; answer, Err(ConfigRefused { code, stream }));
     }
     Ok(())
@@ -91,7 +91,7 @@ fn the_first_cause_refuses(rt: HostRuntime) -> Result<(), Fail> {
 #[test]
 fn a_preview_with_stills_is_planned(rt: HostRuntime) -> Result<(), Fail> {
     let specs = [YUV, RAW, LARGE_YUV];
-    let plan = check(&list(rt.alloc(), specs.as_slice())?);
+    let plan = check(&list(rt.alloc(), specs.as_slice())?, Profile::PLAIN);
     let streams = Four {
         a: Some(PlanStream {
             spec: YUV,
@@ -108,6 +108,33 @@ fn a_preview_with_stills_is_planned(rt: HostRuntime) -> Result<(), Fail> {
             max_buffers: 4,
             pool: 6,
         }),
+        d: None,
+    };
+    assert_eq!(rt; plan, Ok(Plan { streams }));
+    Ok(())
+}
+
+#[test]
+fn the_profile_gives_the_numbers(rt: HostRuntime) -> Result<(), Fail> {
+    let profile = Profile {
+        depth: 8,
+        raw: 1,
+        yuv: 16,
+    };
+    let specs = [RAW, YUV];
+    let plan = check(&list(rt.alloc(), specs.as_slice())?, profile);
+    let streams = Four {
+        a: Some(PlanStream {
+            spec: RAW,
+            max_buffers: 1,
+            pool: 3,
+        }),
+        b: Some(PlanStream {
+            spec: YUV,
+            max_buffers: 16,
+            pool: 18,
+        }),
+        c: None,
         d: None,
     };
     assert_eq!(rt; plan, Ok(Plan { streams }));

@@ -1,7 +1,7 @@
 use Rattle.std.proofs.Common.{sym}
 use Rattle.inflight_table.specs.Rows.{row_of, with_mark}
 use Rattle.inflight_table.proofs.Marked.{marked-rows, same-frame}
-use Rattle.inflight_table.proofs.Places.{absent, is_some-is, is_some-none, kept-set, present, sound-at}
+use Rattle.inflight_table.proofs.Places.{absent, is_some-is, is_some-none, kept-set, present, sound-at, same-rows}
 use Rattle.inflight_table.proofs.Reach.{sound-marked}
 use Rattle.inflight_table.proofs.table.Table.mark.Goals as goal
 
@@ -13,12 +13,12 @@ returns-in_default-clause-value g c =
 pub returns-in_default-clause-marked : goal.returns-in_default-clause-marked
 returns-in_default-clause-marked g c =
     let gone = absent c.args.frame.0 c.self.inside.rows.items c.deref.result.now c.place_of.result c.deref.ensures.value c.place_of.ensures c.in_default.is in
-    rw (← c.self.view_is) (sym (gone.same (with_mark c.args.mark)))
+    rw (← c.self.view_is) (same-rows c.self.inside.capacity _ _ (sym (gone.same (with_mark c.args.mark))))
 
 pub invariant_of-self : goal.invariant_of-self
 invariant_of-self g c =
     let there = present c.args.frame.0 c.self.inside.rows.items c.deref.result.now c.place_of.result c.in-Some.place c.index_mut-row.result.now c.deref.ensures.value c.place_of.ensures c.in-Some.is c.index_mut-row.ensures.value c.self.invariant.ordered in
-    kept-set c.args.frame.0 c.self.inside.rows.items c.in-Some.place c.index_mut-row.result.now _ _ c.self.invariant there (same-frame c.args.mark c.index_mut-row.result.now.view c.marked-row.result c.marked-row.ensures) (sound-marked c.args.mark c.index_mut-row.result.now.view c.marked-row.result c.index_mut-row.result.now.parked (sound-at c.self.inside.rows.items c.in-Some.place c.index_mut-row.result.now c.self.invariant.sound there.within c.index_mut-row.ensures.value) c.marked-row.ensures)
+    kept-set c.args.frame.0 c.self.inside.rows.items c.in-Some.place c.index_mut-row.result.now _ _ _ c.self.invariant there (same-frame c.args.mark c.index_mut-row.result.now.view c.marked-row.result c.marked-row.ensures) (sound-marked c.args.mark c.index_mut-row.result.now.view c.marked-row.result c.index_mut-row.result.now.parked (sound-at c.self.inside.rows.items c.in-Some.place c.index_mut-row.result.now c.self.invariant.sound there.within c.index_mut-row.ensures.value) c.marked-row.ensures)
 
 pub returns-clause-value : goal.returns-clause-value
 returns-clause-value g c =
@@ -28,4 +28,4 @@ returns-clause-value g c =
 pub returns-clause-marked : goal.returns-clause-marked
 returns-clause-marked g c =
     let there = present c.args.frame.0 c.self.inside.rows.items c.deref.result.now c.place_of.result c.in-Some.place c.index_mut-row.result.now c.deref.ensures.value c.place_of.ensures c.in-Some.is c.index_mut-row.ensures.value c.self.invariant.ordered in
-    rw (← c.self.view_is) (marked-rows c.args.frame.0 c.args.mark c.self.inside.rows.items c.in-Some.place c.index_mut-row.result.now c.marked-row.result there c.marked-row.ensures)
+    rw (← c.self.view_is) (same-rows c.self.inside.capacity _ _ (marked-rows c.args.frame.0 c.args.mark c.self.inside.rows.items c.in-Some.place c.index_mut-row.result.now c.marked-row.result there c.marked-row.ensures))

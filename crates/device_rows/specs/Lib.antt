@@ -1,0 +1,5 @@
+pub mod Rows
+pub mod Faults
+pub mod Ready
+pub mod Jobs
+pub mod Kept
