@@ -15,6 +15,8 @@ enum Line {
     Fault,
     /// Buffers may come back early.
     Early,
+    /// The second version of scripts.
+    Second,
     /// The device takes only two RAW16 buffers.
     TwoBuffers,
     /// One RAW16 stream.
@@ -41,6 +43,10 @@ const SCRIPTS: &[(&[Line], bool)] = &[
     ),
     (
         &[Line::Early, Line::Raw, Line::Once(100), Line::Close],
+        false,
+    ),
+    (
+        &[Line::Second, Line::Raw, Line::Once(100), Line::Close],
         false,
     ),
     (
@@ -322,7 +328,7 @@ fn raw_streams(alloc: Global, count: u32) -> Result<SpecList, NoMemory> {
 /// The command of a line, if it is one.
 fn command(alloc: Global, line: Line) -> Result<Option<Command>, NoMemory> {
     Ok(match line {
-        Line::Fault | Line::Early | Line::TwoBuffers => None,
+        Line::Fault | Line::Early | Line::Second | Line::TwoBuffers => None,
         Line::Raw => Some(Command::Configure(raw_streams(alloc, 1)?)),
         Line::TwoRaw => Some(Command::Configure(raw_streams(alloc, 2)?)),
         Line::Once(level) => Some(Command::Once(item(level, 0))),
@@ -347,7 +353,7 @@ fn script(alloc: Global, lines: &[Line]) -> Result<Script, NoMemory> {
         }
     }
     Ok(Script {
-        version: 2,
+        version: if has(lines, Line::Second) { 2 } else { 1 },
         profile: Profile {
             raw: if has(lines, Line::TwoBuffers) { 2 } else { 3 },
             ..Profile::PLAIN
