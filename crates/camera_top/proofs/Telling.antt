@@ -1,10 +1,10 @@
 -- What the program tells of an input.
 use Rattle.std.proofs.Common.{◌≡◌, ℕ, ◌<◌, ◌⊎◌, Bool, true, List, [], ◌∷◌, reverse, Option, Some, None, Err, refl, arith, inl, inr, length, nat_lt, IfSome}
+use Rattle.std.proofs.lemmas.Bool.{and_parts}
 use Rattle.std.proofs.lemmas.Bool.Decides.{nat_tests}
 use Rattle.std.specs.List.{list_all}
 use Rattle.std.proofs.lemmas.List.{reverse-append}
 use Rattle.std.proofs.lemmas.List.Folds.{list_all-append}
-use Rattle.camera_top.proofs.Bounds.{and_parts}
 use Rattle.std.specs.Io.KnownBytes.{Keeps}
 use Rattle.script_text.specs.Causes.{number_of}
 use Rattle.script_text.specs.Grammar.{script_of}

@@ -6,10 +6,11 @@ use Rattle.script_text.specs.Causes.{number_of}
 use Rattle.script_text.specs.Grammar.{script_of}
 use Rattle.script_text.specs.declared.cause.ScriptRefused.{ScriptRefused}
 use Rattle.script_text.specs.declared.cause.ScriptRefused.TheVariants.{Bad, NoMemory}
-use Rattle.service_core.specs.First.{IsFirstPlayedRun, IsFirstStuck, move_bound}
-use Rattle.service_core.specs.History.{trace_of}
+use Rattle.run_model.specs.Bounds.{move_bound}
+use Rattle.service_core.specs.First.{IsFirstPlayedRun, IsFirstStuck}
+use Rattle.run_model.specs.History.{trace_of}
 use Rattle.service_core.specs.RawScripts.{is_raw_script}
-use Rattle.service_core.specs.declared.step.Move.{Move}
+use Rattle.run_model.specs.declared.step.Move.{Move}
 use Rattle.trace_text.specs.Spelling.{spelling}
 use Rattle.judge_text.specs.Lines.{refused_script_text}
 use Rattle.camera_top.specs.Answers.{Answers, TellsBy}

@@ -3,7 +3,7 @@ ghost use Rattle.std.specs.Prelude.{◌≡◌, ◌≢◌, ◌≤◌, ◌⊎◌, 
 ghost use Rattle.std.specs.Io.KnownBytes.{IsAtEnd, Keeps};
 ghost use Rattle.io_edge.specs.Faults.{Rose};
 ghost use Rattle.script_text.specs.Grammar.{script_of};
-ghost use Rattle.service_core.specs.History.{trace_of};
+ghost use Rattle.run_model.specs.History.{trace_of};
 ghost use Rattle.trace_text.specs.Spelling.{spelling};
 ghost use Rattle.camera_top.specs.Answers.{Answers};
 ghost use Rattle.camera_top.specs.Says.{IsWhole, Tells};
