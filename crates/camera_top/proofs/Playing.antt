@@ -3,14 +3,14 @@ use Rattle.std.proofs.Common.{◌≡◌, ℕ, zero, suc, ◌%◌, ◌<◌, Bool,
 use Rattle.std.proofs.lemmas.Bool.{cases_Bool, false≢true}
 use Rattle.cam_types.specs.declared.script.Script.{Script}
 use Rattle.trace_model.specs.declared.entry.Entry.{Entry}
-use Rattle.service_core.specs.declared.step.Move.{Move}
+use Rattle.run_model.specs.declared.step.Move.{Move}
 use Rattle.service_core.specs.Answers.{Answers, State}
 use Rattle.service_core.specs.declared.step.Step.{Step}
 use Rattle.service_core.specs.declared.step.Step.TheVariants.{NotReady}
-use Rattle.service_core.specs.declared.step.StepName.{StepName}
+use Rattle.run_model.specs.declared.step.StepName.{StepName}
 use Rattle.service_core.specs.First.{entry_of, first_candidates, first_chosen, first_move_of, first_steps, is_first_ready}
-use Rattle.service_core.specs.History.{trace_of}
-use Rattle.service_core.specs.Played.{pick_at}
+use Rattle.run_model.specs.History.{trace_of}
+use Rattle.run_model.specs.Played.{pick_at}
 
 got : (xs : List StepName) (i : ℕ) → i < length xs → slice_get xs i ≡ None → ⊥
 got [] i l h = absurd (omega arith)

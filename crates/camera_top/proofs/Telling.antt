@@ -1,10 +1,6 @@
 -- What the program tells of an input.
-use Rattle.std.proofs.Common.{◌≡◌, ℕ, ◌<◌, ◌⊎◌, Bool, true, List, [], ◌∷◌, reverse, Option, Some, None, Err, refl, arith, inl, inr, length, nat_lt, IfSome}
+use Rattle.std.proofs.Common.{◌≡◌, ℕ, ◌<◌, ◌⊎◌, true, List, Option, Some, None, Err, refl, arith, inl, inr, length, nat_lt, IfSome}
 use Rattle.std.proofs.lemmas.Bool.Decides.{nat_tests}
-use Rattle.std.specs.List.{list_all}
-use Rattle.std.proofs.lemmas.List.{reverse-append}
-use Rattle.std.proofs.lemmas.List.Folds.{list_all-append}
-use Rattle.camera_top.proofs.Bounds.{and_parts}
 use Rattle.std.specs.Io.KnownBytes.{Keeps}
 use Rattle.script_text.specs.Causes.{number_of}
 use Rattle.script_text.specs.Grammar.{script_of}
@@ -27,11 +23,3 @@ refusal-tells line cause status before after faults faults_after (inr h) = inr (
 pub long-tells : (left : Option (List ℕ)) (status : ℕ) (before after : Option (List ℕ)) (faults faults_after : ℕ) → IfSome left (λ all. 65536 < length all) → ((status ≡ 5) × Keeps before after) ⊎ Answers 1 (refused_script_text 0 37) status before after faults faults_after → IfSome left (λ input. (status ≡ 3) ⊎ Tells (script_of input) status before after faults faults_after)
 long-tells None status before after faults faults_after l h = tt
 long-tells (Some input) status before after faults faults_after l h = rw (too-long input l) (inr (refusal-tells 0 Limit status before after faults faults_after h))
-
--- ---- lists
-
-pub all-reverse : {T : Type 0} (p : T → Bool) (xs : List T) → list_all p xs ≡ true → list_all p (reverse xs) ≡ true
-all-reverse p [] h = refl
-all-reverse p (x ∷ xs) h =
-    let parts = and_parts (p x) (list_all p xs) h in
-    rw (reverse-append (x ∷ []) xs, list_all-append, all-reverse p xs parts.1, parts.0) refl

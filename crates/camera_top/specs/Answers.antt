@@ -5,7 +5,7 @@ use Rattle.io_edge.specs.Faults.{Rose}
 -- What the program answers, and what it writes then. (docs/FORMATS.md)
 
 abbrev pub usage_line : List ℕ
-usage_line = codes "usage: camera play | run --workers N | check | gen SEED COUNT | help\n"
+usage_line = codes "usage: camera play | run --workers N | check | gen SEED COUNT | convert | help\n"
 
 -- what `help` writes
 abbrev pub help_text : List ℕ

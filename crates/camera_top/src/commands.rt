@@ -5,10 +5,12 @@ ghost use Rattle.io_edge.specs.Faults.{Rose};
 ghost use Rattle.script_text.specs.Grammar.{script_of};
 ghost use Rattle.camera_words.specs.Forms.{form_of};
 ghost use Rattle.camera_top.specs.Answers.{Answers, help_text, usage_line};
+ghost use Rattle.camera_top.specs.Converting.{IsConverted, TellsConverted};
 ghost use Rattle.camera_top.specs.Judging.{IsJudgedLegal, TellsVerdict};
 ghost use Rattle.camera_top.specs.Says.{IsWhole, Tells};
 ghost use Rattle.camera_top.specs.Words.{is_built, reads};
 
+use crate::convert::convert_call;
 use crate::judge::check_call;
 use crate::player::play_call;
 use crate::status::{Status, answer};
@@ -17,11 +19,11 @@ use io_edge::{Sink, Source};
 use std::alloc::Global;
 
 /// The line of words that are no form, or of a form whose command isn't built yet.
-const USAGE_LINE: &[u8] = b"usage: camera play | run --workers N | check | gen SEED COUNT | help\n";
+const USAGE_LINE: &[u8] = b"usage: camera play | run --workers N | check | gen SEED COUNT | convert | help\n";
 
 /// What `help` writes: what the program does, and the usage line.
 const HELP_TEXT: &[u8] =
-    b"camera: plays, runs and judges HAL3 camera scripts\nusage: camera play | run --workers N | check | gen SEED COUNT | help\n";
+    b"camera: plays, runs and judges HAL3 camera scripts\nusage: camera play | run --workers N | check | gen SEED COUNT | convert | help\n";
 
 /// Does what the words ask for.
 pub fn camera_main<S: Source, K: Sink>(
@@ -43,11 +45,16 @@ pub fn camera_main<S: Source, K: Sink>(
     // `check`: as `check_call` says.
     ensures judges { form_of words.now ≡ Option.Some Form.Check → IfSome (S.left source.old) (λ input. (result.number ≡ 3) ⊎ TellsVerdict input result.number (K.written sink.old) (K.written sink.new) (K.faults sink.old) (K.faults sink.new)) }
 
+    // `convert`: as `convert_call` says.
+    ensures converts { form_of words.now ≡ Option.Some Form.Convert → IfSome (S.left source.old) (λ input. (result.number ≡ 3) ⊎ TellsConverted input result.number (K.written sink.old) (K.written sink.new) (K.faults sink.old) (K.faults sink.new)) }
+
     // Status 0: the help text; or the source was read to its end, and the whole trace of the script's played run was written,
-    // which is complete; or the trace that was read is a complete legal run of the script that was read.
+    // which is complete; or the trace that was read is a complete legal run of the script that was read; or the trace that was
+    // read was written as one of version 2.
     ensures help_done { form_of words.now ≡ Option.Some Form.Help → result.number ≡ 0 → Appends (K.written sink.old) (K.written sink.new) help_text }
     ensures play_done { form_of words.now ≡ Option.Some Form.Play → result.number ≡ 0 → IsAtEnd (S.left source.new) × IfSome (S.left source.old) (λ input. IsWhole input (K.written sink.old) (K.written sink.new)) }
     ensures check_done { form_of words.now ≡ Option.Some Form.Check → result.number ≡ 0 → IsAtEnd (S.left source.new) × IfSome (S.left source.old) (λ input. IsJudgedLegal input (K.written sink.old) (K.written sink.new)) }
+    ensures convert_done { form_of words.now ≡ Option.Some Form.Convert → result.number ≡ 0 → IsAtEnd (S.left source.new) × IfSome (S.left source.old) (λ input. IsConverted input (K.written sink.old) (K.written sink.new)) }
     ensures done_built { result.number ≡ 0 → is_built (form_of words.now) ≡ true }
 
     // Other words read nothing.
@@ -60,6 +67,7 @@ pub fn camera_main<S: Source, K: Sink>(
     match form_of(words) {
         Some(Form::Play) => play_call(alloc, source, sink),
         Some(Form::Check) => check_call(alloc, source, sink),
+        Some(Form::Convert) => convert_call(alloc, source, sink),
         Some(Form::Help) => help_call(sink),
         Some(Form::Run { .. } | Form::Gen { .. }) | None => usage(sink),
     }

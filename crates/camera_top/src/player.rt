@@ -1,17 +1,15 @@
 //! `play`: a script is read and played, and its trace written.
-ghost use Rattle.std.specs.Prelude.{◌≡◌, ◌≢◌, ◌≤◌, ◌⊎◌, IfSome, Result, reverse};
+ghost use Rattle.std.specs.Prelude.{◌≡◌, ◌≢◌, ◌≤◌, ◌⊎◌, IfSome, Result};
 ghost use Rattle.std.specs.Io.KnownBytes.{IsAtEnd, Keeps};
 ghost use Rattle.io_edge.specs.Faults.{Rose};
 ghost use Rattle.script_text.specs.Grammar.{script_of};
-ghost use Rattle.service_core.specs.History.{trace_of};
-ghost use Rattle.trace_text.specs.Spelling.{spelling};
 ghost use Rattle.camera_top.specs.Answers.{Answers};
-ghost use Rattle.camera_top.specs.Says.{IsWhole, Tells};
+ghost use Rattle.camera_top.specs.Says.{IsWhole, Tells, named_profile, trace_text};
 
 use crate::play::{Ended, move_bound, play};
 use crate::refusal::refuse_script;
 use crate::status::{Status, answer};
-use cam_types::{SCRIPT_BYTES, Script};
+use cam_types::{Profile, SCRIPT_BYTES, Script};
 use io_edge::{ReadBytes, ReadFault, Sink, Source, read_all};
 use run_laws::a_complete_run_keeps_the_laws;
 use script_text::{Cause, ScriptRefused};
@@ -59,6 +57,17 @@ fn play_text<K: Sink>(alloc: Global, input: &[u8], sink: &mut K) -> Status
     }
 }
 
+/// The profile that the first line of a script's trace names: none for a script of version 1.
+fn named_profile(script: &Script) -> Option<Profile>
+    ensures { result ≡ named_profile script.now }
+{
+    if script.version == 1 {
+        None
+    } else {
+        Some(script.profile)
+    }
+}
+
 /// Plays a script and writes its trace.
 fn play_script<K: Sink>(alloc: Global, script: Script, sink: &mut K) -> Status
     ensures { Tells (Result.Ok script) result.number (K.written sink.old) (K.written sink.new) (K.faults sink.old) (K.faults sink.new) }
@@ -67,7 +76,7 @@ fn play_script<K: Sink>(alloc: Global, script: Script, sink: &mut K) -> Status
         return refuse_script(alloc, 0, NOT_BUILT, sink);
     }
     let bound = move_bound(&script);
-    let mut writer = match TraceWriter::new(alloc) {
+    let mut writer = match TraceWriter::new(alloc, named_profile(&script)) {
         Ok(writer) => writer,
         Err(_) => return Status::NO_MEMORY,
     };
@@ -84,7 +93,8 @@ fn play_script<K: Sink>(alloc: Global, script: Script, sink: &mut K) -> Status
 
 /// Writes the trace of a service. All memory was taken before, so that the answer is 0 or 4.
 fn write_trace<K: Sink>(writer: &mut TraceWriter, service: &Service, sink: &mut K) -> Status
-    ensures { Answers 0 (spelling (reverse (trace_of service.now.history))) result.number (K.written sink.old) (K.written sink.new) (K.faults sink.old) (K.faults sink.new) }
+    requires { writer.old ≡ named_profile service.now.script }
+    ensures { Answers 0 (trace_text service.now.script service.now.history) result.number (K.written sink.old) (K.written sink.new) (K.faults sink.old) (K.faults sink.new) }
 {
     service.is_a_run();
     match writer.write(service.trace(), sink) {

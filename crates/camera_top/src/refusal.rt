@@ -9,6 +9,9 @@ use io_edge::Sink;
 use judge_text::{refused_script_text, refused_trace_text};
 use std::alloc::Global;
 
+/// The cause of an input with more bytes than a trace may have.
+pub const TOO_LONG: u8 = 45;
+
 /// Refuses a script.
 pub fn refuse_script<K: Sink>(alloc: Global, line: u32, cause: u8, sink: &mut K) -> Status
     ensures { ((result.number ≡ 5) × Keeps (K.written sink.old) (K.written sink.new)) ⊎ Answers 1 (refused_script_text line cause) result.number (K.written sink.old) (K.written sink.new) (K.faults sink.old) (K.faults sink.new) }
