@@ -3,7 +3,7 @@ use Rattle.std.proofs.Common.{◌≡◌, ◌==◌, Bool, true, false, ◌&&◌, 
 use Rattle.std.specs.List.{list_all}
 use Rattle.std.proofs.lemmas.Bool.{and_parts, false≢true}
 use Rattle.std.proofs.lemmas.Grind.{common_steps}
-use Rattle.cam_types.specs.Profile.{is_plain}
+use Rattle.cam_types.specs.Profile.{profile_fits}
 use Rattle.cam_types.specs.Script.{awaited_by}
 use Rattle.cam_types.specs.declared.script.Command.{Command}
 use Rattle.cam_types.specs.declared.script.Command.TheVariants.{Configure, Once, Close}
@@ -36,7 +36,7 @@ of-commands (other ∷ commands) h = absurd (false≢true h)
 
 pub bounded : (script : Script) → is_raw_script script ≡ true → Bounded script.commands
 bounded script h =
-    let rest = and_parts (is_plain script.profile && not script.early) ((length script.faults == 0) && ((length script.picks == 0) && are_raw_commands script.commands)) h in
+    let rest = and_parts ((script.version == 1) && (profile_fits 1 script.profile && not script.early)) ((length script.faults == 0) && ((length script.picks == 0) && are_raw_commands script.commands)) h in
     let a = and_parts (length script.faults == 0) ((length script.picks == 0) && are_raw_commands script.commands) rest.1 in
     let b = and_parts (length script.picks == 0) (are_raw_commands script.commands) a.1 in
     let c = and_parts (list_all is_raw_command script.commands) (nat_le (count_by is_configure_command script.commands) 1) b.1 in

@@ -30,7 +30,7 @@ fn request_count(commands: &[Command]) -> usize
     commands.iter().filter(|command| is_once(command)).count()
 }
 
-/// More moves than a run of the script makes: see `move_bound` of the service's definitions.
+/// More moves than a run of the script makes: see `move_bound` of the run model.
 pub fn move_bound(script: &Script) -> u64
     requires { is_raw_script script.now ≡ true }
     ensures { result ≡ move_bound script.now }

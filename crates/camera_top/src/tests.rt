@@ -283,9 +283,9 @@ const CASES: &[Case] = &[
         room: 9000,
         sink_piece: 64,
         sink_failing: &[],
-        status: 0,
-        text: Text::Line(VERSION_TWO),
-        written: 48,
+        status: 1,
+        text: Text::Line(NOT_BUILT),
+        written: 20,
     },
     Case {
         words: &["play"],

@@ -14,7 +14,7 @@ use Rattle.cam_types.specs.declared.stream.Format.TheVariants.{Raw16, Yuv, Other
 use Rattle.cam_types.specs.declared.stream.StreamSpec.{StreamSpec}
 use Rattle.trace_model.specs.Calls.{command_at}
 use Rattle.trace_model.specs.Reply.{is_configure_command}
-use Rattle.cam_types.specs.Profile.{is_plain}
+use Rattle.cam_types.specs.Profile.{profile_fits}
 use Rattle.cam_types.specs.Refusals.{or_else, with_value, first_repeated, targets_refusal, item_refusal, is_raw}
 use Rattle.trace_bounds.proofs.NextFits.{at-all}
 use Rattle.service_core.specs.Fit.{asked, configures_at, configures_if_any, raw_spec}
@@ -98,8 +98,9 @@ only-place (c ∷ cs) (suc i) (suc j) few a b = ap suc (only-place cs i j (fewer
 pub raw : (script : Script) → is_raw_script script ≡ true → IsRaw script
 raw script h =
     let profile = script.profile in
-    let form = and_parts (is_plain profile && not script.early) ((length script.faults == 0) && ((length script.picks == 0) && are_raw_commands script.commands)) h in
-    let device = and_parts (is_plain profile) (not script.early) form.0 in
+    let form = and_parts ((script.version == 1) && (profile_fits 1 profile && not script.early)) ((length script.faults == 0) && ((length script.picks == 0) && are_raw_commands script.commands)) h in
+    let head = and_parts (script.version == 1) (profile_fits 1 profile && not script.early) form.0 in
+    let device = and_parts (profile_fits 1 profile) (not script.early) head.1 in
     let numbers = and_parts (profile.depth == 6) ((profile.raw == 3) && (profile.yuv == 4)) device.0 in
     let parts = and_parts (length script.faults == 0) ((length script.picks == 0) && are_raw_commands script.commands) form.1 in
     let parts' = and_parts (length script.picks == 0) (are_raw_commands script.commands) parts.1 in

@@ -4,7 +4,7 @@ use Rattle.cam_types.specs.declared.script.Command.{Command}
 use Rattle.cam_types.specs.declared.script.Command.TheVariants.{Configure, Once, Close}
 use Rattle.cam_types.specs.declared.script.Script.{Script}
 use Rattle.cam_types.specs.declared.stream.StreamSpec.{StreamSpec}
-use Rattle.cam_types.specs.Profile.{is_plain}
+use Rattle.cam_types.specs.Profile.{profile_fits}
 use Rattle.cam_types.specs.Refusals.{is_raw}
 use Rattle.trace_model.specs.Reply.{is_configure_command}
 
@@ -30,8 +30,8 @@ is_raw_command _ = false
 abbrev pub are_raw_commands : List Command → Bool
 are_raw_commands commands = list_all is_raw_command commands && nat_le (count_by is_configure_command commands) 1
 
--- the script has this form, no faults, no picks and no early returns, and its device the plain profile
+-- the script is of the first version, with its plain profile, and has this form, no faults, no picks and no early returns
 abbrev pub is_raw_script : Script → Bool
 is_raw_script script =
-    (is_plain script.profile && not script.early)
+    ((script.version == 1) && (profile_fits 1 script.profile && not script.early))
     && ((length script.faults == 0) && ((length script.picks == 0) && are_raw_commands script.commands))

@@ -14,8 +14,8 @@ ghost use Rattle.service_core.specs.Due.{buffer_number, client_of, close_of, clo
 
 use cam_types::{
     BufferId, CLOSED, Command, FIRST_SHUTTER, FRAME_TIME, FenceNo, Four, FrameNo, Item, Made,
-    NOT_CONFIGURED, NoMemory, QUEUE_FULL, QUEUE_LIMIT, Reply, RequestId, Script, Settings, StreamIx,
-    Targets, Word,
+    NOT_CONFIGURED, NoMemory, QUEUE_FULL, QUEUE_LIMIT, Reply, RequestId, Script, Settings,
+    StreamIx, Targets, Word,
 };
 use item_checks::item_refusal;
 use partial_results::part;
