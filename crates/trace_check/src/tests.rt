@@ -109,34 +109,36 @@ const fn filled(number: u32) -> Entry {
 }
 
 /// The run of one frame, and at the end an early return of its buffer and the signal of the device fence.
-const ONE_FRAME: &[Entry] = &[
-    begin(Word::Configure),
-    configured(5),
-    call(1, Word::Once, Reply::Submitted(RequestId(0))),
-    sent(0),
-    begin(Word::Close),
-    shutter(0, 1_000_000_000),
-    partial(0, 1, LOOK),
-    partial(0, 2, LIGHT),
-    partial(0, 3, time(1_000_000_000)),
-    filled(0),
-    Entry::Release {
-        buffer: BufferId(0),
-        fence: FenceNo(0),
-    },
-    Entry::Signal { fence: FenceNo(0) },
-    call(2, Word::Close, Reply::Ok),
-    Entry::Early {
-        frame: FrameNo(0),
-        stream: StreamIx(0),
-        buffer: BufferId(0),
-        fence: FenceNo(0),
-    },
-    Entry::Late {
-        fence: FenceNo(0),
-        digest: GREY,
-    },
-];
+fn one_frame() -> [Entry; 15] {
+    [
+        begin(Word::Configure),
+        configured(5),
+        call(1, Word::Once, Reply::Submitted(RequestId(0))),
+        sent(0),
+        begin(Word::Close),
+        shutter(0, 1_000_000_000),
+        partial(0, 1, LOOK),
+        partial(0, 2, LIGHT),
+        partial(0, 3, time(1_000_000_000)),
+        filled(0),
+        Entry::Release {
+            buffer: BufferId(0),
+            fence: FenceNo(0),
+        },
+        Entry::Signal { fence: FenceNo(0) },
+        call(2, Word::Close, Reply::Ok),
+        Entry::Early {
+            frame: FrameNo(0),
+            stream: StreamIx(0),
+            buffer: BufferId(0),
+            fence: FenceNo(0),
+        },
+        Entry::Late {
+            fence: FenceNo(0),
+            digest: GREY,
+        },
+    ]
+}
 
 const fn illegal(position: u32, rule: RuleName) -> Verdict {
     Verdict::IllegalAt { position, rule }
@@ -156,20 +158,40 @@ const ROWS: &[(bool, &[usize], Verdict)] = &[
     (
         false,
         &[0, 1, 2, 3, 4, 5, 6, 8, 7, 9, 10, 11, 12],
-        illegal(7, RuleName::D12),
+        Verdict::IllegalAt {
+            position: 7,
+            rule: RuleName::D12,
+        },
     ),
     (
         false,
         &[0, 1, 2, 3, 4, 5, 6, 7, 8, 9, 10, 12],
-        incomplete(MissingPart::Signal),
+        Verdict::Incomplete {
+            part: MissingPart::Signal,
+        },
     ),
     (
         false,
         &[0, 1, 2, 3, 4, 5, 6, 7, 8, 9, 10, 11],
-        incomplete(MissingPart::Calls),
+        Verdict::Incomplete {
+            part: MissingPart::Calls,
+        },
     ),
-    (false, &[], incomplete(MissingPart::Calls)),
-    (false, &[0, 0], illegal(1, RuleName::D15)),
+    (
+        false,
+        &[],
+        Verdict::Incomplete {
+            part: MissingPart::Calls,
+        },
+    ),
+    (
+        false,
+        &[0, 0],
+        Verdict::IllegalAt {
+            position: 1,
+            rule: RuleName::D15,
+        },
+    ),
     (
         true,
         &[0, 1, 2, 3, 4, 5, 13, 6, 7, 8, 14, 10, 11, 12],
@@ -178,19 +200,42 @@ const ROWS: &[(bool, &[usize], Verdict)] = &[
     (
         true,
         &[0, 1, 2, 3, 4, 5, 13, 6, 7, 8, 10, 14, 11, 12],
-        illegal(10, RuleName::D15),
+        Verdict::IllegalAt {
+            position: 10,
+            rule: RuleName::D15,
+        },
     ),
     (
         false,
         &[0, 1, 2, 3, 4, 5, 13, 6, 7, 8, 14, 10, 11, 12],
-        illegal(6, RuleName::D13),
+        Verdict::IllegalAt {
+            position: 6,
+            rule: RuleName::D13,
+        },
     ),
-    (true, &[0, 1, 2, 3, 4, 5, 14], illegal(6, RuleName::D13)),
-    (true, &[0, 1, 2, 3, 4, 5, 13, 13], illegal(7, RuleName::D13)),
+    (
+        true,
+        &[0, 1, 2, 3, 4, 5, 14],
+        Verdict::IllegalAt {
+            position: 6,
+            rule: RuleName::D13,
+        },
+    ),
+    (
+        true,
+        &[0, 1, 2, 3, 4, 5, 13, 13],
+        Verdict::IllegalAt {
+            position: 7,
+            rule: RuleName::D13,
+        },
+    ),
     (
         true,
         &[0, 1, 2, 3, 4, 5, 13, 14, 14],
-        illegal(8, RuleName::D13),
+        Verdict::IllegalAt {
+            position: 8,
+            rule: RuleName::D13,
+        },
     ),
 ];
 
@@ -242,11 +287,12 @@ fn add(trace: &mut TraceList, entry: Entry) -> Result<(), Fail> {
 #[test]
 fn one_frame_and_breaches_of_it(rt: HostRuntime) -> Result<(), Fail> {
     let mut script = one_stream(rt.alloc(), Format::Raw16, 1)?;
+    let entries = one_frame();
     for (early, places, verdict) in ROWS {
         script.early = *early;
         let mut trace = TraceList::new(rt.alloc());
         for place in *places {
-            add(&mut trace, *ONE_FRAME.get(*place).ok_or("an entry")?)?;
+            add(&mut trace, *entries.get(*place).ok_or("an entry")?)?;
         }
         assert!(rt; check(rt.alloc(), &script, &trace)? == *verdict);
     }
