@@ -1,5 +1,5 @@
-use Rattle.std.specs.Prelude.{◌≡◌, ℕ, false, true, List, Option, Some, Result, Ok, Err, length, nat_lt, ◌⊎◌}
-use Rattle.std.specs.Io.KnownBytes.{Appends}
+use Rattle.std.specs.Prelude.{◌≡◌, ℕ, false, true, List, Some, Result, Ok, Err, length, nat_lt, ◌⊎◌}
+use Rattle.io_edge.specs.States.{SinkState, Writes}
 use Rattle.trace_model.specs.declared.list.TraceList.{TraceList}
 use Rattle.trace_reader.specs.Causes.{number_of}
 use Rattle.trace_reader.specs.Grammar.{trace_of}
@@ -9,7 +9,6 @@ use Rattle.trace_text.specs.Spelling.{spelling}
 use Rattle.judge_text.specs.Lines.{refused_trace_text}
 use Rattle.judge_text.specs.Meaning.{input_limit}
 use Rattle.judge_text.specs.Profiles.{profile_of}
-use Rattle.camera_top.specs.Answers.{TellsBy}
 
 -- What `convert` answers and writes. (docs/FORMATS.md)
 
@@ -29,17 +28,9 @@ ConvertsInput input status text =
     ((nat_lt input_limit (length input) ≡ true) × (status ≡ 1) × (text ≡ refused_trace_text 0 45))
     ⊎ ((nat_lt input_limit (length input) ≡ false) × Converts (trace_of 1 input) status text)
 
--- what `convert` answers and writes, of what the input means
-abbrev pub TellsMeaning : Result TraceList TraceRefused → ℕ → Option (List ℕ) → Option (List ℕ) → ℕ → ℕ → Type 0
-TellsMeaning meaning status before after faults faults_after = TellsBy (Converts meaning) status before after faults faults_after
-
--- and of an input
-abbrev pub TellsConverted : List ℕ → ℕ → Option (List ℕ) → Option (List ℕ) → ℕ → ℕ → Type 0
-TellsConverted input status before after faults faults_after = TellsBy (ConvertsInput input) status before after faults faults_after
-
 -- the input is the spelling of a trace, and what was written is the whole of that trace as one of version 2
-pub record IsConverted (input : List ℕ) (before after : Option (List ℕ)) : Type 0 where
+pub record IsConverted (input : List ℕ) (before after : SinkState) : Type 0 where
   pub trace : TraceList
   pub meaning : trace_of 1 input ≡ Ok trace
   pub spelled : input ≡ spelling trace.profile trace.entries
-  pub written : Appends before after (version_two trace)
+  pub written : Writes before after (version_two trace)

@@ -1,5 +1,5 @@
 use Rattle.std.specs.Prelude.{◌≡◌, ◌==◌, ◌≤◌, ℕ, false, length, List, Option, Some, None, Result, Ok, Err, ◌⊎◌, codes, reverse, if◌then◌else◌}
-use Rattle.std.specs.Io.KnownBytes.{Appends}
+use Rattle.io_edge.specs.States.{SinkState, Writes}
 use Rattle.cam_types.specs.declared.profile.Profile.{Profile}
 use Rattle.cam_types.specs.declared.script.Script.{Script}
 use Rattle.run_laws.specs.Lawful.{KeepsLaws}
@@ -14,7 +14,6 @@ use Rattle.service_core.specs.First.{IsFirstPlayedRun, IsFirstStuck}
 use Rattle.service_core.specs.RawScripts.{is_raw_script}
 use Rattle.trace_text.specs.Spelling.{spelling}
 use Rattle.judge_text.specs.Lines.{refused_script_text}
-use Rattle.camera_top.specs.Answers.{Answers, TellsBy}
 
 -- The status and the whole text that belong to an input: what `play` writes. (docs/FORMATS.md)
 
@@ -55,16 +54,12 @@ SaysOf (Err NoMemory) status text = ⊥
 abbrev pub Says : List ℕ → ℕ → List ℕ → Type 0
 Says input status text = SaysOf (script_of input) status text
 
--- what `play` answers and writes
-abbrev pub Tells : Result Script ScriptRefused → ℕ → Option (List ℕ) → Option (List ℕ) → ℕ → ℕ → Type 0
-Tells meaning status before after faults faults_after = TellsBy (SaysOf meaning) status before after faults faults_after
-
 -- the headline: the source's bytes spell a script, and what was written is the spelling of the trace of its played run, which is
 -- complete and keeps the laws
-pub record IsWhole (input : List ℕ) (before after : Option (List ℕ)) : Type 0 where
+pub record IsWhole (input : List ℕ) (before after : SinkState) : Type 0 where
   pub script : Script
   pub meaning : script_of input ≡ Ok script
   pub history : List Move
   pub run : IsFirstPlayedRun script history
   pub lawful : KeepsLaws script (trace_of history)
-  pub written : Appends before after (trace_text script history)
+  pub written : Writes before after (trace_text script history)

@@ -1,11 +1,13 @@
 //! `convert`: a trace is read, and written as one of version 2.
 ghost use Rattle.std.specs.Prelude.{◌≡◌, ◌≢◌, ◌≤◌, ◌⊎◌, IfSome, Result, length, true};
-ghost use Rattle.std.specs.Io.KnownBytes.{IsAtEnd, Keeps};
+ghost use Rattle.std.specs.Io.KnownBytes.{IsAtEnd};
 ghost use Rattle.std.specs.List.{list_all};
 ghost use Rattle.io_edge.specs.Faults.{Rose};
+ghost use Rattle.io_edge.specs.States.{Writes, WritesNothing};
 ghost use Rattle.trace_model.specs.Printable.{is_printable};
 ghost use Rattle.trace_reader.specs.Grammar.{trace_of};
-ghost use Rattle.camera_top.specs.Converting.{IsConverted, TellsConverted, TellsMeaning};
+ghost use Rattle.camera_top.specs.Answers.{Tells, TellsBy};
+ghost use Rattle.camera_top.specs.Converting.{Converts, ConvertsInput, IsConverted};
 
 use crate::refusal::{TOO_LONG, refuse_trace};
 use crate::status::Status;
@@ -20,13 +22,15 @@ use trace_writer::TraceWriter;
 pub fn convert_call<S: Source, K: Sink>(alloc: Global, source: &mut S, sink: &mut K) -> Status
     // At status 0 the source was read to its end, its bytes are the spelling of a trace, and what was written is the whole
     // spelling of that trace with the first line of version 2, and nothing else.
-    ensures whole { result.number ≡ 0 → IsAtEnd (S.left source.new) × IfSome (S.left source.old) (λ input. IsConverted input (K.written sink.old) (K.written sink.new)) }
+    ensures whole { result.number ≡ 0 → IsAtEnd (S.left source.new)
+        × IfSome (S.left source.old) (λ input. IsConverted input (K.state sink.old) (K.state sink.new)) }
     // Each status and each text has its cause in the input's meaning: where no end failed and memory was there, the status
     // and the text are those that belong to it. At status 4 a front of that text is written.
-    ensures tells { IfSome (S.left source.old) (λ input. (result.number ≡ 3) ⊎ TellsConverted input result.number (K.written sink.old) (K.written sink.new) (K.faults sink.old) (K.faults sink.new)) }
-    ensures source_failed { result.number ≡ 3 → Rose (S.faults source.old) (S.faults source.new) × Keeps (K.written sink.old) (K.written sink.new) }
-    ensures sink_failed { result.number ≡ 4 → Rose (K.faults sink.old) (K.faults sink.new) }
-    ensures no_memory { result.number ≡ 5 → Keeps (K.written sink.old) (K.written sink.new) }
+    ensures tells { Tells ConvertsInput (S.left source.old) result.number (K.state sink.old) (K.state sink.new) }
+    ensures source_failed { result.number ≡ 3 → Rose (S.faults source.old) (S.faults source.new)
+        × WritesNothing (K.state sink.old) (K.state sink.new) }
+    ensures sink_failed { result.number ≡ 4 → Rose (K.state sink.old).faults (K.state sink.new).faults }
+    ensures no_memory { result.number ≡ 5 → WritesNothing (K.state sink.old) (K.state sink.new) }
     ensures known { result.number ≤ 5 }
     ensures no_usage { result.number ≢ 2 }
 {
@@ -42,7 +46,7 @@ pub fn convert_call<S: Source, K: Sink>(alloc: Global, source: &mut S, sink: &mu
 /// Reads a trace from its text, and writes it as one of version 2.
 fn convert_text<K: Sink>(alloc: Global, text: &[u8], sink: &mut K) -> Status
     requires { length text.now ≤ 134217728 }
-    ensures { TellsMeaning (trace_of 1 text.now) result.number (K.written sink.old) (K.written sink.new) (K.faults sink.old) (K.faults sink.new) }
+    ensures { TellsBy (Converts (trace_of 1 text.now)) result.number (K.state sink.old) (K.state sink.new) }
 {
     read_is_spelled();
     match read(alloc, text, 1) {
@@ -55,7 +59,7 @@ fn convert_text<K: Sink>(alloc: Global, text: &[u8], sink: &mut K) -> Status
 /// Writes a trace as one of version 2. All memory is taken before the first write.
 fn write_version_two<K: Sink>(alloc: Global, trace: &TraceList, sink: &mut K) -> Status
     requires { list_all is_printable trace.now.entries ≡ true }
-    ensures { TellsMeaning (Result.Ok trace.now) result.number (K.written sink.old) (K.written sink.new) (K.faults sink.old) (K.faults sink.new) }
+    ensures { TellsBy (Converts (Result.Ok trace.now)) result.number (K.state sink.old) (K.state sink.new) }
 {
     let mut writer = match TraceWriter::new(alloc, Some(profile_of(trace))) {
         Ok(writer) => writer,

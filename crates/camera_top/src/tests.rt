@@ -21,7 +21,8 @@ const NOT_BUILT: &[u8] = b"refused script 0 39\n";
 
 const TOO_LONG: &[u8] = b"refused script 0 37\n";
 
-const USAGE: &[u8] = b"usage: camera play | run --workers N | check | gen SEED COUNT | convert | help\n";
+const USAGE: &[u8] =
+    b"usage: camera play | run --workers N | check | gen SEED COUNT | convert | help\n";
 
 const HELP: &[u8] =
     b"camera: plays, runs and judges HAL3 camera scripts\nusage: camera play | run --workers N | check | gen SEED COUNT | convert | help\n";
