@@ -1,5 +1,5 @@
 -- What holds of the commands of a raw script, and of an item that isn't refused.
-use Rattle.std.proofs.Common.{◌≡◌, ℕ, zero, suc, ◌==◌, ◌+◌, ◌≤◌, true, false, ◌&&◌, not, List, [], ◌∷◌, Option, Some, None, refl, sym, ap, ◌∙◌, arith, inl, inr, nat_le, nat_lt, find, length, count_by, slice_get}
+use Rattle.std.proofs.Common.{◌≡◌, ℕ, zero, suc, ◌==◌, ◌≤◌, true, false, ◌&&◌, not, List, [], ◌∷◌, Option, Some, None, refl, sym, ap, ◌∙◌, arith, inl, inr, nat_le, nat_lt, find, length, count_by, slice_get}
 use Rattle.std.specs.List.{list_all}
 use Rattle.std.proofs.lemmas.Bool.{cases_Bool, false≢true, and_parts}
 use Rattle.std.proofs.lemmas.Bool.Decides.{nat_tests}
@@ -19,7 +19,7 @@ use Rattle.cam_types.specs.Refusals.{or_else, with_value, first_repeated, target
 use Rattle.trace_bounds.proofs.NextFits.{at-all}
 use Rattle.service_core.specs.Fit.{asked, configures_at, configures_if_any, raw_spec}
 use Rattle.service_core.specs.RawScripts.{is_raw_spec, is_raw_alone, is_raw_command, are_raw_commands, is_raw_script}
-use Rattle.basic_lemmas.proofs.Counts.{count-cons}
+use Rattle.basic_lemmas.proofs.Counts.{count-one, count-over}
 
 -- what it means that a script is a raw one
 pub record IsRaw (script : Script) : Type 0 where
@@ -61,18 +61,11 @@ specs-are (spec ∷ (other ∷ specs)) h = absurd (false≢true h)
 
 -- ---- the one configure
 
--- a command that doesn't configure leaves the count, and one that does raises it
-count-without : (c : Command) (cs : List Command) → is_configure_command c ≡ false → count_by is_configure_command (c ∷ cs) ≡ count_by is_configure_command cs
-count-without c cs h = count-cons is_configure_command c cs ∙ rw h (omega arith)
-
-count-with : (c : Command) (cs : List Command) → is_configure_command c ≡ true → count_by is_configure_command (c ∷ cs) ≡ 1 + count_by is_configure_command cs
-count-with c cs h = count-cons is_configure_command c cs ∙ rw h refl
-
 none-there : (cs : List Command) (i : ℕ) → count_by is_configure_command cs ≡ 0 → configures_if_any (slice_get cs i) ≡ false
 none-there [] i h = refl
 none-there (c ∷ cs) i h = elim (cases_Bool (is_configure_command c)) [
-  | inl y ↦ absurd (let e = count-with c cs y in omega (arith, e, h))
-  | inr n ↦ at i n (none-there cs) (let e = count-without c cs n in omega (arith, e, h))
+  | inl y ↦ absurd (let e = count-one is_configure_command c cs y in omega (arith, e, h))
+  | inr n ↦ at i n (none-there cs) (let e = count-over is_configure_command c cs n in omega (arith, e, h))
 ]
   where
     at : (i : ℕ) → is_configure_command c ≡ false → ((j : ℕ) → count_by is_configure_command cs ≡ 0 → configures_if_any (slice_get cs j) ≡ false) → count_by is_configure_command cs ≡ 0 → configures_if_any (slice_get (c ∷ cs) i) ≡ false
@@ -81,12 +74,12 @@ none-there (c ∷ cs) i h = elim (cases_Bool (is_configure_command c)) [
 
 fewer : (c : Command) (cs : List Command) → count_by is_configure_command (c ∷ cs) ≤ 1 → count_by is_configure_command cs ≤ 1
 fewer c cs few = elim (cases_Bool (is_configure_command c)) [
-  | inl y ↦ (let e = count-with c cs y in omega (arith, e, few))
-  | inr n ↦ (let e = count-without c cs n in omega (arith, e, few))
+  | inl y ↦ (let e = count-one is_configure_command c cs y in omega (arith, e, few))
+  | inr n ↦ (let e = count-over is_configure_command c cs n in omega (arith, e, few))
 ]
 
 none-behind : (c : Command) (cs : List Command) → count_by is_configure_command (c ∷ cs) ≤ 1 → is_configure_command c ≡ true → count_by is_configure_command cs ≡ 0
-none-behind c cs few y = let e = count-with c cs y in omega (arith, e, few)
+none-behind c cs few y = let e = count-one is_configure_command c cs y in omega (arith, e, few)
 
 only-place : (cs : List Command) (i j : ℕ) → count_by is_configure_command cs ≤ 1 → configures_if_any (slice_get cs i) ≡ true → configures_if_any (slice_get cs j) ≡ true → i ≡ j
 only-place [] i j few a b = absurd (false≢true a)
