@@ -41,8 +41,10 @@ fn answer<S: Source, K: Sink>(
     source: &mut S,
     sink: &mut K,
 ) -> Result<Status, NoMemory>
-    ensures source_failed { IfOk result (λ status. status.number ≡ 3 → Rose (S.faults source.old) (S.faults source.new) × WritesNothing (K.state sink.old) (K.state sink.new)) }
-    ensures sink_failed { IfOk result (λ status. status.number ≡ 4 → Rose (K.state sink.old).faults (K.state sink.new).faults) }
+    ensures source_failed { IfOk result (λ status. status.number ≡ 3 → Rose (S.faults source.old) (S.faults source.new)
+        × WritesNothing (K.state sink.old) (K.state sink.new)) }
+    ensures sink_failed { IfOk result (λ status. status.number ≡ 4
+        → Rose (K.state sink.old).faults (K.state sink.new).faults) }
     ensures known { IfOk result (λ status. status.number ≤ 6) }
     ensures no_memory { OnErr result (WritesNothing (K.state sink.old) (K.state sink.new)) }
 {

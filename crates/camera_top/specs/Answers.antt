@@ -29,15 +29,14 @@ abbrev pub AnswersWithMemory : ℕ → List ℕ → ℕ → SinkState → SinkSt
 AnswersWithMemory wanted text status before after =
     ((status ≡ 5) × WritesNothing before after) ⊎ Answers wanted text status before after
 
--- What a call answers and writes: a status and a text that belong to its input; 4 and a front of that text where the sink
--- failed; 5 where memory ran out, and nothing is written.
+-- What a call answers and writes: a status and a text that belong to its input; 4 and a front of that text where the
+-- sink failed; 5 where memory ran out, and nothing is written.
 abbrev pub TellsBy : (ℕ → List ℕ → Type 0) → ℕ → SinkState → SinkState → Type 0
 TellsBy Belongs status before after =
     ((status ≡ 5) × WritesNothing before after)
     ⊎ ((wanted : ℕ) × (text : List ℕ) × Belongs wanted text × Answers wanted text status before after)
 
--- The same of a call that reads its input, which is what the source has left, where it tells that. At status 3 the source
--- failed.
+-- The same of a call that reads its input: what the source has left, where it tells that. At status 3 the source failed.
 abbrev pub Tells : (List ℕ → ℕ → List ℕ → Type 0) → Option (List ℕ) → ℕ → SinkState → SinkState → Type 0
 Tells Belongs left status before after =
     IfSome left (λ input. (status ≡ 3) ⊎ TellsBy (Belongs input) status before after)

@@ -11,8 +11,8 @@ use Rattle.judge_text.specs.Profiles.{profile_of}
 
 -- What `check` says of a legal trace. (docs/FORMATS.md)
 
--- the input is a script and a trace of its profile, the trace is a complete legal run of the script, which keeps the laws, and
--- `legal` was written
+-- the input is a script and a trace of its profile, the trace is a complete legal run of the script, which keeps the
+-- laws, and `legal` was written
 pub record IsJudgedLegal (input : List ℕ) (before after : SinkState) : Type 0 where
   pub script : Script
   pub meaning : script_of (script_part input) ≡ Ok script

@@ -54,8 +54,8 @@ SaysOf (Err NoMemory) status text = ⊥
 abbrev pub Says : List ℕ → ℕ → List ℕ → Type 0
 Says input status text = SaysOf (script_of input) status text
 
--- the headline: the source's bytes spell a script, and what was written is the spelling of the trace of its played run, which is
--- complete and keeps the laws
+-- the headline: the source's bytes spell a script, and what was written is the spelling of the trace of its played run,
+-- which is complete and keeps the laws
 pub record IsWhole (input : List ℕ) (before after : SinkState) : Type 0 where
   pub script : Script
   pub meaning : script_of input ≡ Ok script

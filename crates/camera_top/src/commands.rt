@@ -55,16 +55,17 @@ pub fn camera_main<S: Source, K: Sink>(
     ensures converts { form_of words.now ≡ Option.Some Form.Convert
         → Tells ConvertsInput (S.left source.old) result.number (K.state sink.old) (K.state sink.new) }
 
-    // Status 0: the help text; or the source was read to its end, and the whole trace of the script's played run was written,
-    // which is complete; or the trace that was read is a complete legal run of the script that was read; or the trace that was
-    // read was written as one of version 2.
+    // Status 0: the help text; or the source was read to its end, and the whole trace of the script's played run was
+    // written, which is complete; or the trace that was read is a complete legal run of the script that was read; or
+    // the trace that was read was written as one of version 2.
     ensures help_done { form_of words.now ≡ Option.Some Form.Help → result.number ≡ 0
         → Writes (K.state sink.old) (K.state sink.new) help_text }
     ensures play_done { form_of words.now ≡ Option.Some Form.Play → result.number ≡ 0 → IsAtEnd (S.left source.new)
         × IfSome (S.left source.old) (λ input. IsWhole input (K.state sink.old) (K.state sink.new)) }
     ensures check_done { form_of words.now ≡ Option.Some Form.Check → result.number ≡ 0 → IsAtEnd (S.left source.new)
         × IfSome (S.left source.old) (λ input. IsJudgedLegal input (K.state sink.old) (K.state sink.new)) }
-    ensures convert_done { form_of words.now ≡ Option.Some Form.Convert → result.number ≡ 0 → IsAtEnd (S.left source.new)
+    ensures convert_done { form_of words.now ≡ Option.Some Form.Convert → result.number ≡ 0
+        → IsAtEnd (S.left source.new)
         × IfSome (S.left source.old) (λ input. IsConverted input (K.state sink.old) (K.state sink.new)) }
     ensures done_built { result.number ≡ 0 → is_built (form_of words.now) ≡ true }
 

@@ -20,12 +20,12 @@ use trace_writer::TraceWriter;
 
 /// Reads a trace and writes it as one of version 2, with the profile that it names, or 6 3 4.
 pub fn convert_call<S: Source, K: Sink>(alloc: Global, source: &mut S, sink: &mut K) -> Status
-    // At status 0 the source was read to its end, its bytes are the spelling of a trace, and what was written is the whole
-    // spelling of that trace with the first line of version 2, and nothing else.
+    // At status 0 the source was read to its end, its bytes are the spelling of a trace, and what was written is the
+    // whole spelling of that trace with the first line of version 2, and nothing else.
     ensures whole { result.number ≡ 0 → IsAtEnd (S.left source.new)
         × IfSome (S.left source.old) (λ input. IsConverted input (K.state sink.old) (K.state sink.new)) }
-    // Each status and each text has its cause in the input's meaning: where no end failed and memory was there, the status
-    // and the text are those that belong to it. At status 4 a front of that text is written.
+    // Each status and each text has its cause in the input's meaning: where no end failed and memory was there, the
+    // status and the text are those that belong to it. At status 4 a front of that text is written.
     ensures tells { Tells ConvertsInput (S.left source.old) result.number (K.state sink.old) (K.state sink.new) }
     ensures source_failed { result.number ≡ 3 → Rose (S.faults source.old) (S.faults source.new)
         × WritesNothing (K.state sink.old) (K.state sink.new) }

@@ -30,8 +30,8 @@ pub fn check_call<S: Source, K: Sink>(alloc: Global, source: &mut S, sink: &mut 
     // complete legal run of the script and keeps the laws.
     ensures legal { result.number ≡ 0 → IsAtEnd (S.left source.new)
         × IfSome (S.left source.old) (λ input. IsJudgedLegal input (K.state sink.old) (K.state sink.new)) }
-    // Each status and each text has its cause in the input's meaning: where no end failed and memory was there, the status
-    // and the text are those that belong to it. At status 4 a front of that text is written.
+    // Each status and each text has its cause in the input's meaning: where no end failed and memory was there, the
+    // status and the text are those that belong to it. At status 4 a front of that text is written.
     ensures tells { Tells Judges (S.left source.old) result.number (K.state sink.old) (K.state sink.new) }
     ensures source_failed { result.number ≡ 3 → Rose (S.faults source.old) (S.faults source.new)
         × WritesNothing (K.state sink.old) (K.state sink.new) }
@@ -83,8 +83,8 @@ fn judge_text_of<K: Sink>(
     }
 }
 
-/// Compares the profiles of a script and a trace, whose first line has the number; where they agree, judges the trace and
-/// writes its verdict.
+/// Compares the profiles of a script and a trace, whose first line has the number; where they agree, judges the trace
+/// and writes its verdict.
 fn judge_trace<K: Sink>(
     alloc: Global,
     script: &Script,

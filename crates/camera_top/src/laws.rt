@@ -7,5 +7,6 @@ ghost use Rattle.service_core.specs.First.{IsFirstPlayedRun, IsFirstStuck};
 
 /// A script whose run is complete within the bound on moves isn't stuck: status 0 and status 6 exclude each other.
 pub fn complete_runs_are_not_stuck()
-    ensures { (script : SomeScript) (h other : List SomeMove) → IsFirstPlayedRun script h → length h ≤ move_bound script → IsFirstStuck script other → ⊥ }
+    ensures { (script : SomeScript) (h other : List SomeMove) → IsFirstPlayedRun script h
+        → length h ≤ move_bound script → IsFirstStuck script other → ⊥ }
 {}

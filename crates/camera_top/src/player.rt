@@ -25,12 +25,12 @@ const NOT_BUILT: u8 = 39;
 
 /// Reads a script, plays it and writes its trace.
 pub fn play_call<S: Source, K: Sink>(alloc: Global, source: &mut S, sink: &mut K) -> Status
-    // The headline: at status 0 the source was read to its end, its bytes spell a script, and what was written is the whole
-    // trace of the script's played run, which is complete and keeps the laws, and nothing else.
+    // The headline: at status 0 the source was read to its end, its bytes spell a script, and what was written is the
+    // whole trace of the script's played run, which is complete and keeps the laws, and nothing else.
     ensures whole { result.number ≡ 0 → IsAtEnd (S.left source.new)
         × IfSome (S.left source.old) (λ input. IsWhole input (K.state sink.old) (K.state sink.new)) }
-    // Each status and each text has its cause in the input's meaning: where no end failed and memory was there, the status
-    // and the text are those that belong to it. At status 4 a front of that text is written.
+    // Each status and each text has its cause in the input's meaning: where no end failed and memory was there, the
+    // status and the text are those that belong to it. At status 4 a front of that text is written.
     ensures tells { Tells Says (S.left source.old) result.number (K.state sink.old) (K.state sink.new) }
     ensures source_failed { result.number ≡ 3 → Rose (S.faults source.old) (S.faults source.new)
         × WritesNothing (K.state sink.old) (K.state sink.new) }
