@@ -1,5 +1,5 @@
 -- The bound on the moves of a raw script.
-use Rattle.std.proofs.Common.{◌≡◌, ◌==◌, true, false, ◌&&◌, not, List, [], ◌∷◌, refl, arith, length, count_by, sum_by, nat_le}
+use Rattle.std.proofs.Common.{◌≡◌, ◌==◌, Bool, true, false, ◌&&◌, not, List, [], ◌∷◌, refl, arith, length, count_by, sum_by, nat_le}
 use Rattle.std.specs.List.{list_all}
 use Rattle.std.proofs.lemmas.Bool.{and_parts, false≢true}
 use Rattle.std.proofs.lemmas.Grind.{common_steps}
@@ -36,8 +36,8 @@ of-commands (other ∷ commands) h = absurd (false≢true h)
 
 pub bounded : (script : Script) → is_raw_script script ≡ true → Bounded script.commands
 bounded script h =
-    let form = and_parts ((script.version == 1) && (profile_fits 1 script.profile && not script.early)) ((length script.faults == 0) && ((length script.picks == 0) && are_raw_commands script.commands)) h in
-    let a = and_parts (length script.faults == 0) ((length script.picks == 0) && are_raw_commands script.commands) form.1 in
+    let rest = and_parts ((script.version == 1) && (profile_fits 1 script.profile && not script.early)) ((length script.faults == 0) && ((length script.picks == 0) && are_raw_commands script.commands)) h in
+    let a = and_parts (length script.faults == 0) ((length script.picks == 0) && are_raw_commands script.commands) rest.1 in
     let b = and_parts (length script.picks == 0) (are_raw_commands script.commands) a.1 in
     let c = and_parts (list_all is_raw_command script.commands) (nat_le (count_by is_configure_command script.commands) 1) b.1 in
     of-commands script.commands c.0

@@ -2,7 +2,6 @@ ghost use Rattle.std.specs.Prelude.{◌≡◌, ◌≤◌, [], count_by, length, 
 ghost use Rattle.cam_types.specs.Script.{awaited_by};
 ghost use Rattle.run_model.specs.Bounds.{move_bound};
 ghost use Rattle.service_core.specs.First.{IsFirstPlayedRun, IsFirstStuck};
-ghost use Rattle.trace_bounds.specs.Bounds.{queued_by};
 ghost use Rattle.service_core.specs.RawScripts.{is_raw_script};
 ghost use Rattle.camera_top.specs.Counting.{is_once};
 ghost use Rattle.camera_top.specs.Ends.{EndsAs};

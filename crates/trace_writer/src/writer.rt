@@ -1,12 +1,12 @@
 //! A whole trace, written line by line.
 
 ghost use Rattle.std.specs.Prelude.{◌≡◌, ◌++◌, OnOk, OnErr, IfOk, IsTrue, [], true};
-ghost use Rattle.std.specs.Io.KnownBytes.{Appends};
 ghost use Rattle.std.specs.List.{flat_map, list_all};
 ghost use Rattle.io_edge.specs.Faults.{Counts};
+ghost use Rattle.io_edge.specs.States.{Breaks, Writes};
 ghost use Rattle.trace_model.specs.Printable.{is_printable};
 ghost use Rattle.trace_text.specs.Spelling.{line_of, spelling};
-ghost use Rattle.trace_writer.specs.Pieces.{Breaks, Gathers, text_behind};
+ghost use Rattle.trace_writer.specs.Pieces.{Gathers, text_behind};
 
 use crate::pieces::Pieces;
 use cam_types::{NoMemory, Profile};
@@ -45,9 +45,9 @@ fn put_lines<K: Sink>(
     sink: &mut K,
 ) -> Result<(), Failed>
     requires { list_all is_printable trace.now ≡ true }
-    ensures text { OnOk result (Gathers (K.written sink.old) (K.written sink.new) pieces.new (pieces.old ++ flat_map line_of trace.now)) }
-    ensures failed { OnErr result (Breaks (K.written sink.old) (K.written sink.new) (pieces.old ++ flat_map line_of trace.now)) }
-    ensures faults { Counts result (K.faults sink.old) (K.faults sink.new) }
+    ensures text { OnOk result (Gathers (K.state sink.old) (K.state sink.new) pieces.new (pieces.old ++ flat_map line_of trace.now)) }
+    ensures failed { OnErr result (Breaks (K.state sink.old) (K.state sink.new) (pieces.old ++ flat_map line_of trace.now)) }
+    ensures faults { Counts result (K.state sink.old).faults (K.state sink.new).faults }
 {
     for entry in trace {
         pieces.put(printer.line(*entry), sink)?;
@@ -64,9 +64,9 @@ fn write_pieces<K: Sink>(
     sink: &mut K,
 ) -> Result<(), Failed>
     requires { list_all is_printable trace.now ≡ true }
-    ensures written { OnOk result (Appends (K.written sink.old) (K.written sink.new) (text_behind first.now trace.now)) }
-    ensures failed { OnErr result (Breaks (K.written sink.old) (K.written sink.new) (text_behind first.now trace.now)) }
-    ensures faults { Counts result (K.faults sink.old) (K.faults sink.new) }
+    ensures written { OnOk result (Writes (K.state sink.old) (K.state sink.new) (text_behind first.now trace.now)) }
+    ensures failed { OnErr result (Breaks (K.state sink.old) (K.state sink.new) (text_behind first.now trace.now)) }
+    ensures faults { Counts result (K.state sink.old).faults (K.state sink.new).faults }
 {
     pieces.clear();
     pieces.put(first, sink)?;
@@ -96,9 +96,9 @@ impl TraceWriter {
     pub fn write<K: Sink>(&mut self, trace: &[Entry], sink: &mut K) -> Result<(), Failed>
         requires { list_all is_printable trace.now ≡ true }
         ensures same { self.new ≡ self.old }
-        ensures written { OnOk result (Appends (K.written sink.old) (K.written sink.new) (spelling self.old trace.now)) }
-        ensures failed { OnErr result (Breaks (K.written sink.old) (K.written sink.new) (spelling self.old trace.now)) }
-        ensures faults { Counts result (K.faults sink.old) (K.faults sink.new) }
+        ensures written { OnOk result (Writes (K.state sink.old) (K.state sink.new) (spelling self.old trace.now)) }
+        ensures failed { OnErr result (Breaks (K.state sink.old) (K.state sink.new) (spelling self.old trace.now)) }
+        ensures faults { Counts result (K.state sink.old).faults (K.state sink.new).faults }
     {
         write_pieces(
             self.first.as_slice(),
