@@ -19,7 +19,7 @@ use Rattle.trace_model.specs.Legal.{IsLegal}
 use Rattle.trace_model.specs.Numbers.{next_early, next_fence}
 use Rattle.trace_bounds.proofs.Shapes.{release-is, signal-is}
 use Rattle.past_facts.proofs.Settled.{not-late}
-use Rattle.buffer_facts.proofs.Ranges.{set-from}
+use Rattle.basic_lemmas.proofs.Ranges.{set-from}
 use Rattle.basic_lemmas.proofs.Counts.{count-one}
 use Rattle.basic_lemmas.proofs.Lists.{map-same}
 use Rattle.basic_lemmas.proofs.Ranges.{range-more}

@@ -7,16 +7,14 @@ use Rattle.std.proofs.lemmas.Slice.Eq.{bytes_eq-Decides}
 use Rattle.cam_types.specs.Profile.{is_profile_number}
 use Rattle.cam_types.specs.declared.number.FenceNo.{FenceNo}
 use Rattle.cam_types.specs.declared.reply.Made.{Made}
-use Rattle.cam_types.specs.declared.script.Word.{Word}
-use Rattle.cam_types.specs.declared.script.Word.TheVariants.{Configure, Once, Burst, Repeat, Stop, Wait, Await, Flush, Close, Disconnect}
 use Rattle.hex.specs.Hex.{IsBytes, encode_lower, encode_with, lower_digits}
 use Rattle.hex.proofs.HexLemmas.{decode_of-encode_lower, length-encode_with}
 use Rattle.trace_model.specs.Printable.{is_small, is_byte, fence_fits, sent_fits, made_fits, is_digest}
 use Rattle.trace_model.specs.declared.entry.Sent.{Sent}
-use Rattle.trace_text.specs.Spelling.{word_text, buffer_text, fence_number as fence_word, device_fence as device_word, fence_text, request_text, item_text, mark_text, sent_text, made_text}
+use Rattle.trace_text.specs.Spelling.{buffer_text, fence_number as fence_word, device_fence as device_word, fence_text, request_text, item_text, mark_text, sent_text, made_text}
 use Rattle.trace_reader.specs.declared.cause.Cause.{Cause}
 use Rattle.text_parts.specs.Cuts.{cut_at}
-use Rattle.trace_reader.specs.Values.{both, byte, small, large, profile_number, buffer, fence_number, device_fence, request, fence, cut_in, item, fenced_buffer, sent, stream_number, buffers, made, mark, is_lower_digit, hex_bytes, digest, command_word}
+use Rattle.trace_reader.specs.Values.{both, byte, small, large, profile_number, buffer, fence_number, device_fence, request, fence, cut_in, item, fenced_buffer, sent, stream_number, buffers, made, mark, is_lower_digit, hex_bytes, digest}
 use Rattle.text_parts.proofs.Joined.{avoids, cut-again}
 use Rattle.text_parts.proofs.Spelled.{number-again, number-avoids}
 use Rattle.trace_reader.proofs.General.{number-within-again}
@@ -98,19 +96,6 @@ made-again s m l h =
 pub mark-again : (same : Bool) → mark (mark_text same) ≡ Ok same
 mark-again true = refl
 mark-again false = refl
-
-pub word-again : (w : Word) → command_word (word_text w) ≡ Some w
-unfolding command_word
-word-again Configure = refl
-word-again Once = refl
-word-again Burst = refl
-word-again Repeat = refl
-word-again Stop = refl
-word-again Wait = refl
-word-again Await = refl
-word-again Flush = refl
-word-again Close = refl
-word-again Disconnect = refl
 
 -- ---- hexadecimal text
 

@@ -1,24 +1,22 @@
 -- A word that is read is the spelling of what it is read as.
-use Rattle.std.proofs.Common.{◌≡◌, ℕ, suc, ◌<◌, ◌≤◌, ◌^◌, Bool, true, false, ◌&&◌, not, cond, eqb, ltb, List, [], ◌∷◌, ◌++◌, length, get_or, Option, None, Some, Result, Ok, Err, refl, sym, ap, ◌∙◌, inl, inr, arith}
-use Rattle.std.specs.Prelude.{◌⊎◌, codes, decimal, bytes_eq}
+use Rattle.std.proofs.Common.{◌≡◌, ℕ, suc, ◌^◌, Bool, true, false, ◌&&◌, cond, eqb, ltb, List, [], ◌∷◌, ◌++◌, length, Option, None, Some, Result, Ok, Err, refl, sym, ap, ◌∙◌, inl, inr, arith}
+use Rattle.std.specs.Prelude.{codes, decimal, bytes_eq}
 use Rattle.std.specs.List.{list_all}
-use Rattle.std.proofs.lemmas.Bool.{cases_Bool, and_parts, and_from, eq-eqb, eqb-true, lt-ltb, le-leb, ltb-true, false≢true}
+use Rattle.std.proofs.lemmas.Bool.{and_from, eq-eqb, eqb-true, lt-ltb, le-leb}
 use Rattle.std.proofs.lemmas.Fmt.{decimal_digit}
 use Rattle.std.proofs.lemmas.Slice.Eq.{bytes_eq-Decides}
 use Rattle.cam_types.specs.declared.number.FenceNo.{FenceNo}
 use Rattle.cam_types.specs.declared.reply.Made.{Made}
-use Rattle.cam_types.specs.declared.script.Word.{Word}
-use Rattle.cam_types.specs.declared.script.Word.TheVariants.{Configure, Once, Burst, Repeat, Stop, Wait, Await, Flush, Close, Disconnect}
 use Rattle.hex.specs.Hex.{IsBytes, decode_of, encode_lower, lower_digits}
 use Rattle.hex.proofs.HexLemmas.{length-encode_with}
 use Rattle.trace_model.specs.Printable.{is_small, is_byte, fence_fits, sent_fits, made_fits, is_digest}
 use Rattle.trace_model.specs.declared.entry.Sent.{Sent}
-use Rattle.trace_text.specs.Spelling.{word_text, fence_text, item_text, mark_text, sent_text, made_text}
+use Rattle.trace_text.specs.Spelling.{fence_text, item_text, mark_text, sent_text, made_text}
 use Rattle.trace_reader.specs.declared.cause.Cause.{Cause}
 use Rattle.trace_reader.specs.declared.cause.Cause.TheVariants.{BadLine, BadNumber}
 use Rattle.text_parts.specs.Cuts.{cut_at}
 use Rattle.text_parts.specs.Numbers.{is_number, number_below, number_within}
-use Rattle.trace_reader.specs.Values.{◌>>=◌, both, good, byte, small, large, profile_number, numbered, buffer, fence_number, request, fence, cut_in, item, fenced_buffer, sent, stream_number, buffers, made, mark, is_lower_digit, decoded, hex_bytes, digest, part_number, command_word}
+use Rattle.trace_reader.specs.Values.{◌>>=◌, both, good, byte, small, large, profile_number, numbered, buffer, fence_number, request, fence, cut_in, item, fenced_buffer, sent, stream_number, buffers, made, mark, is_lower_digit, decoded, hex_bytes, digest, part_number}
 use Rattle.basic_lemmas.proofs.Tests.{chosen}
 use Rattle.text_parts.proofs.Joined.{cut-is}
 use Rattle.text_parts.proofs.Spelled.{number-is}
@@ -147,20 +145,6 @@ mark-is w same h = elim (chosen (bytes_eq w (codes "same")) (Ok true) (cond (byt
       let e : false ≡ same = cc in
       rw (← e) (text-is w (codes "new") q.0)
 ]
-
--- ---- the words of commands
-
-word-step : (w : List ℕ) (v : Word) (more : Option Word) (word : Word) → cond (bytes_eq w (word_text v)) (Some v) more ≡ Some word → (more ≡ Some word → w ≡ word_text word) → w ≡ word_text word
-word-step w v more word h k = elim (chosen (bytes_eq w (word_text v)) (Some v) more (Some word) h) [
-  | inl p ↦ (let e : v ≡ word = cc in text-is w (word_text v) p.0 ∙ ap word_text e)
-  | inr p ↦ k p.1
-]
-
-pub word-is : (w : List ℕ) (word : Word) → command_word w ≡ Some word → w ≡ word_text word
-unfolding command_word
-word-is w word h =
-    word-step w Configure _ word h (λ a. word-step w Once _ word a (λ b. word-step w Burst _ word b (λ c. word-step w Repeat _ word c (λ d. word-step w Stop _ word d
-    (λ e. word-step w Wait _ word e (λ f. word-step w Await _ word f (λ g. word-step w Flush _ word g (λ i. word-step w Close _ word i (λ j. word-step w Disconnect None word j (λ k. absurd (cc)))))))))))
 
 -- ---- hexadecimal text
 

@@ -1,5 +1,5 @@
 -- A text that is read is the spelling of its trace.
-use Rattle.std.proofs.Common.{◌≡◌, ℕ, ◌+◌, true, ◌&&◌, cond, eqb, List, [], ◌∷◌, ◌++◌, Option, None, Some, Result, Ok, Err, refl, sym, ap, subst, ◌∙◌, inl, inr, append_assoc}
+use Rattle.std.proofs.Common.{◌≡◌, ℕ, ◌+◌, true, ◌&&◌, cond, List, [], ◌∷◌, ◌++◌, Option, None, Some, Result, Ok, Err, refl, sym, ap, subst, ◌∙◌, inl, inr, append_assoc}
 use Rattle.std.specs.Prelude.{codes, bytes_eq}
 use Rattle.std.specs.List.{flat_map, join_by, list_all}
 use Rattle.std.proofs.lemmas.Bool.{cases_Bool, and_from}
@@ -22,7 +22,6 @@ use Rattle.trace_reader.specs.Values.{◌>>=◌, both, profile_number, small, pa
 use Rattle.text_parts.specs.Words.{three_of}
 use Rattle.trace_reader.specs.Lines.{shape, no_profile, profile_of, version_of, first_by, named_profile, metadata, partial_of, kind_of, entry_in, entry_with, entry_by, is_plain_line, entry_of}
 use Rattle.trace_reader.specs.Grammar.{at_line, with_entry, with_profile, after_end, entries_from, trace_from, trace_of}
-use Rattle.trace_reader.specs.declared.cause.TraceRefused.TheVariants.{Bad}
 use Rattle.text_parts.proofs.Joined.{join-cut}
 use Rattle.basic_lemmas.proofs.Tests.{chosen}
 use Rattle.trace_reader.proofs.Means.{bind-ok, both-ok, profile-number-is, if-ok, text-is, small-is, part_number-is, hex-is}

@@ -1,4 +1,5 @@
 -- The words of an entry's line are words: they aren't empty and have no space.
+use Rattle.command_words.proofs.Texts.{a-word}
 use Rattle.std.proofs.Common.{◌≡◌, ℕ, ◌+◌, ◌<◌, ◌≤◌, ◌^◌, Bool, true, false, ◌&&◌, not, eqb, ltb, leb, List, [], ◌∷◌, ◌++◌, length, map, Option, None, Some, refl, arith}
 use Rattle.std.specs.Prelude.{codes, decimal, is_some}
 use Rattle.std.specs.List.{list_all}
@@ -25,7 +26,7 @@ use Rattle.trace_model.specs.Printable.{is_small, is_byte, fence_fits, number_fi
 use Rattle.trace_model.specs.declared.entry.Entry.{Entry}
 use Rattle.trace_model.specs.declared.entry.Entry.TheVariants.{Begin, Call, Send, Dropped, Shutter, Partial, Filled, Failed, ErrorRequest, ErrorResult, ErrorBuffer, ErrorDevice, Release, Signal, Early, Late}
 use Rattle.trace_model.specs.declared.entry.Sent.{Sent}
-use Rattle.trace_text.specs.Spelling.{word_text, buffer_text, device_fence, fence_text, request_text, item_text, mark_text, sent_text, made_text, made_words, reply_words, entry_words, first_words, first_line_fits}
+use Rattle.trace_text.specs.Spelling.{buffer_text, device_fence, fence_text, request_text, item_text, mark_text, sent_text, made_text, made_words, reply_words, entry_words, first_words, first_line_fits}
 use Rattle.trace_reader.specs.Values.{is_lower_digit}
 use Rattle.text_parts.specs.Words.{is_plain, is_word}
 use Rattle.text_parts.proofs.Joined.{plain-append, word-from}
@@ -63,18 +64,6 @@ made-is-word s m l h =
     let back : list_all is_plain (buffer_text m.first.0 ++ 43 ∷ decimal m.count) ≡ true = plain-append (buffer_text m.first.0) (43 ∷ decimal m.count) (number-plain m.first.0 (small-64 m.first.0 q.0)) (number-plain m.count (small-64 m.count q.1)) in
     word-from (made_text s m) (plain-append (decimal s) (58 ∷ (buffer_text m.first.0 ++ 43 ∷ decimal m.count)) (number-plain s l) back)
     (omega (arith, length-append (decimal s) (58 ∷ (buffer_text m.first.0 ++ 43 ∷ decimal m.count))))
-
-word-is-word : (w : Word) → is_word (word_text w) ≡ true
-word-is-word Configure = refl
-word-is-word Once = refl
-word-is-word Burst = refl
-word-is-word Repeat = refl
-word-is-word Stop = refl
-word-is-word Wait = refl
-word-is-word Await = refl
-word-is-word Flush = refl
-word-is-word Close = refl
-word-is-word Disconnect = refl
 
 mark-is-word : (same : Bool) → is_word (mark_text same) ≡ true
 mark-is-word true = refl
@@ -166,10 +155,10 @@ returned-words n s b ws h k =
     and_from _ _ (small-word n q.0) (and_from _ _ (byte-word s t.0) (and_from _ _ (letter-word 98 b refl t.1) k))
 
 pub entry-plain : (e : Entry) → is_printable e ≡ true → list_all is_word (entry_words e) ≡ true
-entry-plain (Begin word) h = and_from _ _ (word-is-word word) refl
+entry-plain (Begin word) h = and_from _ _ (a-word word) refl
 entry-plain (Call i word r) h =
     let p = and_parts (is_small i) (reply_fits word r) h in
-    and_from _ _ (small-word i p.0) (and_from _ _ (word-is-word word) (reply-are-words word r p.1))
+    and_from _ _ (small-word i p.0) (and_from _ _ (a-word word) (reply-are-words word r p.1))
 entry-plain (Send n r i same targets) h =
     let p = and_parts (is_small n.0 && (is_small r.0 && is_small i)) (is_filled targets && list_all sent_fits (four_list targets)) h in
     let q = and_parts (is_small n.0) (is_small r.0 && is_small i) p.0 in

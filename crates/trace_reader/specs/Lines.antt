@@ -21,7 +21,8 @@ use Rattle.trace_reader.specs.declared.cause.Cause.{Cause}
 use Rattle.trace_reader.specs.declared.cause.Cause.TheVariants.{BadLine, BadMetadata}
 use Rattle.trace_reader.specs.declared.line.Kind.{Kind}
 use Rattle.trace_reader.specs.declared.line.Kind.TheVariants as kind
-use Rattle.trace_reader.specs.Values.{◌>>=◌, both, byte, small, large, profile_number, buffer, fence_number, device_fence, request, fence, item, sent, made, mark, part_number, hex_bytes, digest, command_word}
+use Rattle.trace_reader.specs.Values.{◌>>=◌, both, byte, small, large, profile_number, buffer, fence_number, device_fence, request, fence, item, sent, made, mark, part_number, hex_bytes, digest}
+use Rattle.command_words.specs.Words.{command_word}
 use Rattle.text_parts.specs.Words.{strict_words, one_of, two_of, three_of}
 
 -- ---- so many words

@@ -4,8 +4,6 @@ use Rattle.std.specs.List.{list_all}
 use Rattle.cam_types.specs.Limits.{profile_limit}
 use Rattle.cam_types.specs.declared.number.FenceNo.{FenceNo}
 use Rattle.cam_types.specs.declared.reply.Made.{Made}
-use Rattle.cam_types.specs.declared.script.Word.{Word}
-use Rattle.cam_types.specs.declared.script.Word.TheVariants.{Configure, Once, Burst, Repeat, Stop, Wait, Await, Flush, Close, Disconnect}
 use Rattle.hex.specs.Hex.{decode_of}
 use Rattle.trace_model.specs.declared.entry.Sent.{Sent}
 use Rattle.trace_reader.specs.declared.cause.Cause.{Cause}
@@ -141,19 +139,3 @@ hex_bytes word = if list_all is_lower_digit word then decoded (decode_of word) e
 -- the 32 bytes of a digest
 unfoldable pub digest : List ℕ → Result (List ℕ) Cause
 digest word = if length word == 64 then hex_bytes word else Err BadNumber
-
--- ---- the words of commands
-
-unfoldable pub command_word : List ℕ → Option Word
-command_word word =
-    if bytes_eq word (codes "configure") then Some Configure
-    else (if bytes_eq word (codes "once") then Some Once
-    else (if bytes_eq word (codes "burst") then Some Burst
-    else (if bytes_eq word (codes "repeat") then Some Repeat
-    else (if bytes_eq word (codes "stop") then Some Stop
-    else (if bytes_eq word (codes "wait") then Some Wait
-    else (if bytes_eq word (codes "await") then Some Await
-    else (if bytes_eq word (codes "flush") then Some Flush
-    else (if bytes_eq word (codes "close") then Some Close
-    else (if bytes_eq word (codes "disconnect") then Some Disconnect
-    else None)))))))))

@@ -2,35 +2,17 @@
 
 ghost use Rattle.std.specs.Prelude.{◌≡◌, ◌<◌};
 ghost use Rattle.text_parts.specs.Words.{strict_words_behind};
-ghost use Rattle.trace_reader.specs.Values.{command_word, made};
+ghost use Rattle.trace_reader.specs.Values.{made};
+ghost use Rattle.command_words.specs.Words.{command_word};
 ghost use Rattle.trace_reader.specs.Lines.{up_to_four, nothing, submission, next_value, rest_of, waiting_word, begin_of, refusal, acceptance, reply_of, call_with, call_of};
 
 use crate::cause::Cause;
 use crate::number::{byte, small};
 use crate::word::{both, made, request};
 use cam_types::{Four, Made, Reply, RequestId, Word};
+use command_words::command_word;
 use text_parts::{next_strict_word, one_strict_word};
 use trace_model::Entry;
-
-/// The command that has this word.
-#[tactic(auto, unfolding(crate::specs::Values::command_word))]
-fn command_word(word: &[u8]) -> Option<Word>
-    ensures { result ≡ command_word word.now }
-{
-    match word {
-        b"configure" => Some(Word::Configure),
-        b"once" => Some(Word::Once),
-        b"burst" => Some(Word::Burst),
-        b"repeat" => Some(Word::Repeat),
-        b"stop" => Some(Word::Stop),
-        b"wait" => Some(Word::Wait),
-        b"await" => Some(Word::Await),
-        b"flush" => Some(Word::Flush),
-        b"close" => Some(Word::Close),
-        b"disconnect" => Some(Word::Disconnect),
-        _ => None,
-    }
-}
 
 /// The word of a waiting command.
 fn waiting_word(word: &[u8]) -> Result<Word, Cause>

@@ -1,5 +1,5 @@
 -- A summary's line from its parts.
-use Rattle.std.proofs.Common.{◌≡◌, ℕ, List, [], ◌∷◌, ◌++◌, append_assoc, append-nil, refl, ap, ◌∙◌, sym}
+use Rattle.std.proofs.Common.{◌≡◌, ℕ, List, [], ◌∷◌, ◌++◌, append_assoc, refl, ap, ◌∙◌}
 use Rattle.std.specs.Prelude.{codes, decimal, count_by, length}
 use Rattle.text_parts.specs.Lines.{line_text}
 use Rattle.trace_model.specs.declared.entry.Entry.{Entry}

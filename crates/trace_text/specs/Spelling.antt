@@ -1,6 +1,7 @@
 -- The one spelling of a trace: our own choice. (docs/FORMATS.md, trace text)
 use Rattle.std.specs.Prelude.{ℕ, ◌+◌, Bool, true, false, List, [], ◌∷◌, ◌++◌, Option, Some, None, map, option_to_list, codes, decimal}
 use Rattle.std.specs.List.{flat_map}
+use Rattle.command_words.specs.Words.{word_text}
 use Rattle.cam_types.specs.Four.{four_list}
 use Rattle.cam_types.specs.Profile.{is_profile}
 use Rattle.cam_types.specs.declared.number.FenceNo.{FenceNo}
@@ -9,8 +10,6 @@ use Rattle.cam_types.specs.declared.profile.Profile.{Profile}
 use Rattle.cam_types.specs.declared.reply.Made.{Made}
 use Rattle.cam_types.specs.declared.reply.Reply.{Reply}
 use Rattle.cam_types.specs.declared.reply.Reply.TheVariants.{Ok, Submitted, Configured, Refused}
-use Rattle.cam_types.specs.declared.script.Word.{Word}
-use Rattle.cam_types.specs.declared.script.Word.TheVariants.{Configure, Once, Burst, Repeat, Stop, Wait, Await, Flush, Close, Disconnect}
 use Rattle.hex.specs.Hex.{encode_lower}
 use Rattle.meta_rules.specs.Parts.{part_entries}
 use Rattle.metadata.specs.Spelling.{bytes_of}
@@ -24,18 +23,6 @@ abbrev pub behind_spaces : List (List ℕ) → List ℕ
 behind_spaces words = flat_map (λ word. 32 ∷ word) words
 
 -- ---- words; 43 is `+`, 46 `.`, 58 `:`, 98 `b`, 100 `d`, 102 `f` and 114 `r`
-
-abbrev pub word_text : Word → List ℕ
-word_text Configure = codes "configure"
-word_text Once = codes "once"
-word_text Burst = codes "burst"
-word_text Repeat = codes "repeat"
-word_text Stop = codes "stop"
-word_text Wait = codes "wait"
-word_text Await = codes "await"
-word_text Flush = codes "flush"
-word_text Close = codes "close"
-word_text Disconnect = codes "disconnect"
 
 -- `bB`
 abbrev pub buffer_text : ℕ → List ℕ
