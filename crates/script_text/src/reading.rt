@@ -10,7 +10,7 @@ ghost use Rattle.text_parts.specs.Words.{loose_words};
 ghost use Rattle.script_text.specs.Lines.{command_line, device_line, early_line, line_of, other_line};
 ghost use Rattle.script_text.specs.Reader.{GivesBy};
 ghost use Rattle.script_text.specs.Grammar.{after, after_words, begun, is_printable, script_of, then_added, version_number, version_of};
-ghost use Rattle.script_text.specs.Answers.{Answers, refused};
+ghost use Rattle.script_text.specs.Answers.{AnswersScript, refused};
 
 use crate::cause::{Cause, LineRefused, ScriptRefused};
 use crate::draft::Draft;
@@ -171,7 +171,7 @@ fn refused(line: u32, why: LineRefused) -> ScriptRefused
 #[tactic(auto, unfolding(crate::specs::Grammar::script_of, crate::specs::Grammar::script_from))]
 pub fn read(alloc: Global, bytes: &[u8]) -> Result<Script, ScriptRefused>
     // What the text means, unless memory ran out.
-    ensures exact { Answers result (script_of bytes.now) }
+    ensures exact { AnswersScript result (script_of bytes.now) }
     // Only valid scripts are read, with numbers within their types.
     ensures valid { IfOk result (λ script. IsTrue (is_valid script)) }
     ensures fits { IfOk result (λ script. IsTrue (fits script)) }

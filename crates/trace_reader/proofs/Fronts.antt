@@ -14,7 +14,7 @@ use Rattle.trace_reader.specs.declared.cause.TraceRefused.TheVariants.{Bad, NoMe
 use Rattle.text_parts.specs.Cuts.{parts_at}
 use Rattle.trace_reader.specs.Lines.{entry_of, named_profile}
 use Rattle.trace_reader.specs.Grammar.{at_line, with_entry, with_profile, after_end, entries_from, trace_from, trace_of}
-use Rattle.trace_reader.specs.Reader.{Refuses, Answers, refused}
+use Rattle.trace_reader.specs.Reader.{Refuses, AnswersTrace, refused}
 use Rattle.text_parts.proofs.Cuts.{parts_some}
 
 abbrev pub with_front : List Entry → Result (List Entry) TraceRefused → Result (List Entry) TraceRefused
@@ -46,7 +46,7 @@ past_end n (b ∷ bs) more = let some = parts_some 10 bs in rw some.2 (more_than
 pub front_end : (front : List Entry) (whole : Result (List Entry) TraceRefused) (n : ℕ) (text behind rest : List ℕ) → parts_at 10 rest ≡ text ∷ parts_at 10 behind → bytes_eq text (codes "end") ≡ true → 0 < length behind → with_front front (entries_from n (parts_at 10 rest)) ≡ whole → whole ≡ Err (Bad (n + 1) BadLine)
 front_end front whole n text behind rest cut end more same = sym same ∙ rw (front_line n text behind rest cut, end, past_end (n + 1) behind more) refl
 
-pub front_refused : (front : List Entry) (whole : Result (List Entry) TraceRefused) (n : ℕ) (text behind rest : List ℕ) (why : LineRefused) → parts_at 10 rest ≡ text ∷ parts_at 10 behind → bytes_eq text (codes "end") ≡ false → Refuses why (entry_of text) → with_front front (entries_from n (parts_at 10 rest)) ≡ whole → Answers (Err (refused n why)) whole
+pub front_refused : (front : List Entry) (whole : Result (List Entry) TraceRefused) (n : ℕ) (text behind rest : List ℕ) (why : LineRefused) → parts_at 10 rest ≡ text ∷ parts_at 10 behind → bytes_eq text (codes "end") ≡ false → Refuses why (entry_of text) → with_front front (entries_from n (parts_at 10 rest)) ≡ whole → AnswersTrace (Err (refused n why)) whole
 front_refused front whole n text behind rest (line.Bad cause) cut goes_on why same = sym same ∙ rw (front_line n text behind rest cut, goes_on, why) refl
 front_refused front whole n text behind rest line.NoMemory cut goes_on why same = tt
 
@@ -67,6 +67,6 @@ pub bad_first : (n : ℕ) (text behind whole : List ℕ) (cause : Cause) → par
 bad_first n text behind whole cause cut named = first_line n text behind whole cut ∙ rw named refl
 
 -- a refusal behind a good first line
-pub refused_behind : (why : TraceRefused) (profile : Option Profile) (meaning : Result (List Entry) TraceRefused) (same : Result TraceList TraceRefused) → same ≡ with_profile profile meaning → Answers (Err why) meaning → Answers (Err why) same
+pub refused_behind : (why : TraceRefused) (profile : Option Profile) (meaning : Result (List Entry) TraceRefused) (same : Result TraceList TraceRefused) → same ≡ with_profile profile meaning → AnswersTrace (Err why) meaning → AnswersTrace (Err why) same
 refused_behind (Bad n cause) profile meaning same e h = e ∙ ap (with_profile profile) h
 refused_behind NoMemory profile meaning same e h = tt

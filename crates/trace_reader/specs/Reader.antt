@@ -17,10 +17,10 @@ Gives (Ok x) read = read ≡ Ok x
 Gives (Err refused) read = Refuses refused read
 
 -- the answer is what the text means, or that memory ran out
-abbrev pub Answers : {A : Type 0} → Result A TraceRefused → Result A TraceRefused → Type 0
-Answers (Ok x) meaning = meaning ≡ Ok x
-Answers (Err (Bad line cause)) meaning = meaning ≡ Err (Bad line cause)
-Answers (Err NoMemory) meaning = Unit {0}
+abbrev pub AnswersTrace : {A : Type 0} → Result A TraceRefused → Result A TraceRefused → Type 0
+AnswersTrace (Ok x) meaning = meaning ≡ Ok x
+AnswersTrace (Err (Bad line cause)) meaning = meaning ≡ Err (Bad line cause)
+AnswersTrace (Err NoMemory) meaning = Unit {0}
 
 -- a line's refusal with its number
 abbrev pub refused : ℕ → LineRefused → TraceRefused

@@ -3,7 +3,7 @@
 ghost use Rattle.std.specs.Prelude.{◌≡◌, ◌<◌, ◌≤◌, ◌+◌, length};
 ghost use Rattle.text_parts.specs.Cuts.{parts_at};
 ghost use Rattle.trace_reader.specs.Grammar.{entries_from, trace_of};
-ghost use Rattle.trace_reader.specs.Reader.{Answers, refused};
+ghost use Rattle.trace_reader.specs.Reader.{AnswersTrace, refused};
 
 use crate::cause::{Cause, LineRefused, TraceRefused};
 use crate::first::named_profile;
@@ -38,7 +38,7 @@ fn bad(line: u32, cause: Cause) -> TraceRefused
 fn entries_from(alloc: Global, first: u32, text: &[u8]) -> Result<Listing<Entry>, TraceRefused>
     requires long { length text.now < TRACE_BYTES }
     requires numbers { first + length text.now ≤ 268435457 }
-    ensures { Answers result (entries_from first (parts_at 10 text.now)) }
+    ensures { AnswersTrace result (entries_from first (parts_at 10 text.now)) }
 {
     let mut entries = Listing::new(alloc);
     let mut number = first;
@@ -69,7 +69,7 @@ pub fn read(alloc: Global, bytes: &[u8], first_line: u32) -> Result<TraceList, T
     requires some { 1 ≤ first_line }
     requires numbers { first_line ≤ TRACE_BYTES + 1 }
     // What the text means, unless memory ran out.
-    ensures { Answers result (trace_of first_line bytes.now) }
+    ensures { AnswersTrace result (trace_of first_line bytes.now) }
 {
     let Some((line, rest)) = split_at_byte(bytes, b'\n') else {
         return Err(bad(first_line, Cause::Truncated));
