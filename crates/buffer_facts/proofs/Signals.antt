@@ -1,9 +1,8 @@
 -- Fences: which are released, and which of those are signalled.
-use Rattle.std.proofs.Common.{◌≡◌, ℕ, ◌==◌, ◌+◌, ◌<◌, ◌≤◌, Bool, true, false, ◌&&◌, ◌||◌, List, [], ◌∷◌, ◌++◌, Some, count_by, nat_lt, refl, sym, ◌∙◌, arith, map, if◌then◌else◌}
+use Rattle.std.proofs.Common.{◌≡◌, ℕ, ◌==◌, ◌+◌, ◌≤◌, Bool, true, false, ◌&&◌, ◌||◌, List, [], ◌∷◌, ◌++◌, refl, sym, ◌∙◌, arith, map, if◌then◌else◌}
 use Rattle.std.specs.Prelude.{slice_set}
 use Rattle.std.specs.List.{list_all, range_with_len}
 use Rattle.std.proofs.lemmas.Bool.{ne_eqb}
-use Rattle.std.proofs.lemmas.Bool.Decides.{nat_tests}
 use Rattle.std.proofs.lemmas.List.{map-append}
 use Rattle.std.proofs.lemmas.List.Folds.{list_all-append, list_all-map}
 use Rattle.cam_types.specs.declared.number.BufferId.{BufferId}
@@ -14,17 +13,15 @@ use Rattle.cam_types.specs.declared.script.Script.{Script}
 use Rattle.trace_model.specs.declared.entry.Entry.{Entry}
 use Rattle.trace_model.specs.declared.entry.Entry.TheVariants.{Release, Signal, Early, Late}
 use Rattle.trace_model.specs.Complete.{is_all_signalled, released}
-use Rattle.trace_model.specs.Entry.{is_early, is_early_with, is_release}
+use Rattle.trace_model.specs.Entry.{is_early, is_release}
 use Rattle.trace_model.specs.Fence.{is_late, is_signalled}
-use Rattle.trace_model.specs.Filled.{late_due}
 use Rattle.trace_model.specs.Legal.{IsLegal}
 use Rattle.trace_model.specs.Numbers.{next_early, next_fence}
-use Rattle.trace_bounds.proofs.Shapes.{late-is, release-is, signal-is}
-use Rattle.buffer_laws.proofs.Early.{given-below}
+use Rattle.trace_bounds.proofs.Shapes.{release-is, signal-is}
 use Rattle.past_facts.proofs.Settled.{not-late}
-use Rattle.buffer_facts.proofs.Ranges.{set-from}
-use Rattle.basic_lemmas.proofs.Counts.{count-one, some-counted}
-use Rattle.basic_lemmas.proofs.Lists.{found-any, map-same}
+use Rattle.basic_lemmas.proofs.Ranges.{set-from}
+use Rattle.basic_lemmas.proofs.Counts.{count-one}
+use Rattle.basic_lemmas.proofs.Lists.{map-same}
 use Rattle.basic_lemmas.proofs.Ranges.{range-more}
 
 -- which fences so far are signalled

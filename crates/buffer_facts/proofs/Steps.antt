@@ -25,7 +25,8 @@ use Rattle.buffer_laws.proofs.Returns.{failed-back}
 use Rattle.buffer_facts.specs.Homes.{Homes, count_in, first_buffer, homes, noted, numbers, put_all}
 use Rattle.buffer_facts.proofs.Made.{buffer-within, next-buffer}
 use Rattle.buffer_facts.proofs.Own.{at-client, out-own, targets-own, unnamed}
-use Rattle.buffer_facts.proofs.Ranges.{map-all, set-all, set-one}
+use Rattle.basic_lemmas.proofs.Ranges.{map-all, set-one}
+use Rattle.buffer_facts.proofs.Ranges.{set-all}
 use Rattle.buffer_facts.proofs.Signals.{marks-given, marks-late, marks-released, marks-signalled}
 use Rattle.basic_lemmas.proofs.Lists.{all-where, map-same}
 

@@ -2,8 +2,8 @@
 #![tactic(auto)]
 
 ghost use Rattle.std.specs.Prelude.{◌≡◌, ◌≤◌, IfOk, OnErr};
-ghost use Rattle.std.specs.Io.KnownBytes.{Keeps};
 ghost use Rattle.io_edge.specs.Faults.{Rose};
+ghost use Rattle.io_edge.specs.States.{WritesNothing};
 ghost use Rattle.camera_prog.specs.Ends.{number_of};
 
 use camera_top::{Status, camera_main};
@@ -41,10 +41,12 @@ fn answer<S: Source, K: Sink>(
     source: &mut S,
     sink: &mut K,
 ) -> Result<Status, NoMemory>
-    ensures source_failed { IfOk result (λ status. status.number ≡ 3 → Rose (S.faults source.old) (S.faults source.new) × Keeps (K.written sink.old) (K.written sink.new)) }
-    ensures sink_failed { IfOk result (λ status. status.number ≡ 4 → Rose (K.faults sink.old) (K.faults sink.new)) }
+    ensures source_failed { IfOk result (λ status. status.number ≡ 3 → Rose (S.faults source.old) (S.faults source.new)
+        × WritesNothing (K.state sink.old) (K.state sink.new)) }
+    ensures sink_failed { IfOk result (λ status. status.number ≡ 4
+        → Rose (K.state sink.old).faults (K.state sink.new).faults) }
     ensures known { IfOk result (λ status. status.number ≤ 6) }
-    ensures no_memory { OnErr result (Keeps (K.written sink.old) (K.written sink.new)) }
+    ensures no_memory { OnErr result (WritesNothing (K.state sink.old) (K.state sink.new)) }
 {
     let mut words = Vec::new(alloc);
     for text in texts {

@@ -1,3 +1,4 @@
+pub mod General
 pub mod Playing
 pub mod Bounds
 pub mod Telling

@@ -3,10 +3,11 @@ use Rattle.std.proofs.Common.{◌≡◌, ℕ, ◌<◌, ◌≤◌, List, [], ◌�
 use Rattle.std.proofs.lemmas.Bool.{cases_lt, cases_eq}
 use Rattle.cam_types.specs.declared.script.Script.{Script}
 use Rattle.trace_model.specs.Complete.{IsComplete}
-use Rattle.service_core.specs.declared.step.Move.{Move}
-use Rattle.service_core.specs.declared.step.StepName.{StepName}
-use Rattle.service_core.specs.First.{IsFirstPlayed, IsFirstPlayedRun, IsFirstStuck, first_candidates, first_chosen, first_move_at, move_bound}
-use Rattle.service_core.specs.History.{trace_of}
+use Rattle.run_model.specs.declared.step.Move.{Move}
+use Rattle.run_model.specs.Bounds.{move_bound}
+use Rattle.run_model.specs.History.{trace_of}
+use Rattle.run_model.specs.declared.step.StepName.{StepName}
+use Rattle.service_core.specs.First.{IsFirstPlayed, IsFirstPlayedRun, IsFirstStuck, first_candidates, first_chosen, first_move_at}
 
 one-move : (script : Script) (h k : List Move) (m n : Move) → h ≡ k → first_move_at script h (first_chosen script h) ≡ Some m → first_move_at script k (first_chosen script k) ≡ Some n → m ≡ n
 one-move script h k m n same a b =

@@ -3,14 +3,14 @@ use Rattle.std.proofs.Common.{◌≡◌, ℕ, zero, suc, ◌%◌, ◌<◌, Bool,
 use Rattle.std.proofs.lemmas.Bool.{cases_Bool, false≢true}
 use Rattle.cam_types.specs.declared.script.Script.{Script}
 use Rattle.trace_model.specs.declared.entry.Entry.{Entry}
-use Rattle.service_core.specs.declared.step.Move.{Move}
-use Rattle.service_core.specs.Answers.{Answers, State}
+use Rattle.run_model.specs.declared.step.Move.{Move}
+use Rattle.service_core.specs.Answers.{AnswersStep, State}
 use Rattle.service_core.specs.declared.step.Step.{Step}
 use Rattle.service_core.specs.declared.step.Step.TheVariants.{NotReady}
-use Rattle.service_core.specs.declared.step.StepName.{StepName}
+use Rattle.run_model.specs.declared.step.StepName.{StepName}
 use Rattle.service_core.specs.First.{entry_of, first_candidates, first_chosen, first_move_of, first_steps, is_first_ready}
-use Rattle.service_core.specs.History.{trace_of}
-use Rattle.service_core.specs.Played.{pick_at}
+use Rattle.run_model.specs.History.{trace_of}
+use Rattle.run_model.specs.Played.{pick_at}
 
 got : (xs : List StepName) (i : ℕ) → i < length xs → slice_get xs i ≡ None → ⊥
 got [] i l h = absurd (omega arith)
@@ -48,6 +48,6 @@ chosen-ready script h step c none = unready (entry_of script (trace_of h) step) 
     unready (Some x) e = let n = rw e at none in absurd (cc)
 
 -- a step that isn't ready has no move
-pub not-ready : (o : Option Move) (old new : State) (r : Step) → r ≡ NotReady → Answers o old r new → o ≡ None
+pub not-ready : (o : Option Move) (old new : State) (r : Step) → r ≡ NotReady → AnswersStep o old r new → o ≡ None
 not-ready None old new r e h = refl
 not-ready (Some m) old new r e h = let h' = rw e at h in absurd h'

@@ -1,32 +1,42 @@
-use Rattle.std.specs.Prelude.{◌≡◌, ℕ, ◌<◌, ◌⊎◌, List, ◌++◌, Option, length, take, codes}
-use Rattle.std.specs.Io.KnownBytes.{Appends, Keeps}
+use Rattle.std.specs.Prelude.{◌≡◌, ℕ, ◌⊎◌, List, ◌++◌, Option, IfSome, codes}
 use Rattle.io_edge.specs.Faults.{Rose}
+use Rattle.io_edge.specs.States.{Breaks, SinkState, Writes, WritesNothing}
 
--- What the program answers, and what it writes then. (docs/FORMATS.md)
+-- What the program answers, and what it writes then: the states of the sink before and after a call. (docs/FORMATS.md)
 
 abbrev pub usage_line : List ℕ
-usage_line = codes "usage: camera play | run --workers N | check | gen SEED COUNT | help\n"
+usage_line = codes "usage: camera play | run --workers N | check | gen SEED COUNT | convert | help\n"
 
 -- what `help` writes
 abbrev pub help_text : List ℕ
 help_text = codes "camera: plays, runs and judges HAL3 camera scripts\n" ++ usage_line
 
 -- the whole text was written and no fault was counted
-abbrev pub Written : List ℕ → Option (List ℕ) → Option (List ℕ) → ℕ → ℕ → Type 0
-Written text before after faults faults_after = Appends before after text × (faults_after ≡ faults)
+abbrev pub Written : List ℕ → SinkState → SinkState → Type 0
+Written text before after = Writes before after text × (after.faults ≡ before.faults)
 
 -- the sink failed, and a front of the text was written
-abbrev pub Broken : List ℕ → Option (List ℕ) → Option (List ℕ) → ℕ → ℕ → Type 0
-Broken text before after faults faults_after =
-    ((count : ℕ) × (count < length text) × Appends before after (take count text)) × Rose faults faults_after
+abbrev pub Broken : List ℕ → SinkState → SinkState → Type 0
+Broken text before after = Breaks before after text × Rose before.faults after.faults
 
 -- the status is this one and the text was written whole, or it is 4 and the sink failed
-abbrev pub Answers : ℕ → List ℕ → ℕ → Option (List ℕ) → Option (List ℕ) → ℕ → ℕ → Type 0
-Answers wanted text status before after faults faults_after =
-    ((status ≡ wanted) × Written text before after faults faults_after) ⊎ ((status ≡ 4) × Broken text before after faults faults_after)
+abbrev pub Answers : ℕ → List ℕ → ℕ → SinkState → SinkState → Type 0
+Answers wanted text status before after =
+    ((status ≡ wanted) × Written text before after) ⊎ ((status ≡ 4) × Broken text before after)
 
--- What a call answers and writes: a status and a text that belong to its input; 4 and a front of that text where the sink
--- failed; 5 where memory ran out, and nothing is written.
-abbrev pub TellsBy : (ℕ → List ℕ → Type 0) → ℕ → Option (List ℕ) → Option (List ℕ) → ℕ → ℕ → Type 0
-TellsBy Belongs status before after faults faults_after =
-    ((status ≡ 5) × Keeps before after) ⊎ ((wanted : ℕ) × (text : List ℕ) × Belongs wanted text × Answers wanted text status before after faults faults_after)
+-- the same, or the status is 5, memory ran out and nothing was written
+abbrev pub AnswersWithMemory : ℕ → List ℕ → ℕ → SinkState → SinkState → Type 0
+AnswersWithMemory wanted text status before after =
+    ((status ≡ 5) × WritesNothing before after) ⊎ Answers wanted text status before after
+
+-- What a call answers and writes: a status and a text that belong to its input; 4 and a front of that text where the
+-- sink failed; 5 where memory ran out, and nothing is written.
+abbrev pub TellsBy : (ℕ → List ℕ → Type 0) → ℕ → SinkState → SinkState → Type 0
+TellsBy Belongs status before after =
+    ((status ≡ 5) × WritesNothing before after)
+    ⊎ ((wanted : ℕ) × (text : List ℕ) × Belongs wanted text × Answers wanted text status before after)
+
+-- The same of a call that reads its input: what the source has left, where it tells that. At status 3 the source failed.
+abbrev pub Tells : (List ℕ → ℕ → List ℕ → Type 0) → Option (List ℕ) → ℕ → SinkState → SinkState → Type 0
+Tells Belongs left status before after =
+    IfSome left (λ input. (status ≡ 3) ⊎ TellsBy (Belongs input) status before after)

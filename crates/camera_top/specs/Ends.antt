@@ -1,7 +1,8 @@
 use Rattle.std.specs.Prelude.{◌≤◌, List, length}
 use Rattle.cam_types.specs.declared.script.Script.{Script}
-use Rattle.service_core.specs.First.{IsFirstPlayedRun, IsFirstStuck, move_bound}
-use Rattle.service_core.specs.declared.step.Move.{Move}
+use Rattle.run_model.specs.Bounds.{move_bound}
+use Rattle.run_model.specs.declared.step.Move.{Move}
+use Rattle.service_core.specs.First.{IsFirstPlayedRun, IsFirstStuck}
 use Rattle.camera_top.specs.declared.play.Ended.{Ended}
 use Rattle.camera_top.specs.declared.play.Ended.TheVariants.{Complete, Unfinished, NoMemory}
 

@@ -2,5 +2,6 @@ pub mod Words
 pub mod Answers
 pub mod Says
 pub mod Judging
+pub mod Converting
 pub mod Ends
 pub mod Counting

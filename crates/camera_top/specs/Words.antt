@@ -1,11 +1,12 @@
 use Rattle.std.specs.Prelude.{Bool, true, false, Option, Some}
 use Rattle.camera_words.specs.declared.form.Form.{Form}
-use Rattle.camera_words.specs.declared.form.Form.TheVariants.{Play, Check, Help}
+use Rattle.camera_words.specs.declared.form.Form.TheVariants.{Play, Check, Convert, Help}
 
--- The words have a form whose command is built: today `play`, `check` and `help`. (docs/FORMATS.md)
+-- The words have a form whose command is built: today `play`, `check`, `convert` and `help`. (docs/FORMATS.md)
 abbrev pub is_built : Option Form → Bool
 is_built (Some Play) = true
 is_built (Some Check) = true
+is_built (Some Convert) = true
 is_built (Some Help) = true
 is_built _ = false
 
@@ -13,4 +14,5 @@ is_built _ = false
 abbrev pub reads : Option Form → Bool
 reads (Some Play) = true
 reads (Some Check) = true
+reads (Some Convert) = true
 reads _ = false

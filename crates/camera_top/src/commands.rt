@@ -1,14 +1,17 @@
 //! What the words ask for.
-ghost use Rattle.std.specs.Prelude.{◌≡◌, ◌≤◌, ◌⊎◌, true, false, IfSome, Option};
-ghost use Rattle.std.specs.Io.KnownBytes.{Appends, IsAtEnd, Keeps};
+ghost use Rattle.std.specs.Prelude.{◌≡◌, ◌≤◌, true, false, IfSome, Option};
+ghost use Rattle.std.specs.Io.KnownBytes.{IsAtEnd};
 ghost use Rattle.io_edge.specs.Faults.{Rose};
-ghost use Rattle.script_text.specs.Grammar.{script_of};
+ghost use Rattle.io_edge.specs.States.{Writes, WritesNothing};
+ghost use Rattle.judge_text.specs.Meaning.{Judges};
 ghost use Rattle.camera_words.specs.Forms.{form_of};
-ghost use Rattle.camera_top.specs.Answers.{Answers, help_text, usage_line};
-ghost use Rattle.camera_top.specs.Judging.{IsJudgedLegal, TellsVerdict};
-ghost use Rattle.camera_top.specs.Says.{IsWhole, Tells};
+ghost use Rattle.camera_top.specs.Answers.{Answers, Tells, help_text, usage_line};
+ghost use Rattle.camera_top.specs.Converting.{ConvertsInput, IsConverted};
+ghost use Rattle.camera_top.specs.Judging.{IsJudgedLegal};
+ghost use Rattle.camera_top.specs.Says.{IsWhole, Says};
 ghost use Rattle.camera_top.specs.Words.{is_built, reads};
 
+use crate::convert::convert_call;
 use crate::judge::check_call;
 use crate::player::play_call;
 use crate::status::{Status, answer};
@@ -17,11 +20,12 @@ use io_edge::{Sink, Source};
 use std::alloc::Global;
 
 /// The line of words that are no form, or of a form whose command isn't built yet.
-const USAGE_LINE: &[u8] = b"usage: camera play | run --workers N | check | gen SEED COUNT | help\n";
+const USAGE_LINE: &[u8] =
+    b"usage: camera play | run --workers N | check | gen SEED COUNT | convert | help\n";
 
 /// What `help` writes: what the program does, and the usage line.
 const HELP_TEXT: &[u8] =
-    b"camera: plays, runs and judges HAL3 camera scripts\nusage: camera play | run --workers N | check | gen SEED COUNT | help\n";
+    b"camera: plays, runs and judges HAL3 camera scripts\nusage: camera play | run --workers N | check | gen SEED COUNT | convert | help\n";
 
 /// Does what the words ask for.
 pub fn camera_main<S: Source, K: Sink>(
@@ -31,35 +35,52 @@ pub fn camera_main<S: Source, K: Sink>(
     sink: &mut K,
 ) -> Status
     // Words that are no form, or a form whose command isn't built yet: the usage line.
-    ensures usage { is_built (form_of words.now) ≡ false → Answers 2 usage_line result.number (K.written sink.old) (K.written sink.new) (K.faults sink.old) (K.faults sink.new) }
+    ensures usage { is_built (form_of words.now) ≡ false
+        → Answers 2 usage_line result.number (K.state sink.old) (K.state sink.new) }
     ensures usage_only { result.number ≡ 2 → is_built (form_of words.now) ≡ false }
 
     // `help`: the help text.
-    ensures help { form_of words.now ≡ Option.Some Form.Help → Answers 0 help_text result.number (K.written sink.old) (K.written sink.new) (K.faults sink.old) (K.faults sink.new) }
+    ensures help { form_of words.now ≡ Option.Some Form.Help
+        → Answers 0 help_text result.number (K.state sink.old) (K.state sink.new) }
 
     // `play`: as `play_call` says.
-    ensures plays { form_of words.now ≡ Option.Some Form.Play → IfSome (S.left source.old) (λ input. (result.number ≡ 3) ⊎ Tells (script_of input) result.number (K.written sink.old) (K.written sink.new) (K.faults sink.old) (K.faults sink.new)) }
+    ensures plays { form_of words.now ≡ Option.Some Form.Play
+        → Tells Says (S.left source.old) result.number (K.state sink.old) (K.state sink.new) }
 
     // `check`: as `check_call` says.
-    ensures judges { form_of words.now ≡ Option.Some Form.Check → IfSome (S.left source.old) (λ input. (result.number ≡ 3) ⊎ TellsVerdict input result.number (K.written sink.old) (K.written sink.new) (K.faults sink.old) (K.faults sink.new)) }
+    ensures judges { form_of words.now ≡ Option.Some Form.Check
+        → Tells Judges (S.left source.old) result.number (K.state sink.old) (K.state sink.new) }
 
-    // Status 0: the help text; or the source was read to its end, and the whole trace of the script's played run was written,
-    // which is complete; or the trace that was read is a complete legal run of the script that was read.
-    ensures help_done { form_of words.now ≡ Option.Some Form.Help → result.number ≡ 0 → Appends (K.written sink.old) (K.written sink.new) help_text }
-    ensures play_done { form_of words.now ≡ Option.Some Form.Play → result.number ≡ 0 → IsAtEnd (S.left source.new) × IfSome (S.left source.old) (λ input. IsWhole input (K.written sink.old) (K.written sink.new)) }
-    ensures check_done { form_of words.now ≡ Option.Some Form.Check → result.number ≡ 0 → IsAtEnd (S.left source.new) × IfSome (S.left source.old) (λ input. IsJudgedLegal input (K.written sink.old) (K.written sink.new)) }
+    // `convert`: as `convert_call` says.
+    ensures converts { form_of words.now ≡ Option.Some Form.Convert
+        → Tells ConvertsInput (S.left source.old) result.number (K.state sink.old) (K.state sink.new) }
+
+    // Status 0: the help text; or the source was read to its end, and the whole trace of the script's played run was
+    // written, which is complete; or the trace that was read is a complete legal run of the script that was read; or
+    // the trace that was read was written as one of version 2.
+    ensures help_done { form_of words.now ≡ Option.Some Form.Help → result.number ≡ 0
+        → Writes (K.state sink.old) (K.state sink.new) help_text }
+    ensures play_done { form_of words.now ≡ Option.Some Form.Play → result.number ≡ 0 → IsAtEnd (S.left source.new)
+        × IfSome (S.left source.old) (λ input. IsWhole input (K.state sink.old) (K.state sink.new)) }
+    ensures check_done { form_of words.now ≡ Option.Some Form.Check → result.number ≡ 0 → IsAtEnd (S.left source.new)
+        × IfSome (S.left source.old) (λ input. IsJudgedLegal input (K.state sink.old) (K.state sink.new)) }
+    ensures convert_done { form_of words.now ≡ Option.Some Form.Convert → result.number ≡ 0
+        → IsAtEnd (S.left source.new)
+        × IfSome (S.left source.old) (λ input. IsConverted input (K.state sink.old) (K.state sink.new)) }
     ensures done_built { result.number ≡ 0 → is_built (form_of words.now) ≡ true }
 
     // Other words read nothing.
     ensures unread { reads (form_of words.now) ≡ false → S.left source.new ≡ S.left source.old }
-    ensures source_failed { result.number ≡ 3 → Rose (S.faults source.old) (S.faults source.new) × Keeps (K.written sink.old) (K.written sink.new) }
-    ensures sink_failed { result.number ≡ 4 → Rose (K.faults sink.old) (K.faults sink.new) }
-    ensures no_memory { result.number ≡ 5 → Keeps (K.written sink.old) (K.written sink.new) }
+    ensures source_failed { result.number ≡ 3 → Rose (S.faults source.old) (S.faults source.new)
+        × WritesNothing (K.state sink.old) (K.state sink.new) }
+    ensures sink_failed { result.number ≡ 4 → Rose (K.state sink.old).faults (K.state sink.new).faults }
+    ensures no_memory { result.number ≡ 5 → WritesNothing (K.state sink.old) (K.state sink.new) }
     ensures known { result.number ≤ 6 }
 {
     match form_of(words) {
         Some(Form::Play) => play_call(alloc, source, sink),
         Some(Form::Check) => check_call(alloc, source, sink),
+        Some(Form::Convert) => convert_call(alloc, source, sink),
         Some(Form::Help) => help_call(sink),
         Some(Form::Run { .. } | Form::Gen { .. }) | None => usage(sink),
     }
@@ -67,14 +88,14 @@ pub fn camera_main<S: Source, K: Sink>(
 
 /// Writes the usage line.
 fn usage<K: Sink>(sink: &mut K) -> Status
-    ensures { Answers 2 usage_line result.number (K.written sink.old) (K.written sink.new) (K.faults sink.old) (K.faults sink.new) }
+    ensures { Answers 2 usage_line result.number (K.state sink.old) (K.state sink.new) }
 {
     answer(sink, USAGE_LINE, Status::USAGE)
 }
 
 /// Writes what the program does, and the usage line. It takes no memory.
 pub fn help_call<K: Sink>(sink: &mut K) -> Status
-    ensures { Answers 0 help_text result.number (K.written sink.old) (K.written sink.new) (K.faults sink.old) (K.faults sink.new) }
+    ensures { Answers 0 help_text result.number (K.state sink.old) (K.state sink.new) }
 {
     answer(sink, HELP_TEXT, Status::DONE)
 }

@@ -1,19 +1,19 @@
 //! `check`: a script and a trace are read, and the trace is judged.
 ghost use Rattle.std.specs.Prelude.{◌≡◌, ◌≢◌, ◌≤◌, ◌⊎◌, IfSome, Result, length};
-ghost use Rattle.std.specs.Io.KnownBytes.{IsAtEnd, Keeps};
+ghost use Rattle.std.specs.Io.KnownBytes.{IsAtEnd};
 ghost use Rattle.io_edge.specs.Faults.{Rose};
-ghost use Rattle.script_text.specs.Grammar.{script_of};
+ghost use Rattle.io_edge.specs.States.{Writes, WritesNothing};
 ghost use Rattle.trace_reader.specs.Grammar.{trace_of};
 ghost use Rattle.judge_text.specs.Lines.{verdict_status, verdict_text};
-ghost use Rattle.judge_text.specs.Parts.{first_line, script_part, trace_part};
-ghost use Rattle.camera_top.specs.Answers.{Answers};
-ghost use Rattle.camera_top.specs.Judging.{IsJudgedLegal, TellsParts, TellsVerdict};
+ghost use Rattle.judge_text.specs.Meaning.{Judges, JudgesBoth, JudgesTrace, JudgesWhole};
+ghost use Rattle.camera_top.specs.Answers.{AnswersWithMemory, Tells, TellsBy};
+ghost use Rattle.camera_top.specs.Judging.{IsJudgedLegal};
 
-use crate::refusal::{refuse_script, refuse_trace};
+use crate::refusal::{TOO_LONG, refuse_script, refuse_trace};
 use crate::status::{Status, answer};
 use cam_types::Script;
 use io_edge::{ReadBytes, ReadFault, Sink, Source, read_all};
-use judge_text::{parts_of, verdict_text};
+use judge_text::{parts_of, profiles_agree, verdict_text};
 use run_laws::a_complete_run_keeps_the_laws;
 use script_text::ScriptRefused;
 use std::alloc::Global;
@@ -21,20 +21,22 @@ use trace_check::{Verdict, check};
 use trace_model::TraceList;
 use trace_reader::{TRACE_BYTES, TraceRefused};
 
-/// The cause of an input that is too long.
-const TOO_LONG: u8 = 45;
+/// The cause of a trace whose profile isn't the script's.
+const PROFILE_DIFFERS: u8 = 46;
 
 /// Reads a script followed by a trace, judges the trace and writes the verdict.
 pub fn check_call<S: Source, K: Sink>(alloc: Global, source: &mut S, sink: &mut K) -> Status
-    // At status 0 the source was read to its end, its bytes are a script and a trace, and the trace is a complete legal run
-    // of the script and keeps the laws.
-    ensures legal { result.number ≡ 0 → IsAtEnd (S.left source.new) × IfSome (S.left source.old) (λ input. IsJudgedLegal input (K.written sink.old) (K.written sink.new)) }
-    // Each status and each text has its cause in the input's meaning: where no end failed and memory was there, the status
-    // and the text are those that belong to it. At status 4 a front of that text is written.
-    ensures tells { IfSome (S.left source.old) (λ input. (result.number ≡ 3) ⊎ TellsVerdict input result.number (K.written sink.old) (K.written sink.new) (K.faults sink.old) (K.faults sink.new)) }
-    ensures source_failed { result.number ≡ 3 → Rose (S.faults source.old) (S.faults source.new) × Keeps (K.written sink.old) (K.written sink.new) }
-    ensures sink_failed { result.number ≡ 4 → Rose (K.faults sink.old) (K.faults sink.new) }
-    ensures no_memory { result.number ≡ 5 → Keeps (K.written sink.old) (K.written sink.new) }
+    // At status 0 the source was read to its end, its bytes are a script and a trace of its profile, and the trace is a
+    // complete legal run of the script and keeps the laws.
+    ensures legal { result.number ≡ 0 → IsAtEnd (S.left source.new)
+        × IfSome (S.left source.old) (λ input. IsJudgedLegal input (K.state sink.old) (K.state sink.new)) }
+    // Each status and each text has its cause in the input's meaning: where no end failed and memory was there, the
+    // status and the text are those that belong to it. At status 4 a front of that text is written.
+    ensures tells { Tells Judges (S.left source.old) result.number (K.state sink.old) (K.state sink.new) }
+    ensures source_failed { result.number ≡ 3 → Rose (S.faults source.old) (S.faults source.new)
+        × WritesNothing (K.state sink.old) (K.state sink.new) }
+    ensures sink_failed { result.number ≡ 4 → Rose (K.state sink.old).faults (K.state sink.new).faults }
+    ensures no_memory { result.number ≡ 5 → WritesNothing (K.state sink.old) (K.state sink.new) }
     ensures known { result.number ≤ 5 }
     ensures no_usage { result.number ≢ 2 }
 {
@@ -50,7 +52,7 @@ pub fn check_call<S: Source, K: Sink>(alloc: Global, source: &mut S, sink: &mut 
 /// Reads the script of an input, and judges its trace.
 fn judge_input<K: Sink>(alloc: Global, input: &[u8], sink: &mut K) -> Status
     requires { length input.now ≤ 134217728 }
-    ensures { TellsParts (script_of (script_part input.now)) (trace_of (first_line input.now) (trace_part input.now)) result.number (K.written sink.old) (K.written sink.new) (K.faults sink.old) (K.faults sink.new) }
+    ensures { TellsBy (JudgesWhole input.now) result.number (K.state sink.old) (K.state sink.new) }
 {
     let parts = parts_of(input);
     match script_text::read(alloc, parts.script) {
@@ -71,19 +73,30 @@ fn judge_text_of<K: Sink>(
     requires long { length text.now ≤ 134217728 }
     requires some { 1 ≤ first_line }
     requires numbers { first_line ≤ 134217729 }
-    ensures { TellsParts (Result.Ok script.now) (trace_of first_line text.now) result.number (K.written sink.old) (K.written sink.new) (K.faults sink.old) (K.faults sink.new) }
+    ensures { TellsBy (JudgesTrace first_line script.now (trace_of first_line text.now)) result.number
+        (K.state sink.old) (K.state sink.new) }
 {
     match trace_reader::read(alloc, text, first_line) {
         Err(TraceRefused::NoMemory) => Status::NO_MEMORY,
         Err(TraceRefused::Bad { line, cause }) => refuse_trace(alloc, line, cause.number(), sink),
-        Ok(trace) => judge_trace(alloc, script, &trace, sink),
+        Ok(trace) => judge_trace(alloc, script, &trace, first_line, sink),
     }
 }
 
-/// Judges a trace, and writes its verdict.
-fn judge_trace<K: Sink>(alloc: Global, script: &Script, trace: &TraceList, sink: &mut K) -> Status
-    ensures { TellsParts (Result.Ok script.now) (Result.Ok trace.now) result.number (K.written sink.old) (K.written sink.new) (K.faults sink.old) (K.faults sink.new) }
+/// Compares the profiles of a script and a trace, whose first line has the number; where they agree, judges the trace
+/// and writes its verdict.
+fn judge_trace<K: Sink>(
+    alloc: Global,
+    script: &Script,
+    trace: &TraceList,
+    first_line: u32,
+    sink: &mut K,
+) -> Status
+    ensures { TellsBy (JudgesBoth first_line script.now trace.now) result.number (K.state sink.old) (K.state sink.new) }
 {
+    if !profiles_agree(script, trace) {
+        return refuse_trace(alloc, first_line, PROFILE_DIFFERS, sink);
+    }
     match check(alloc, script, trace) {
         Ok(verdict) => write_verdict(alloc, verdict, sink),
         Err(_) => Status::NO_MEMORY,
@@ -103,7 +116,8 @@ fn status_of(verdict: Verdict) -> Status
 
 /// Writes a verdict.
 fn write_verdict<K: Sink>(alloc: Global, verdict: Verdict, sink: &mut K) -> Status
-    ensures { ((result.number ≡ 5) × Keeps (K.written sink.old) (K.written sink.new)) ⊎ Answers (verdict_status verdict) (verdict_text verdict) result.number (K.written sink.old) (K.written sink.new) (K.faults sink.old) (K.faults sink.new) }
+    ensures { AnswersWithMemory (verdict_status verdict) (verdict_text verdict) result.number
+        (K.state sink.old) (K.state sink.new) }
 {
     match verdict_text(alloc, verdict) {
         Ok(text) => answer(sink, text.as_slice(), status_of(verdict)),

@@ -2,6 +2,7 @@
 #![tactic(auto)]
 
 mod commands;
+mod convert;
 mod judge;
 mod laws;
 mod play;
@@ -12,6 +13,7 @@ mod status;
 mod tests;
 
 pub use commands::{camera_main, help_call};
+pub use convert::convert_call;
 pub use judge::check_call;
 pub use laws::complete_runs_are_not_stuck;
 pub use player::play_call;

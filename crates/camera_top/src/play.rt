@@ -1,6 +1,7 @@
 ghost use Rattle.std.specs.Prelude.{◌≡◌, ◌≤◌, [], count_by, length, true};
 ghost use Rattle.cam_types.specs.Script.{awaited_by};
-ghost use Rattle.service_core.specs.First.{IsFirstPlayedRun, IsFirstStuck, move_bound, queued_by};
+ghost use Rattle.run_model.specs.Bounds.{move_bound};
+ghost use Rattle.service_core.specs.First.{IsFirstPlayedRun, IsFirstStuck};
 ghost use Rattle.service_core.specs.RawScripts.{is_raw_script};
 ghost use Rattle.camera_top.specs.Counting.{is_once};
 ghost use Rattle.camera_top.specs.Ends.{EndsAs};
@@ -29,7 +30,7 @@ fn request_count(commands: &[Command]) -> usize
     commands.iter().filter(|command| is_once(command)).count()
 }
 
-/// More moves than a run of the script makes: see `move_bound` of the service's definitions.
+/// More moves than a run of the script makes: see `move_bound` of the run model.
 pub fn move_bound(script: &Script) -> u64
     requires { is_raw_script script.now ≡ true }
     ensures { result ≡ move_bound script.now }

@@ -1,17 +1,20 @@
 //! The lines that refuse an input.
 ghost use Rattle.std.specs.Prelude.{◌≡◌, ◌⊎◌};
-ghost use Rattle.std.specs.Io.KnownBytes.{Keeps};
+ghost use Rattle.io_edge.specs.States.{WritesNothing};
 ghost use Rattle.judge_text.specs.Lines.{refused_script_text, refused_trace_text};
-ghost use Rattle.camera_top.specs.Answers.{Answers};
+ghost use Rattle.camera_top.specs.Answers.{AnswersWithMemory};
 
 use crate::status::{Status, answer};
 use io_edge::Sink;
 use judge_text::{refused_script_text, refused_trace_text};
 use std::alloc::Global;
 
+/// The cause of an input with more bytes than a trace may have.
+pub const TOO_LONG: u8 = 45;
+
 /// Refuses a script.
 pub fn refuse_script<K: Sink>(alloc: Global, line: u32, cause: u8, sink: &mut K) -> Status
-    ensures { ((result.number ≡ 5) × Keeps (K.written sink.old) (K.written sink.new)) ⊎ Answers 1 (refused_script_text line cause) result.number (K.written sink.old) (K.written sink.new) (K.faults sink.old) (K.faults sink.new) }
+    ensures { AnswersWithMemory 1 (refused_script_text line cause) result.number (K.state sink.old) (K.state sink.new) }
 {
     match refused_script_text(alloc, line, cause) {
         Ok(text) => answer(sink, text.as_slice(), Status::REFUSED),
@@ -21,7 +24,7 @@ pub fn refuse_script<K: Sink>(alloc: Global, line: u32, cause: u8, sink: &mut K)
 
 /// Refuses a trace.
 pub fn refuse_trace<K: Sink>(alloc: Global, line: u32, cause: u8, sink: &mut K) -> Status
-    ensures { ((result.number ≡ 5) × Keeps (K.written sink.old) (K.written sink.new)) ⊎ Answers 1 (refused_trace_text line cause) result.number (K.written sink.old) (K.written sink.new) (K.faults sink.old) (K.faults sink.new) }
+    ensures { AnswersWithMemory 1 (refused_trace_text line cause) result.number (K.state sink.old) (K.state sink.new) }
 {
     match refused_trace_text(alloc, line, cause) {
         Ok(text) => answer(sink, text.as_slice(), Status::REFUSED),

@@ -1,4 +1,5 @@
 ghost use Rattle.std.specs.Prelude.{◌≡◌, ◌⊎◌, ◌<◌, length};
+ghost use Rattle.io_edge.specs.States.{Writes};
 ghost use Rattle.camera_top.specs.Answers.{Answers};
 
 use io_edge::{Sink, write_all};
@@ -28,7 +29,7 @@ impl Status {
 
 /// Writes the text, and gives the status, or 4 where the sink failed.
 pub fn answer<K: Sink>(sink: &mut K, text: &[u8], status: Status) -> Status
-    ensures { Answers status.number text.now result.number (K.written sink.old) (K.written sink.new) (K.faults sink.old) (K.faults sink.new) }
+    ensures { Answers status.number text.now result.number (K.state sink.old) (K.state sink.new) }
 {
     match write_all(sink, text) {
         Ok(()) => status,

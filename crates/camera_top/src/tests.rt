@@ -21,10 +21,11 @@ const NOT_BUILT: &[u8] = b"refused script 0 39\n";
 
 const TOO_LONG: &[u8] = b"refused script 0 37\n";
 
-const USAGE: &[u8] = b"usage: camera play | run --workers N | check | gen SEED COUNT | help\n";
+const USAGE: &[u8] =
+    b"usage: camera play | run --workers N | check | gen SEED COUNT | convert | help\n";
 
 const HELP: &[u8] =
-    b"camera: plays, runs and judges HAL3 camera scripts\nusage: camera play | run --workers N | check | gen SEED COUNT | help\n";
+    b"camera: plays, runs and judges HAL3 camera scripts\nusage: camera play | run --workers N | check | gen SEED COUNT | convert | help\n";
 
 /// A script that closes, and its trace.
 const JUDGED: &[u8] = b"camera 1\nclose\ntrace 1\nbegin close\ncall 0 close = ok\nend\n";
@@ -38,6 +39,22 @@ const INCOMPLETE: &[u8] = b"incomplete calls\n";
 const TRUNCATED: &[u8] = b"refused trace 5 41\n";
 
 const NO_TRACE: &[u8] = b"refused trace 3 41\n";
+
+/// The refusals of a trace whose profile isn't the script's, and of one that has no end besides.
+const DIFFERS: &[u8] = b"refused trace 4 46\n";
+
+const DIFFERS_TRUNCATED: &[u8] = b"refused trace 6 41\n";
+
+/// A trace alone, in the two versions.
+const VERSION_ONE: &[u8] = b"trace 1\nbegin close\ncall 0 close = ok\nend\n";
+
+const VERSION_TWO: &[u8] = b"trace 2 6 3 4\nbegin close\ncall 0 close = ok\nend\n";
+
+const DEEPER: &[u8] = b"trace 2 8 3 7\nbegin close\ncall 0 close = ok\nend\n";
+
+const NO_PROFILE: &[u8] = b"refused trace 1 42\n";
+
+const NOTHING: &[u8] = b"refused trace 1 41\n";
 
 /// What row one_frame writes, in parts: up to the metadata, the metadata and the picture's digest, the rest.
 const OPENING: &[u8] =
@@ -81,6 +98,210 @@ enum Text {
 const CASES: &[Case] = &[
     Case {
         words: &["check"],
+        input: b"camera 2\ndevice 8 3 7\nclose\ntrace 2 8 3 7\nbegin close\ncall 0 close = ok\nend\n",
+        source_piece: 7,
+        source_failing: &[],
+        room: 9000,
+        sink_piece: 64,
+        sink_failing: &[],
+        status: 0,
+        text: Text::Line(LEGAL),
+        written: 6,
+    },
+    Case {
+        words: &["check"],
+        input: b"camera 1\nclose\ntrace 2 6 3 4\nbegin close\ncall 0 close = ok\nend\n",
+        source_piece: 7,
+        source_failing: &[],
+        room: 9000,
+        sink_piece: 64,
+        sink_failing: &[],
+        status: 0,
+        text: Text::Line(LEGAL),
+        written: 6,
+    },
+    Case {
+        words: &["check"],
+        input: b"camera 2\nclose\ntrace 1\nbegin close\ncall 0 close = ok\nend\n",
+        source_piece: 7,
+        source_failing: &[],
+        room: 9000,
+        sink_piece: 64,
+        sink_failing: &[],
+        status: 0,
+        text: Text::Line(LEGAL),
+        written: 6,
+    },
+    Case {
+        words: &["check"],
+        input: b"camera 2\ndevice 8 3 7\nclose\ntrace 1\nbegin close\ncall 0 close = ok\nend\n",
+        source_piece: 7,
+        source_failing: &[],
+        room: 9000,
+        sink_piece: 64,
+        sink_failing: &[],
+        status: 1,
+        text: Text::Line(DIFFERS),
+        written: 19,
+    },
+    Case {
+        words: &["check"],
+        input: b"camera 2\ndevice 8 3 7\nclose\ntrace 2 8 3 4\nbegin close\ncall 0 close = refused 2\nend\n",
+        source_piece: 7,
+        source_failing: &[],
+        room: 9000,
+        sink_piece: 64,
+        sink_failing: &[],
+        status: 1,
+        text: Text::Line(DIFFERS),
+        written: 19,
+    },
+    Case {
+        words: &["check"],
+        input: b"camera 2\ndevice 8 3 7\nclose\ntrace 1\nbegin close\n",
+        source_piece: 7,
+        source_failing: &[],
+        room: 9000,
+        sink_piece: 64,
+        sink_failing: &[],
+        status: 1,
+        text: Text::Line(DIFFERS_TRUNCATED),
+        written: 19,
+    },
+    Case {
+        words: &["convert"],
+        input: VERSION_ONE,
+        source_piece: 7,
+        source_failing: &[],
+        room: 9000,
+        sink_piece: 64,
+        sink_failing: &[],
+        status: 0,
+        text: Text::Line(VERSION_TWO),
+        written: 48,
+    },
+    Case {
+        words: &["convert"],
+        input: VERSION_TWO,
+        source_piece: 7,
+        source_failing: &[],
+        room: 9000,
+        sink_piece: 64,
+        sink_failing: &[],
+        status: 0,
+        text: Text::Line(VERSION_TWO),
+        written: 48,
+    },
+    Case {
+        words: &["convert"],
+        input: DEEPER,
+        source_piece: 1,
+        source_failing: &[],
+        room: 9000,
+        sink_piece: 1,
+        sink_failing: &[],
+        status: 0,
+        text: Text::Line(DEEPER),
+        written: 48,
+    },
+    Case {
+        words: &["convert"],
+        input: b"trace 1\nbegin close\n",
+        source_piece: 7,
+        source_failing: &[],
+        room: 9000,
+        sink_piece: 64,
+        sink_failing: &[],
+        status: 1,
+        text: Text::Line(NO_TRACE),
+        written: 19,
+    },
+    Case {
+        words: &["convert"],
+        input: b"",
+        source_piece: 7,
+        source_failing: &[],
+        room: 9000,
+        sink_piece: 64,
+        sink_failing: &[],
+        status: 1,
+        text: Text::Line(NOTHING),
+        written: 19,
+    },
+    Case {
+        words: &["convert"],
+        input: b"trace 2 0 3 4\nend\n",
+        source_piece: 7,
+        source_failing: &[],
+        room: 9000,
+        sink_piece: 64,
+        sink_failing: &[],
+        status: 1,
+        text: Text::Line(NO_PROFILE),
+        written: 19,
+    },
+    Case {
+        words: &["convert"],
+        input: VERSION_ONE,
+        source_piece: 7,
+        source_failing: &[2],
+        room: 9000,
+        sink_piece: 64,
+        sink_failing: &[],
+        status: 3,
+        text: Text::Line(VERSION_TWO),
+        written: 0,
+    },
+    Case {
+        words: &["convert"],
+        input: VERSION_ONE,
+        source_piece: 7,
+        source_failing: &[],
+        room: 10,
+        sink_piece: 64,
+        sink_failing: &[],
+        status: 4,
+        text: Text::Line(VERSION_TWO),
+        written: 10,
+    },
+    Case {
+        words: &["convert"],
+        input: VERSION_ONE,
+        source_piece: 7,
+        source_failing: &[],
+        room: 9000,
+        sink_piece: 64,
+        sink_failing: &[1],
+        status: 4,
+        text: Text::Line(VERSION_TWO),
+        written: 0,
+    },
+    Case {
+        words: &["play"],
+        input: b"camera 2\n",
+        source_piece: 7,
+        source_failing: &[],
+        room: 9000,
+        sink_piece: 64,
+        sink_failing: &[],
+        status: 1,
+        text: Text::Line(NOT_BUILT),
+        written: 20,
+    },
+    Case {
+        words: &["play"],
+        input: b"camera 2\ndevice 8 3 7\nconfigure raw16:160x120\n",
+        source_piece: 7,
+        source_failing: &[],
+        room: 9000,
+        sink_piece: 64,
+        sink_failing: &[],
+        status: 1,
+        text: Text::Line(NOT_BUILT),
+        written: 20,
+    },
+    Case {
+        words: &["check"],
         input: JUDGED,
         source_piece: 7,
         source_failing: &[],
@@ -117,7 +338,7 @@ const CASES: &[Case] = &[
     },
     Case {
         words: &["check"],
-        input: b"camera 2\ntrace 1\nend\n",
+        input: b"camera 3\ntrace 1\nend\n",
         source_piece: 4096,
         source_failing: &[],
         room: 9000,
@@ -297,7 +518,7 @@ const CASES: &[Case] = &[
     },
     Case {
         words: &["play"],
-        input: b"camera 2\n",
+        input: b"camera 3\n",
         source_piece: 7,
         source_failing: &[],
         room: 9000,
@@ -389,7 +610,7 @@ const CASES: &[Case] = &[
         sink_failing: &[],
         status: 2,
         text: Text::Line(USAGE),
-        written: 69,
+        written: 79,
     },
     Case {
         words: &["play", "play"],
@@ -401,7 +622,7 @@ const CASES: &[Case] = &[
         sink_failing: &[],
         status: 2,
         text: Text::Line(USAGE),
-        written: 69,
+        written: 79,
     },
     Case {
         words: &["help"],
@@ -413,7 +634,7 @@ const CASES: &[Case] = &[
         sink_failing: &[],
         status: 0,
         text: Text::Line(HELP),
-        written: 120,
+        written: 130,
     },
     Case {
         words: &["help"],
@@ -437,7 +658,7 @@ const CASES: &[Case] = &[
         sink_failing: &[],
         status: 2,
         text: Text::Line(USAGE),
-        written: 69,
+        written: 79,
     },
     Case {
         words: &["run", "--workers", "2"],
@@ -449,7 +670,7 @@ const CASES: &[Case] = &[
         sink_failing: &[],
         status: 2,
         text: Text::Line(USAGE),
-        written: 69,
+        written: 79,
     },
     Case {
         words: &["gen", "1", "2"],
@@ -461,7 +682,7 @@ const CASES: &[Case] = &[
         sink_failing: &[],
         status: 2,
         text: Text::Line(USAGE),
-        written: 69,
+        written: 79,
     },
     Case {
         words: &["play", ""],

@@ -1,12 +1,10 @@
 -- The forms of the command line. (docs/FORMATS.md, words)
-use Rattle.std.specs.Prelude.{ℕ, ◌==◌, ◌-◌, ◌^◌, Bool, false, ◌&&◌, not, List, [], ◌∷◌, Option, Some, None, codes, nat_eq, nat_le, if◌then◌else◌}
+use Rattle.std.specs.Prelude.{ℕ, ◌-◌, ◌^◌, Bool, ◌&&◌, List, [], ◌∷◌, Option, Some, None, codes, nat_eq, if◌then◌else◌}
 use Rattle.std.specs.Borrow.{Bor}
-use Rattle.std.specs.Char.{is_ascii_digit}
 use Rattle.std.specs.Cmp.Lexicographic.{pointwise}
-use Rattle.std.specs.List.{list_all}
-use Rattle.std.specs.Str.Parse.{digits_value}
+use Rattle.text_parts.specs.Numbers.{number_within}
 use Rattle.camera_words.specs.declared.form.Form.{Form}
-use Rattle.camera_words.specs.declared.form.Form.TheVariants.{Play, Run, Check, Gen, Help}
+use Rattle.camera_words.specs.declared.form.Form.TheVariants.{Play, Run, Check, Gen, Convert, Help}
 
 -- the second value, where the first is there
 infixl 10 ◌>>=◌
@@ -18,20 +16,9 @@ Some a >>= f = f a
 abbrev pub is_text : List ℕ → List ℕ → Bool
 is_text text other = pointwise nat_eq text other
 
--- decimal digits, without sign and leading zeros (48 is `0`)
-abbrev pub is_number : List ℕ → Bool
-is_number [] = false
-is_number (d ∷ []) = is_ascii_digit d
-is_number (d ∷ e ∷ ds) = not (d == 48) && list_all is_ascii_digit (d ∷ e ∷ ds)
-
--- the number that a word spells, where it is one from the least to the greatest
-abbrev pub number_within : ℕ → ℕ → List ℕ → Option ℕ
-number_within least greatest word =
-    if is_number word && (nat_le least (digits_value 10 word) && nat_le (digits_value 10 word) greatest) then Some (digits_value 10 word) else None
-
--- `play`, `check` and `help`
+-- `play`, `check`, `convert` and `help`
 abbrev pub alone : List ℕ → Option Form
-alone word = if is_text word (codes "play") then Some Play else (if is_text word (codes "check") then Some Check else (if is_text word (codes "help") then Some Help else None))
+alone word = if is_text word (codes "play") then Some Play else (if is_text word (codes "check") then Some Check else (if is_text word (codes "convert") then Some Convert else (if is_text word (codes "help") then Some Help else None)))
 
 -- 1 to 8 workers
 abbrev pub run_of : List ℕ → Option Form

@@ -3,7 +3,7 @@
 ghost use Rattle.std.specs.Prelude.{◌≡◌};
 ghost use Rattle.camera_words.specs.Forms.{alone, form_of, gen_of, of_three, run_of};
 
-use crate::number::number_within;
+use text_parts::number_within;
 
 /// The most workers of a run.
 const WORKER_LIMIT: u64 = 8;
@@ -11,13 +11,14 @@ const WORKER_LIMIT: u64 = 8;
 /// The most commands of a script that is made.
 const COUNT_LIMIT: u64 = 200;
 
-/// What the words ask for: `play`, `run --workers N`, `check`, `gen SEED COUNT` or `help`.
+/// What the words ask for: `play`, `run --workers N`, `check`, `gen SEED COUNT`, `convert` or `help`.
 #[derive(Clone, Copy, Debug, PartialEq, Eq)]
 pub enum Form {
     Play,
     Run { workers: u32 },
     Check,
     Gen { seed: u64, count: u32 },
+    Convert,
     Help,
 }
 
@@ -28,6 +29,7 @@ fn alone(word: &str) -> Option<Form>
     match word {
         "play" => Some(Form::Play),
         "check" => Some(Form::Check),
+        "convert" => Some(Form::Convert),
         "help" => Some(Form::Help),
         _ => None,
     }
@@ -37,7 +39,7 @@ fn alone(word: &str) -> Option<Form>
 fn run_of(workers: &str) -> Option<Form>
     ensures { result ≡ run_of workers.now }
 {
-    let workers = number_within(workers, 1, WORKER_LIMIT)?;
+    let workers = number_within(workers.as_bytes(), 1, WORKER_LIMIT)?;
     Some(Form::Run {
         workers: workers as u32,
     })
@@ -47,8 +49,8 @@ fn run_of(workers: &str) -> Option<Form>
 fn gen_of(seed: &str, count: &str) -> Option<Form>
     ensures { result ≡ gen_of seed.now count.now }
 {
-    let seed = number_within(seed, 0, u64::MAX)?;
-    let count = number_within(count, 0, COUNT_LIMIT)?;
+    let seed = number_within(seed.as_bytes(), 0, u64::MAX)?;
+    let count = number_within(count.as_bytes(), 0, COUNT_LIMIT)?;
     Some(Form::Gen {
         seed,
         count: count as u32,

@@ -2,7 +2,6 @@
 #![tactic(auto)]
 
 mod form;
-mod number;
 
 pub use form::{Form, form_of};
 

@@ -7,6 +7,7 @@ type Case = (&'static [&'static str], Option<Form>);
 const CASES: &[Case] = &[
     (&["play"], Some(Form::Play)),
     (&["check"], Some(Form::Check)),
+    (&["convert"], Some(Form::Convert)),
     (&["help"], Some(Form::Help)),
     (&["run", "--workers", "1"], Some(Form::Run { workers: 1 })),
     (&["run", "--workers", "8"], Some(Form::Run { workers: 8 })),
@@ -22,6 +23,7 @@ const CASES: &[Case] = &[
     (&[""], None),
     (&["Play"], None),
     (&["play", "play"], None),
+    (&["convert", "x"], None),
     (&["help", "me"], None),
     (&["run"], None),
     (&["run", "--workers"], None),

@@ -1,7 +1,7 @@
 -- With which frames the device is done.
 use Rattle.std.proofs.Common.{◌≡◌, ℕ, ◌==◌, ◌+◌, ◌≤◌, Bool, true, false, ◌&&◌, ◌||◌, not, List, [], ◌∷◌, Option, Some, refl, sym, ap, ◌∙◌, arith, inl, inr, filter, find, length, nat_lt}
 use Rattle.std.specs.List.{list_any, list_all}
-use Rattle.std.proofs.lemmas.Bool.{and_from, and_parts, cases_Bool, eqb-true, false≢true, lt-ltb, ltb-true, ne_eqb, or_right}
+use Rattle.std.proofs.lemmas.Bool.{and_from, and_parts, cases_Bool, eqb-true, false≢true, ltb-true, ne_eqb, or_right}
 use Rattle.cam_types.specs.declared.four.Four.{Four}
 use Rattle.cam_types.specs.declared.number.BufferId.{BufferId}
 use Rattle.cam_types.specs.declared.number.FenceNo.{FenceNo}
@@ -12,24 +12,24 @@ use Rattle.cam_types.specs.declared.reply.Reply.TheVariants.{Submitted}
 use Rattle.cam_types.specs.declared.script.Script.{Script}
 use Rattle.cam_types.specs.declared.script.Word.{Word}
 use Rattle.trace_model.specs.declared.entry.Entry.{Entry}
-use Rattle.trace_model.specs.declared.entry.Entry.TheVariants.{Begin, Call, Send, Partial, ErrorRequest, ErrorResult, Early, Late}
+use Rattle.trace_model.specs.declared.entry.Entry.TheVariants.{Call, Send, Partial, ErrorRequest, ErrorResult, Early, Late}
 use Rattle.trace_model.specs.declared.entry.Sent.{Sent}
 use Rattle.trace_model.specs.Allowed.{IsAllowed}
 use Rattle.trace_model.specs.Calls.{request_count}
 use Rattle.trace_model.specs.Client.{before_begin, call_due, done_since_begin}
-use Rattle.trace_model.specs.Entry.{is_early_with, is_error_request, is_error_result, is_part, sends}
+use Rattle.trace_model.specs.Entry.{is_early_with, sends}
 use Rattle.trace_model.specs.Errors.{may_fail_request}
 use Rattle.trace_model.specs.Filled.{early_due}
-use Rattle.trace_model.specs.Frames.{frames, has_error_request, is_repeating_frame, is_sent, repeats_in, send_of, targets_of}
+use Rattle.trace_model.specs.Frames.{frames, is_repeating_frame, is_sent, repeats_in, send_of, targets_of}
 use Rattle.trace_model.specs.Laws.{ends_metadata}
 use Rattle.trace_model.specs.Legal.{IsLegal}
 use Rattle.trace_model.specs.Numbers.{next_number}
-use Rattle.trace_model.specs.Open.{all_settled, has_error_result, has_part, has_something, is_done, is_metadata_ended, is_open, is_settled}
+use Rattle.trace_model.specs.Open.{all_settled, has_something, is_done, is_metadata_ended, is_open, is_settled}
 use Rattle.trace_model.specs.Send.{may_send}
 use Rattle.trace_bounds.proofs.Shapes.{late-is}
 use Rattle.frame_laws.proofs.Metadata.{ended-by, result-fails}
 use Rattle.frame_laws.proofs.Parts.{part-is}
-use Rattle.frame_laws.proofs.Sends.{all-sent, send-number, sent-below}
+use Rattle.frame_laws.proofs.Sends.{send-number, sent-below}
 use Rattle.frame_laws.proofs.Shutters.{shutter-sent}
 use Rattle.frame_laws.proofs.Submitted.{request-number}
 use Rattle.past_facts.proofs.Done.{done-more, done-before}
@@ -39,7 +39,7 @@ use Rattle.queue_facts.proofs.Names.{names_request, unnamed}
 use Rattle.client_facts.specs.Clients.{ends_early, ends_frame, finishes, one_if}
 use Rattle.client_facts.proofs.Counts.{filter-agree, one-more}
 use Rattle.basic_lemmas.proofs.Tests.{or-alone, passed-where}
-use Rattle.basic_lemmas.proofs.Lists.{any-behind, all-where, all-agree}
+use Rattle.basic_lemmas.proofs.Lists.{any-behind, all-agree}
 
 -- ---- an entry of frame n, which changes nothing of the others
 

@@ -11,8 +11,8 @@ use Rattle.trace_model.specs.Open.{all_settled, is_metadata_ended, is_open, is_q
 use Rattle.frame_laws.proofs.Sends.{all-sent, each-at}
 use Rattle.frame_facts.proofs.Last.{IsLast, any-found, last-is, last-none, last_where}
 use Rattle.frame_facts.proofs.OpenRows.{IsDone, frame-among}
-use Rattle.frame_facts.proofs.Sensor.{frames-fall}
 use Rattle.basic_lemmas.proofs.Lists.{all-where}
+use Rattle.past_facts.proofs.Frames.{frames-fall}
 
 pub record IsLeast (past : List Entry) (n : ℕ) : Type 0 where
   pub sent : is_sent n past ≡ true

@@ -20,7 +20,7 @@ use Rattle.frame_facts.specs.Readings.{EarlyReads, FailedReads, FilledReads, ear
 use Rattle.frame_facts.proofs.Errors.{done-returned, target-reads, target-stream}
 use Rattle.frame_facts.proofs.Last.{any-found}
 use Rattle.frame_facts.proofs.OpenRows.{IsDone, by-row, each-reads, timed-shutter}
-use Rattle.frame_facts.proofs.Out.{out-reads}
+use Rattle.past_facts.proofs.Out.{out-reads}
 use Rattle.basic_lemmas.proofs.Lists.{all-mapped}
 
 -- ---- frames that hold no later buffer back

@@ -19,13 +19,15 @@ use Rattle.trace_model.specs.Legal.{IsLegal}
 use Rattle.trace_model.specs.Open.{early_fences, is_settled}
 use Rattle.trace_bounds.proofs.Shapes.{found-passes}
 use Rattle.buffer_laws.proofs.Early.{Given, given, settled-late}
-use Rattle.frame_facts.specs.Row.{has_fence, in_order, is_open_row, open_rows, row_of, target_at}
+use Rattle.frame_facts.specs.Row.{in_order, is_open_row, open_rows, row_of, target_at}
+use Rattle.past_facts.specs.Settled.{has_fence}
 use Rattle.frame_facts.specs.Readings.{LateReads, has_pending, is_pending, late_from, late_row, on_row}
 use Rattle.frame_facts.proofs.Last.{any-found, find-one, first-kept}
 use Rattle.frame_facts.proofs.OpenRows.{closed-done, frame-among}
 use Rattle.frame_facts.proofs.Order.{any-order, order-sent}
-use Rattle.frame_facts.proofs.Settled.{fence-frame, fence-given}
+use Rattle.frame_facts.proofs.Settled.{fence-given}
 use Rattle.basic_lemmas.proofs.Lists.{any-where, any-mapped, find-mapped}
+use Rattle.past_facts.proofs.Settled.{fence-frame}
 
 -- the target of frame m for stream u waits for the device fence
 abbrev pub pends : List Entry → ℕ → ℕ → ℕ → Bool

@@ -19,16 +19,16 @@ use Rattle.buffer_laws.proofs.Own.{at-device-by-some}
 use Rattle.buffer_laws.proofs.Sends.{frames-sent, holds, is_distinct, out-sent, out-target}
 use Rattle.frame_facts.specs.Row.{in_order, is_open_row, row_of, target_at}
 use Rattle.frame_facts.specs.Readings.{OutReads, is_out_for}
-use Rattle.frame_facts.proofs.Apart.{one-stream}
+use Rattle.past_facts.proofs.Streams.{one-stream}
 use Rattle.frame_facts.proofs.Errors.{done-returned}
 use Rattle.frame_facts.proofs.Last.{any-found, falls}
 use Rattle.frame_facts.proofs.OpenRows.{IsDone, closed-done, frame-among}
 use Rattle.frame_facts.proofs.Order.{count-order, order-sent}
-use Rattle.frame_facts.proofs.Out.{not-returned-out, one-holder}
+use Rattle.past_facts.proofs.Out.{one-holder, not-returned-out}
 use Rattle.frame_facts.proofs.Pairs.{count-length, count-rows, count-where, pairs}
-use Rattle.frame_facts.proofs.Sensor.{frames-fall}
 use Rattle.basic_lemmas.proofs.Lists.{all-where, all-always, any-mapped, any-at}
 use Rattle.basic_lemmas.proofs.Ranges.{in-range}
+use Rattle.past_facts.proofs.Frames.{frames-fall}
 
 -- ---- distinct numbers
 

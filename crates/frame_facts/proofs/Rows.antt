@@ -18,13 +18,14 @@ use Rattle.trace_model.specs.Partial.{part_count}
 use Rattle.trace_model.specs.Numbers.{next_number}
 use Rattle.buffer_laws.proofs.Early.{not-brought, not-given}
 use Rattle.buffer_laws.proofs.Sends.{not-the-next, send-number}
-use Rattle.frame_facts.specs.Row.{Row, RowsFollow, in_order, Target, fresh_target, is_back, is_ended, is_open_row, noted_row, noted_target, open_rows, row_of, sent_row, shutter_by, settles, target_at}
+use Rattle.frame_facts.specs.Row.{Row, RowsFollow, in_order, Target, fresh_target, is_back, is_ended, is_open_row, noted_row, noted_target, open_rows, row_of, sent_row, shutter_by, target_at}
+use Rattle.past_facts.specs.Settled.{settles}
 use Rattle.frame_facts.proofs.Accepted.{settings-kept}
 use Rattle.frame_facts.proofs.Order.{order-sent}
-use Rattle.frame_facts.proofs.Settled.{given-noted, settled-noted}
 use Rattle.frame_facts.proofs.Unsent.{IsNew, unsent}
 use Rattle.basic_lemmas.proofs.Counts.{count-one, count-over}
 use Rattle.basic_lemmas.proofs.Lists.{map-map, map-where, filter-early, filter-more}
+use Rattle.past_facts.proofs.Settled.{given-noted, settled-noted}
 
 shutter_step : (n : ℕ) (e : Entry) (past : List Entry) → shutter_time n (e ∷ past) ≡ shutter_by n e (shutter_time n past)
 shutter_step n (Shutter m time) past = refl

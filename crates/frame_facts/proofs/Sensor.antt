@@ -5,7 +5,7 @@ use Rattle.std.specs.List.{list_any, list_all}
 use Rattle.std.proofs.lemmas.Bool.{and_parts, both_ways, cases_Bool, cases_order, eqb-true, false≢true, or_parts}
 use Rattle.cam_types.specs.declared.script.Script.{Script}
 use Rattle.trace_model.specs.declared.entry.Entry.{Entry}
-use Rattle.trace_model.specs.declared.entry.Entry.TheVariants.{Send, Shutter, Partial, ErrorRequest, ErrorResult, ErrorBuffer}
+use Rattle.trace_model.specs.declared.entry.Entry.TheVariants.{Shutter, Partial, ErrorRequest, ErrorResult, ErrorBuffer}
 use Rattle.trace_model.specs.Errors.{may_fail_device_at}
 use Rattle.trace_model.specs.Faults.{device_fault}
 use Rattle.trace_model.specs.Frames.{each_earlier, frames, has_error, has_error_request, has_shutter, is_sent}
@@ -18,24 +18,15 @@ use Rattle.frame_laws.proofs.Parts.{part-is}
 use Rattle.frame_laws.proofs.Sends.{each-at}
 use Rattle.frame_laws.proofs.Shutters.{exposed}
 use Rattle.trace_bounds.proofs.Printed.{one-of-all}
-use Rattle.buffer_laws.proofs.Sends.{frames-sent, send-number, sent-below}
 use Rattle.frame_facts.specs.Row.{in_order, is_open_row, open_rows, row_of}
 use Rattle.frame_facts.specs.Readings.{DeviceReads, ShutterReads, TimeReads, device_fails, is_unexposed, next_exposed, shutter_from}
-use Rattle.frame_facts.proofs.Last.{IsLast, any-found, falls, find-none-all, find-one, first-kept, last-is, last-none, last_where}
+use Rattle.frame_facts.proofs.Last.{IsLast, any-found, find-none-all, find-one, first-kept, last-is, last-none, last_where}
 use Rattle.frame_facts.proofs.Order.{first-order, order-sent}
 use Rattle.frame_facts.proofs.OpenRows.{IsDone, closed-done, frame-among, row-found, timed-shutter}
 use Rattle.frame_facts.proofs.Unsent.{buffer_exposed}
 use Rattle.basic_lemmas.proofs.Lists.{all-where}
 use Rattle.basic_lemmas.proofs.Tests.{passed-where}
-
--- frames are in order
-pub frames-fall : (script : Script) (past : List Entry) → IsLegal script past → falls (frames past) ≡ true
-frames-fall script [] legal = refl
-frames-fall script (Send m r i same targets ∷ past) legal =
-    let number = send-number script past m.0 r.0 i same targets legal.0 in
-    let low = all-where (λ k. is_sent k past) (λ k. nat_lt k m.0) (frames past) (λ k sent. rw number (sent-below script past k legal.1 sent)) (frames-sent past) in
-    rw (low, frames-fall script past legal.1) refl
-frames-fall script (e ∷ past) legal = frames-fall script past legal.1
+use Rattle.past_facts.proofs.Frames.{frames-fall}
 
 -- the frame waits for the sensor
 abbrev pub waits : List Entry → ℕ → Bool

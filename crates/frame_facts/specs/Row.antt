@@ -1,5 +1,6 @@
+use Rattle.past_facts.specs.Settled.{gives, settles}
 use Rattle.std.specs.Prelude.{◌≡◌, ℕ, ◌==◌, ◌+◌, Bool, false, ◌&&◌, ◌||◌, not, List, [], ◌∷◌, ◌++◌, Option, Some, None, filter, map, nat_le, if◌then◌else◌}
-use Rattle.std.specs.List.{list_all, list_any}
+use Rattle.std.specs.List.{list_all}
 use Rattle.cam_types.specs.Four.{four_list}
 use Rattle.cam_types.specs.declared.four.Four.{Four}
 use Rattle.cam_types.specs.declared.item.Settings.{Settings}
@@ -7,10 +8,10 @@ use Rattle.cam_types.specs.declared.number.FrameNo.{FrameNo}
 use Rattle.cam_types.specs.declared.number.RequestId.{RequestId}
 use Rattle.cam_types.specs.declared.script.Script.{Script}
 use Rattle.trace_model.specs.declared.entry.Entry.{Entry}
-use Rattle.trace_model.specs.declared.entry.Entry.TheVariants.{Send, Shutter, Early, Late}
+use Rattle.trace_model.specs.declared.entry.Entry.TheVariants.{Send, Shutter}
 use Rattle.trace_model.specs.declared.entry.Sent.{Sent}
 use Rattle.trace_model.specs.Calls.{item_at}
-use Rattle.trace_model.specs.Entry.{brings, is_error_buffer, is_error_request, is_error_result, is_partial, is_stop, returns_target}
+use Rattle.trace_model.specs.Entry.{is_error_buffer, is_error_request, is_error_result, is_partial, is_stop, returns_target}
 use Rattle.trace_model.specs.Frames.{has_error_request, send_of, settings_in, settings_of, shutter_time, targets_of}
 use Rattle.trace_model.specs.Legal.{IsLegal}
 use Rattle.trace_model.specs.Open.{early_fences, has_error_buffer, has_error_result, is_returned, is_settled}
@@ -87,19 +88,6 @@ abbrev pub open_rows : Script → List Entry → List Row
 open_rows script past = filter is_open_row (map (row_of script past) (in_order past))
 
 -- ---- entry by entry
-
-abbrev pub has_fence : ℕ → List ℕ → Bool
-has_fence d fences = list_any (λ f. d == f) fences
-
--- the device fences of a target after an entry
-abbrev pub gives : ℕ → ℕ → Entry → List ℕ → List ℕ
-gives n s (Early m t _ d) fences = if (m.0 == n) && (t.0 == s) then d.0 ∷ fences else fences
-gives n s _ fences = fences
-
--- the entry brings the buffer, or its picture
-abbrev pub settles : ℕ → ℕ → Entry → List ℕ → Bool
-settles n s (Late d _) fences = has_fence d.0 fences
-settles n s e fences = brings n s e
 
 abbrev pub noted_target : ℕ → Entry → Target → Target
 noted_target n e t = record {

@@ -9,7 +9,7 @@ use Rattle.inflight_table.specs.declared.mark.Mark.{Mark}
 use Rattle.inflight_table.specs.declared.mark.Mark.TheVariants.{Shutter, Part, RequestError, ResultError, Announced, Target, Sensor, Stopped}
 use Rattle.inflight_table.specs.declared.row.Row.{Row}
 use Rattle.inflight_table.specs.Marks.{marked}
-use Rattle.inflight_table.specs.Kept.{IsKept}
+use Rattle.inflight_table.specs.Inside.Kept.{IsKept}
 use Rattle.inflight_table.specs.Rows.{are_in_order, frame_of, is_sound, with_mark, with_row}
 use Rattle.inflight_table.proofs.General.{get_or-mapped, set-mapped, written-back}
 use Rattle.inflight_table.proofs.Reach.{sound-marked}

@@ -7,7 +7,7 @@ use Rattle.std.proofs.lemmas.List.Edits.{length-remove}
 use Rattle.std.proofs.lemmas.List.Quantifiers.{position-Some}
 use Rattle.cam_types.specs.declared.four.Four.{Four}
 use Rattle.inflight_table.specs.declared.row.Row.{Row}
-use Rattle.inflight_table.specs.Kept.{IsKept}
+use Rattle.inflight_table.specs.Inside.Kept.{IsKept}
 use Rattle.inflight_table.specs.Rows.{are_below, are_in_order, frame_of, has_place, is_of, is_sound, parked_at, parked_for, passes, placed_at, Rows, row_of, view_of, with_parked, with_row, without}
 use Rattle.inflight_table.proofs.RowsLemmas.{all-at, all-remove, order-push, order-remove, order-set, position-none, row_of-at, with_row-at, with_row-none, without-at}
 use Rattle.inflight_table.proofs.Reach.{sound-push, sound-set}

@@ -1,3 +1,3 @@
 pub mod Marks
 pub mod Rows
-pub mod Kept
+pub mod Inside

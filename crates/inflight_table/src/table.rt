@@ -20,7 +20,7 @@ pub struct Table<B> {
 
 impl<B> Model for Table<B> {
     ghost use Rattle.std.specs.Prelude.{vec_capacity};
-    ghost use Rattle.inflight_table.specs.Kept.{IsKept};
+    ghost use Rattle.inflight_table.specs.Inside.Kept.{IsKept};
     ghost use Rattle.inflight_table.specs.Rows.{Rows};
 
     ghost Value = { Rows B };

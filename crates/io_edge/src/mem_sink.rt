@@ -72,9 +72,7 @@ impl MemSink {
 }
 
 impl Sink for MemSink {
-    ghost written = { λ s. Some s.written };
-
-    ghost faults = { λ s. s.calls.faults };
+    ghost state = { λ s. record { written = Some s.written; faults = s.calls.faults } };
 
     ghost takes = { HasRoom };
 

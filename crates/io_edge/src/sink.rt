@@ -1,17 +1,15 @@
 // What bytes are written to.
-ghost use Rattle.std.specs.Prelude.{◌≡◌, ◌≤◌, ◌<◌, ◌-◌, ℕ, List, Option, length, IfOk, IsOkAnd};
+ghost use Rattle.std.specs.Prelude.{◌≡◌, ◌≤◌, ◌<◌, ◌-◌, ℕ, length, IfOk, IsOkAnd};
 ghost use Rattle.std.specs.Io.KnownBytes.{WriteAppends};
 ghost use Rattle.io_edge.specs.Faults.{Counts};
+ghost use Rattle.io_edge.specs.States.{SinkState};
 
 use crate::Failed;
 
 /// What bytes are written to.
 pub trait Sink {
-    /// The bytes that were written, where the sink tells them.
-    ghost written: { Self → Option (List ℕ) };
-
-    /// How many faults it has counted.
-    ghost faults: { Self → ℕ };
+    /// What was written, where the sink tells it, and how many faults it has counted.
+    ghost state: { Self → SinkState };
 
     /// It takes the next so many bytes without a fault. A sink that promises nothing leaves it out.
     ghost takes: { Self → ℕ → Type 0 } = { λ _ _. ⊥ };
@@ -22,8 +20,8 @@ pub trait Sink {
     fn write(&mut self, bytes: &[u8]) -> Result<usize, Failed>
         ensures bound { IfOk result (λ count. count ≤ length bytes.now) }
         ensures progress { IfOk result (λ count. 0 < length bytes.now → 0 < count) }
-        ensures bytes { WriteAppends (written self.old) (written self.new) result bytes.now }
-        ensures faults { Counts result (faults self.old) (faults self.new) }
+        ensures bytes { WriteAppends (state self.old).written (state self.new).written result bytes.now }
+        ensures faults { Counts result (state self.old).faults (state self.new).faults }
         ensures promised { (total : ℕ) → length bytes.now ≤ total → takes self.old total
             → IsOkAnd result (λ count. takes self.new (total - count)) };
 }

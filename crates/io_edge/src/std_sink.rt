@@ -18,7 +18,7 @@ impl<'a, P: Print> StdSink<io::Printer<'a, P>> {
     /// Standard output. It takes no memory, so that the answer is always `Ok`.
     pub fn new(rt: &'a P) -> Result<Self, NoMemory>
         ensures made { IsOk result }
-        ensures faults { IfOk result (λ sink. ⟦<StdSink<io::Printer<'a, P>> as Sink>⟧.faults sink ≡ 0) }
+        ensures faults { IfOk result (λ sink. (⟦<StdSink<io::Printer<'a, P>> as Sink>⟧.state sink).faults ≡ 0) }
     {
         Ok(StdSink::over(io::writer(rt)))
     }
@@ -27,8 +27,7 @@ impl<'a, P: Print> StdSink<io::Printer<'a, P>> {
 impl<W: Write + Drop> StdSink<W> {
     /// A writer of `std`, which is to buffer nothing.
     pub fn over(writer: W) -> Self
-        ensures written { ⟦<StdSink<W> as Sink>⟧.written result ≡ W.contents writer }
-        ensures faults { ⟦<StdSink<W> as Sink>⟧.faults result ≡ 0 }
+        ensures { ⟦<StdSink<W> as Sink>⟧.state result ≡ record { written = W.contents writer; faults = 0 } }
     {
         StdSink {
             writer,
@@ -38,9 +37,7 @@ impl<W: Write + Drop> StdSink<W> {
 }
 
 impl<W: Write + Drop> Sink for StdSink<W> {
-    ghost written = { λ s. W.contents s.writer };
-
-    ghost faults = { λ s. s.faults };
+    ghost state = { λ s. record { written = W.contents s.writer; faults = s.faults } };
 
     /// One write of the writer, tried again where a signal interrupted it. An error is a fault, and
     /// so is that the writer takes no byte of some.

@@ -1,7 +1,8 @@
 use Rattle.std.specs.Prelude.{ℕ, ◌+◌, ◌==◌, Bool, false, List, [], ◌∷◌, length, take, drop, count_by, codes, bytes_eq, if◌then◌else◌}
 use Rattle.std.specs.List.{list_any}
 use Rattle.std.specs.Str.Lines.{strip_carriage_return}
-use Rattle.script_text.specs.Words.{parts_at, words_of}
+use Rattle.text_parts.specs.Cuts.{parts_at}
+use Rattle.text_parts.specs.Words.{loose_words}
 
 -- How the judge's input is cut: a script, and from the first line on whose first word is `trace` a trace. (docs/FORMATS.md)
 
@@ -11,7 +12,7 @@ begins_trace (word ∷ words) = bytes_eq word (codes "trace")
 
 -- the line's first word is `trace`, by the words of a script's text
 abbrev pub is_trace_line : List ℕ → Bool
-is_trace_line line = begins_trace (words_of (strip_carriage_return line))
+is_trace_line line = begins_trace (loose_words (strip_carriage_return line))
 
 -- the bytes of the lines before the first such line, each with its end
 abbrev pub bytes_before : List (List ℕ) → ℕ

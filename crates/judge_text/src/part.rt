@@ -2,7 +2,7 @@
 ghost use Rattle.std.specs.Prelude.{◌≡◌, ◌≤◌, ◌==◌, ◌+◌, length, take, count_by};
 ghost use Rattle.judge_text.specs.Parts.{first_line, is_trace_line, script_part, trace_part, trace_start};
 
-use script_text::{split_at_byte, split_word, without_return};
+use text_parts::{next_loose_word, split_at_byte, without_return};
 
 /// An input in its two parts.
 #[derive(Clone, Copy, Debug)]
@@ -19,7 +19,7 @@ pub struct Parts<'i> {
 fn is_trace_line(line: &[u8]) -> bool
     ensures { result ≡ is_trace_line line.now }
 {
-    match split_word(without_return(line)) {
+    match next_loose_word(without_return(line)) {
         Some((word, _)) => word == b"trace".as_slice(),
         None => false,
     }

@@ -15,9 +15,9 @@ abbrev pub ◌>>=◌ : {A B : Type 0} → Result A PackedRefused → (A → Resu
 (Err e) >>= f = Err e
 
 -- What a call answered, seen by view, is what was wanted, unless memory ran out.
-abbrev pub Answers : {X Y : Type 0} → (X → Y) → Result X PackedRefused → Result Y PackedRefused → Type 0
-Answers view (Ok x) wanted = wanted ≡ Ok (view x)
-Answers view (Err e) wanted = e ≢ NoMemory → wanted ≡ Err e
+abbrev pub AnswersPacked : {X Y : Type 0} → (X → Y) → Result X PackedRefused → Result Y PackedRefused → Type 0
+AnswersPacked view (Ok x) wanted = wanted ≡ Ok (view x)
+AnswersPacked view (Err e) wanted = e ≢ NoMemory → wanted ≡ Err e
 
 -- the number in the four bytes at a place
 abbrev pub u32_at : ℕ → List ℕ → ℕ

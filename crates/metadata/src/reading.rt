@@ -1,7 +1,7 @@
 ghost use Rattle.std.specs.Prelude.{◌≡◌, ◌≤◌, ◌<◌, ◌*◌, ◌+◌, ◌==◌, ◌||◌, ◌^◌, length, take, drop, IfOk, IfSome, MatchResult, option_map, None, Some, Ok, Err};
 ghost use Rattle.std.specs.Option.{option_copied};
 ghost use Rattle.metadata.specs.Values.{element_len, pieces, values_from, int32_of, int64_of, ratio_of};
-ghost use Rattle.metadata.specs.Reading.{Answers, u32_at as u32_in, all_zero as are_zero, payload_before_zeros as before_zeros, payload_at as payload_in, order_refusal, entry_of, entries_of, is_header as is_good_header, list_of};
+ghost use Rattle.metadata.specs.Reading.{AnswersPacked, u32_at as u32_in, all_zero as are_zero, payload_before_zeros as before_zeros, payload_at as payload_in, order_refusal, entry_of, entries_of, is_header as is_good_header, list_of};
 
 use crate::element::ElementType;
 use crate::entry::Entry;
@@ -187,7 +187,7 @@ fn entry_at(
 ) -> Result<(Entry, usize), PackedRefused>
     requires slot { length slot.now ≡ 16 }
     requires tiled { tiled ≤ length area.now }
-    ensures entry { Answers (λ found. found) result (entry_of slot.now area.now tiled last) }
+    ensures entry { AnswersPacked (λ found. found) result (entry_of slot.now area.now tiled last) }
     ensures tiled { IfOk result (λ found. found.1 ≤ length area.now) }
 {
     let Some(element) = ElementType::from_number(slot[12]) else {
@@ -218,7 +218,7 @@ fn entries_at(
     area: &[u8],
 ) -> Result<Vec<Entry>, PackedRefused>
     requires { length slots.now ≡ 16 * count }
-    ensures { Answers (λ entries. entries.items) result (entries_of (pieces 16 (λ slot. slot) count slots.now) area.now 0 None) }
+    ensures { AnswersPacked (λ entries. entries.items) result (entries_of (pieces 16 (λ slot. slot) count slots.now) area.now 0 None) }
 {
     let mut entries = Vec::new(alloc);
     let mut tiled = 0;
@@ -255,7 +255,7 @@ fn is_header(bytes: &[u8]) -> bool
 /// The entries that the bytes spell.
 #[tactic(auto, unfolding(crate::specs::Reading::list_of))]
 pub(crate) fn entries_from(alloc: Global, bytes: &[u8]) -> Result<Vec<Entry>, PackedRefused>
-    ensures { Answers (λ entries. entries.items) result (list_of bytes.now) }
+    ensures { AnswersPacked (λ entries. entries.items) result (list_of bytes.now) }
 {
     if bytes.len() < SLOT {
         return Err(PackedRefused::Short);

@@ -16,8 +16,8 @@ use Rattle.trace_model.specs.Calls.{next_command}
 use Rattle.trace_model.specs.Drop.{drop_due, drop_of}
 use Rattle.trace_model.specs.Entry.{brings, is_early_with, is_partial, is_shutter, returns_target, returns_of_frame}
 use Rattle.trace_model.specs.Fence.{is_late}
-use Rattle.frame_facts.specs.Row.{has_fence, settles}
-use Rattle.frame_facts.proofs.Settled.{fence-frame, not-settled, settled-noted}
+use Rattle.past_facts.specs.Settled.{has_fence, settles}
+use Rattle.frame_facts.proofs.Settled.{not-settled}
 use Rattle.frame_laws.proofs.Shutters.{exposed, no-request}
 use Rattle.due_facts.proofs.Caused.{caused}
 use Rattle.never_stuck.proofs.Runs.{runs_legally}
@@ -43,6 +43,7 @@ use Rattle.run_model.specs.Ready.{adding, error_due, failure_at, finish_due, lat
 use Rattle.run_model.specs.Run.{IsRun}
 use Rattle.never_stuck.proofs.Jobs.{filled-taken, silent_test, taken-done, where_test}
 use Rattle.basic_lemmas.proofs.Lists.{any-where}
+use Rattle.past_facts.proofs.Settled.{fence-frame, settled-noted}
 
 abbrev any_in : (Entry → Bool) → Option Entry → Bool
 any_in p None = false

@@ -23,7 +23,7 @@ pub struct Queue {
 }
 
 impl Model for Queue {
-    ghost use Rattle.request_queue.specs.Fields.{IsKept, held};
+    ghost use Rattle.request_queue.specs.Inside.Fields.{IsKept, held};
     ghost use Rattle.request_queue.specs.Requests.{Requests};
 
     ghost Value = { Requests };

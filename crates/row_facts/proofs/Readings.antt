@@ -9,7 +9,7 @@ use Rattle.cam_types.specs.declared.number.StreamIx.{StreamIx}
 use Rattle.std.proofs.lemmas.Bool.{and_parts, cases_Bool, eqb-true, false≢true, or_right}
 use Rattle.cam_types.specs.declared.script.Script.{Script}
 use Rattle.trace_model.specs.declared.entry.Entry.{Entry}
-use Rattle.trace_model.specs.declared.entry.Entry.TheVariants.{Send, Partial, Filled, Failed, ErrorRequest, ErrorResult, Early, Late}
+use Rattle.trace_model.specs.declared.entry.Entry.TheVariants.{Partial, Filled, Failed, ErrorRequest, ErrorResult, Early, Late}
 use Rattle.trace_model.specs.declared.entry.Sent.{Sent}
 use Rattle.trace_model.specs.Entry.{is_early_with, sends}
 use Rattle.trace_model.specs.Frames.{each_earlier, frames, is_repeating_frame, is_sent, targets_of}

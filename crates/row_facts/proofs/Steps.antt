@@ -1,5 +1,5 @@
 -- The rows after an entry are what the entry makes of the rows before it.
-use Rattle.std.proofs.Common.{◌≡◌, ℕ, ◌==◌, ◌+◌, ◌<◌, Bool, true, false, ◌&&◌, ◌||◌, not, List, [], ◌∷◌, Option, Some, refl, sym, ap, ◌∙◌, arith, inl, inr, filter, map, slice_get}
+use Rattle.std.proofs.Common.{◌≡◌, ℕ, ◌==◌, ◌+◌, ◌<◌, Bool, true, false, ◌&&◌, ◌||◌, List, [], ◌∷◌, Option, Some, refl, sym, ap, ◌∙◌, arith, inl, inr, filter, map, slice_get}
 use Rattle.std.specs.List.{list_any, list_all}
 use Rattle.std.proofs.lemmas.Bool.{and_parts, cases_Bool, cases_lt, eqb-true, false≢true, ne_eqb}
 use Rattle.std.proofs.lemmas.List.Folds.{list_all-map}
@@ -12,23 +12,21 @@ use Rattle.cam_types.specs.declared.reply.Reply.TheVariants.{Submitted}
 use Rattle.cam_types.specs.declared.script.Command.{Command}
 use Rattle.cam_types.specs.declared.script.Script.{Script}
 use Rattle.trace_model.specs.declared.entry.Entry.{Entry}
-use Rattle.trace_model.specs.declared.entry.Entry.TheVariants.{Call, Send, Shutter, Partial, Filled, Failed, Early, Late}
+use Rattle.trace_model.specs.declared.entry.Entry.TheVariants.{Call, Send, Shutter, Partial}
 use Rattle.trace_model.specs.declared.entry.Sent.{Sent}
 use Rattle.trace_model.specs.Allowed.{IsAllowed}
 use Rattle.trace_model.specs.Calls.{command_of, is_repeat, items_of, request_count}
-use Rattle.trace_model.specs.Entry.{brings, is_error_buffer, is_error_of, is_error_request, is_error_result, is_part, is_partial, is_stop, returns_target, returns_of_frame, sends}
+use Rattle.trace_model.specs.Entry.{is_error_buffer, is_error_of, is_error_request, is_error_result, is_part, is_partial, is_stop, returns_target, returns_of_frame, sends}
 use Rattle.trace_model.specs.Frames.{frames, has_error, is_sent, item_in, repeats_in, send_of, settings_in, shutter_time, targets_of}
 use Rattle.trace_model.specs.Laws.{ends_metadata}
 use Rattle.trace_model.specs.Legal.{IsLegal}
-use Rattle.trace_model.specs.Open.{all_settled, early_fences, has_error_buffer, is_metadata_ended, is_open, is_returned, is_settled}
+use Rattle.trace_model.specs.Open.{early_fences, has_error_buffer, is_open, is_returned}
 use Rattle.trace_model.specs.Partial.{part_count}
-use Rattle.trace_model.specs.Send.{may_send}
 use Rattle.trace_model.specs.Stopping.{is_stopped}
-use Rattle.trace_model.specs.Fence.{is_late}
 use Rattle.buffer_laws.proofs.Early.{not-brought, not-given}
 use Rattle.frame_laws.proofs.Metadata.{ended-by}
 use Rattle.frame_laws.proofs.Parts.{part-is}
-use Rattle.frame_laws.proofs.Sends.{all-sent, send-number, sent-below}
+use Rattle.frame_laws.proofs.Sends.{all-sent}
 use Rattle.frame_laws.proofs.Submitted.{request-number}
 use Rattle.past_facts.proofs.Done.{closed-stays}
 use Rattle.past_facts.proofs.Frames.{sent-once, unsent-next}
@@ -40,7 +38,7 @@ use Rattle.client_facts.proofs.Done.{found-some}
 use Rattle.row_facts.specs.Rows.{Row, Slot, new_row, new_slot, note_row, note_parts, note_slot, note_time, noted, row, row_open, rows, sent_settings, slot}
 use Rattle.basic_lemmas.proofs.Counts.{count-one, count-over, none-counted}
 use Rattle.basic_lemmas.proofs.Lists.{any-behind}
-use Rattle.basic_lemmas.proofs.Tests.{or-again, or-crossed-three}
+use Rattle.basic_lemmas.proofs.Tests.{or-crossed-three}
 
 -- ---- the request of a frame keeps its command
 

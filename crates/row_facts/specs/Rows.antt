@@ -1,13 +1,13 @@
-use Rattle.std.specs.Prelude.{ℕ, ◌==◌, ◌+◌, Bool, true, false, ◌&&◌, ◌||◌, not, List, [], ◌∷◌, ◌++◌, Option, Some, None, nat_lt, filter, find, map, if◌then◌else◌}
+use Rattle.std.specs.Prelude.{ℕ, ◌==◌, Bool, true, false, ◌&&◌, ◌||◌, not, List, [], ◌∷◌, ◌++◌, Option, Some, None, nat_lt, filter, find, map, if◌then◌else◌}
 use Rattle.std.specs.List.{list_all, list_any}
 use Rattle.cam_types.specs.Four.{four_list}
 use Rattle.cam_types.specs.declared.item.Settings.{Settings}
 use Rattle.cam_types.specs.declared.script.Script.{Script}
 use Rattle.trace_model.specs.declared.entry.Entry.{Entry}
-use Rattle.trace_model.specs.declared.entry.Entry.TheVariants.{Send, Shutter, Partial, Filled, Failed, ErrorRequest, ErrorResult, Early, Late}
+use Rattle.trace_model.specs.declared.entry.Entry.TheVariants.{Send, Shutter, Partial, Filled, Failed, ErrorRequest, ErrorResult, Late}
 use Rattle.trace_model.specs.declared.entry.Sent.{Sent}
 use Rattle.trace_model.specs.Calls.{item_at}
-use Rattle.trace_model.specs.Entry.{brings, is_error_buffer, is_error_of, is_error_request, is_error_result, is_partial, is_stop, returns_target, returns_of_frame}
+use Rattle.trace_model.specs.Entry.{is_error_buffer, is_error_of, is_error_request, is_error_result, is_partial, is_stop, returns_target, returns_of_frame}
 use Rattle.trace_model.specs.Frames.{frames, has_error, has_error_request, is_repeating_frame, settings_in, settings_of, shutter_time, targets_of}
 use Rattle.trace_model.specs.Laws.{ends_metadata}
 use Rattle.trace_model.specs.Open.{early_fences, has_error_buffer, has_error_result, has_something, is_metadata_ended, is_open, is_returned, is_settled}

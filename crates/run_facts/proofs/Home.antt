@@ -8,7 +8,7 @@ use Rattle.trace_model.specs.declared.entry.Entry.TheVariants.{Filled, Failed, E
 use Rattle.trace_model.specs.declared.entry.Sent.{Sent}
 use Rattle.trace_model.specs.Client.{begin_due}
 use Rattle.trace_model.specs.Calls.{next_command}
-use Rattle.trace_model.specs.Entry.{brings, is_early_with}
+use Rattle.trace_model.specs.Entry.{is_early_with}
 use Rattle.trace_model.specs.Errors.{error_request_due, error_result_due, failed_due, may_fail_buffer}
 use Rattle.trace_model.specs.Fence.{is_late}
 use Rattle.trace_model.specs.Filled.{filled_due, early_due, late_of}
@@ -38,7 +38,6 @@ use Rattle.state_facts.proofs.Dues.{closed-is}
 use Rattle.run_facts.proofs.Found.{taken-target}
 use Rattle.run_facts.proofs.Steps.{not-out}
 use Rattle.run_facts.proofs.Unsent.{done-shot, take-parts, take-ready, taken-done}
-use Rattle.basic_lemmas.proofs.Tests.{or-again}
 
 -- the entry can end the device's work on a buffer
 abbrev pub is_ending : Entry → Bool

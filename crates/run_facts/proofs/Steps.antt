@@ -1,9 +1,8 @@
 -- The state after a move is what the move makes of the state before it.
-use Rattle.std.proofs.Common.{◌≡◌, ℕ, ◌==◌, Bool, true, false, ◌&&◌, ◌||◌, not, List, [], ◌∷◌, Option, Some, None, refl, sym, ap, ◌∙◌, arith, inl, inr, filter, map, is_some, if◌then◌else◌}
+use Rattle.std.proofs.Common.{◌≡◌, ℕ, ◌==◌, Bool, true, false, ◌&&◌, ◌||◌, not, List, [], ◌∷◌, Option, Some, None, refl, sym, ap, ◌∙◌, inl, inr, filter, map, is_some, if◌then◌else◌}
 use Rattle.std.specs.List.{list_any, list_all}
 use Rattle.std.proofs.lemmas.Bool.{and_parts, cases_Bool, eq-eqb, eqb-true, false≢true, or_left, or_parts}
 use Rattle.cam_types.specs.Four.{four_list}
-use Rattle.cam_types.specs.declared.four.Four.{Four}
 use Rattle.cam_types.specs.declared.number.FrameNo.{FrameNo}
 use Rattle.cam_types.specs.declared.number.RequestId.{RequestId}
 use Rattle.cam_types.specs.declared.script.Script.{Script}
@@ -14,7 +13,6 @@ use Rattle.trace_model.specs.Entry.{is_shutter}
 use Rattle.trace_model.specs.Frames.{frames, has_shutter, is_sent, send_of, targets_in, targets_of}
 use Rattle.trace_model.specs.Legal.{IsLegal}
 use Rattle.trace_model.specs.Open.{all_settled, is_metadata_ended, is_open}
-use Rattle.trace_model.specs.Send.{may_send}
 use Rattle.run_model.specs.declared.step.Move.{Move}
 use Rattle.run_model.specs.declared.step.StepName.{StepName}
 use Rattle.run_model.specs.History.{trace_of, with_entry, is_fill_done, is_sensor_done, is_take_fill}
@@ -22,7 +20,7 @@ use Rattle.run_model.specs.Jobs.{is_filled_in, is_sensor_done_in, is_taken_in}
 use Rattle.run_model.specs.Rows.{is_failed_return, is_ok_return, request_of}
 use Rattle.run_model.specs.Run.{IsRun}
 use Rattle.bounded_runs.proofs.Legal.{runs_legally}
-use Rattle.frame_laws.proofs.Sends.{all-sent, send-number, sent-below}
+use Rattle.frame_laws.proofs.Sends.{all-sent}
 use Rattle.frame_laws.proofs.Shutters.{exposed, shutter-sent}
 use Rattle.past_facts.proofs.Done.{done-stays}
 use Rattle.past_facts.proofs.Frames.{sent-once, unsent-next}

@@ -4,5 +4,7 @@
 mod laws;
 #[cfg(test)]
 mod tests;
+mod worked;
 
 pub use laws::a_complete_run_keeps_the_laws;
+pub use worked::breaches_on_frames_are_seen;

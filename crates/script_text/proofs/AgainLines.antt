@@ -1,8 +1,8 @@
 -- Lines that are spelled are read again.
-use Rattle.std.proofs.Common.{◌≡◌, ℕ, ◌^◌, true, false, eqb, ltb, List, ◌∷◌, map, Some, Ok, refl, arith}
+use Rattle.std.proofs.Common.{◌≡◌, ℕ, ◌^◌, true, false, eqb, ltb, leb, List, [], ◌∷◌, map, Some, Ok, refl, arith}
 use Rattle.std.specs.Prelude.{codes, decimal, bytes_eq}
 use Rattle.std.specs.List.{list_all}
-use Rattle.std.proofs.lemmas.Bool.{and_parts, and_from, ltb-true}
+use Rattle.std.proofs.lemmas.Bool.{and_parts, and_from, ltb-true, leb-true}
 use Rattle.std.proofs.lemmas.Bool.Decides.{nat_tests}
 use Rattle.cam_types.specs.declared.script.Command.{Command}
 use Rattle.cam_types.specs.declared.script.Command.TheVariants as command
@@ -10,28 +10,20 @@ use Rattle.cam_types.specs.declared.script.Fault.{Fault}
 use Rattle.cam_types.specs.declared.script.Fault.TheVariants as fault
 use Rattle.cam_types.specs.declared.script.Word.{Word}
 use Rattle.cam_types.specs.declared.script.Word.TheVariants.{Configure, Once, Burst, Repeat, Stop, Wait, Await, Flush, Close, Disconnect}
-use Rattle.script_text.specs.Fits.{item_fits, spec_fits, command_fits, fault_fits}
+use Rattle.script_spelling.specs.Fits.{item_fits, spec_fits, command_fits, fault_fits}
 use Rattle.script_text.specs.Values.{spec_of, item_of}
-use Rattle.script_text.specs.Lines.{FaultLine, PickLine, CommandLine, number, frame_and_stream, fault_of, picks_of, word_text, command_word, command_of, line_of}
+use Rattle.script_text.specs.Lines.{FaultLine, PickLine, CommandLine, EarlyLine, DeviceLine, profile_number, raw_and_yuv, device_of, number, frame_and_stream, fault_of, picks_of, command_of, other_line, line_of}
 use Rattle.script_text.specs.Grammar.{is_comment}
-use Rattle.script_text.specs.Spelling.{spec_text, item_text, fault_arguments, fault_words, word_of, arguments_of, command_line_words}
-use Rattle.script_text.proofs.AgainWords.{is_word, number-again}
-use Rattle.script_text.proofs.AgainValues.{number-word, spec-again, spec-word, item-again, item-word, all-again, all-words}
+use Rattle.script_spelling.specs.Spelling.{spec_text, item_text, fault_arguments, fault_words, arguments_of, command_line_words}
+use Rattle.command_words.specs.Words.{word_of, word_text}
+use Rattle.command_words.proofs.Texts.{word-again, a-word}
+use Rattle.cam_types.specs.declared.profile.Profile.{Profile}
+use Rattle.cam_types.specs.Profile.{is_profile, is_profile_number}
+use Rattle.text_parts.specs.Words.{is_word}
+use Rattle.text_parts.proofs.Spelled.{number-again, number-word, within-again}
+use Rattle.script_text.proofs.AgainValues.{spec-again, spec-word, item-again, item-word, all-again, all-words}
 
 -- ---- what a line means
-
-word-again : (w : Word) → command_word (word_text w) ≡ Some w
-unfolding command_word
-word-again Configure = refl
-word-again Once = refl
-word-again Burst = refl
-word-again Repeat = refl
-word-again Stop = refl
-word-again Wait = refl
-word-again Await = refl
-word-again Flush = refl
-word-again Close = refl
-word-again Disconnect = refl
 
 no-fault : (w : Word) → bytes_eq (word_text w) (codes "fault") ≡ false
 no-fault Configure = refl
@@ -44,6 +36,30 @@ no-fault Await = refl
 no-fault Flush = refl
 no-fault Close = refl
 no-fault Disconnect = refl
+
+no-early : (w : Word) → bytes_eq (word_text w) (codes "early") ≡ false
+no-early Configure = refl
+no-early Once = refl
+no-early Burst = refl
+no-early Repeat = refl
+no-early Stop = refl
+no-early Wait = refl
+no-early Await = refl
+no-early Flush = refl
+no-early Close = refl
+no-early Disconnect = refl
+
+no-device : (w : Word) → bytes_eq (word_text w) (codes "device") ≡ false
+no-device Configure = refl
+no-device Once = refl
+no-device Burst = refl
+no-device Repeat = refl
+no-device Stop = refl
+no-device Wait = refl
+no-device Await = refl
+no-device Flush = refl
+no-device Close = refl
+no-device Disconnect = refl
 
 no-pick : (w : Word) → bytes_eq (word_text w) (codes "pick") ≡ false
 no-pick Configure = refl
@@ -69,18 +85,6 @@ no-comment Flush = refl
 no-comment Close = refl
 no-comment Disconnect = refl
 
-a-word : (w : Word) → is_word (word_text w) ≡ true
-a-word Configure = refl
-a-word Once = refl
-a-word Burst = refl
-a-word Repeat = refl
-a-word Stop = refl
-a-word Wait = refl
-a-word Await = refl
-a-word Flush = refl
-a-word Close = refl
-a-word Disconnect = refl
-
 number-here : (n : ℕ) → ltb n (2 ^ 32) ≡ true → number (decimal n) ≡ Some n
 number-here n h = number-again (2 ^ 32) n (ltb-true _ _ h) (omega arith)
 
@@ -93,13 +97,31 @@ fault-again (fault.Buffer n s) h =
     rw (number-here n.0 p.0, number-again (2 ^ 8) s.0 (ltb-true _ _ p.1) (omega arith)) refl
 fault-again (fault.Device n) h = rw (number-here n.0 h) refl
 
-pub fault-line-again : (f : Fault) → fault_fits f ≡ true → line_of (codes "fault") (fault_arguments f) ≡ Ok (FaultLine f)
+pub fault-line-again : (v : ℕ) (f : Fault) → fault_fits f ≡ true → line_of v (codes "fault") (fault_arguments f) ≡ Ok (FaultLine f)
 unfolding line_of
-fault-line-again f h = rw (fault-again f h) refl
+fault-line-again v f h = rw (fault-again f h) refl
 
-pub pick-line-again : (pick : ℕ) (picks : List ℕ) → list_all (λ p. ltb p (2 ^ 32)) (pick ∷ picks) ≡ true → line_of (codes "pick") (decimal pick ∷ map decimal picks) ≡ Ok (PickLine (pick ∷ picks))
+pub pick-line-again : (v : ℕ) (pick : ℕ) (picks : List ℕ) → list_all (λ p. ltb p (2 ^ 32)) (pick ∷ picks) ≡ true → line_of v (codes "pick") (decimal pick ∷ map decimal picks) ≡ Ok (PickLine (pick ∷ picks))
 unfolding line_of picks_of
-pick-line-again pick picks h = rw (all-again number decimal (λ p. ltb p (2 ^ 32)) number-here (pick ∷ picks) h) refl
+pick-line-again v pick picks h = rw (all-again number decimal (λ p. ltb p (2 ^ 32)) number-here (pick ∷ picks) h) refl
+
+pub early-line-again : (v : ℕ) → line_of v (codes "early") [] ≡ Ok EarlyLine
+unfolding line_of other_line
+early-line-again v = refl
+
+profile-number-again : (n : ℕ) → is_profile_number n ≡ true → profile_number (decimal n) ≡ Some n
+profile-number-again n h = let p = and_parts (ltb 0 n) (leb n 16) h in within-again 1 16 n (ltb-true 0 n p.0) (leb-true n 16 p.1) (omega arith)
+
+device-again : (p : Profile) → is_profile p ≡ true → device_of (decimal p.depth ∷ decimal p.raw ∷ decimal p.yuv ∷ []) ≡ Ok p
+unfolding device_of raw_and_yuv
+device-again p h =
+    let a = and_parts (is_profile_number p.depth) _ h in
+    let b = and_parts (is_profile_number p.raw) (is_profile_number p.yuv) a.1 in
+    rw (profile-number-again p.depth a.0, profile-number-again p.raw b.0, profile-number-again p.yuv b.1) refl
+
+pub device-line-again : (p : Profile) → is_profile p ≡ true → line_of 2 (codes "device") (decimal p.depth ∷ decimal p.raw ∷ decimal p.yuv ∷ []) ≡ Ok (DeviceLine p)
+unfolding line_of other_line
+device-line-again p h = rw (device-again p h) refl
 
 command-again : (c : Command) → command_fits c ≡ true → command_of (word_of c) (arguments_of c) ≡ Ok c
 unfolding command_of
@@ -117,9 +139,9 @@ command-again command.Flush h = refl
 command-again command.Close h = refl
 command-again command.Disconnect h = refl
 
-pub command-line-again : (c : Command) → command_fits c ≡ true → line_of (word_text (word_of c)) (arguments_of c) ≡ Ok (CommandLine c)
-unfolding line_of
-command-line-again c h = rw (no-fault (word_of c), no-pick (word_of c), word-again (word_of c), command-again c h) refl
+pub command-line-again : (v : ℕ) (c : Command) → command_fits c ≡ true → line_of v (word_text (word_of c)) (arguments_of c) ≡ Ok (CommandLine c)
+unfolding line_of other_line
+command-line-again v c h = rw (no-fault (word_of c), no-pick (word_of c), no-early (word_of c), no-device (word_of c), word-again (word_of c), command-again c h) refl
 
 -- ---- the words of a line
 
@@ -133,6 +155,15 @@ fault-words (fault.Buffer n s) h =
     let p = and_parts (ltb n.0 (2 ^ 32)) (ltb s.0 (2 ^ 8)) h in
     rw (small-word n.0 p.0, number-word s.0 (omega (arith, ltb-true s.0 (2 ^ 8) p.1))) refl
 fault-words (fault.Device n) h = rw (small-word n.0 h) refl
+
+profile-number-word : (n : ℕ) → is_profile_number n ≡ true → is_word (decimal n) ≡ true
+profile-number-word n h = number-word n (omega (arith, leb-true n 16 (and_parts (ltb 0 n) (leb n 16) h).1))
+
+pub device-words : (p : Profile) → is_profile p ≡ true → list_all is_word (codes "device" ∷ decimal p.depth ∷ decimal p.raw ∷ decimal p.yuv ∷ []) ≡ true
+device-words p h =
+    let a = and_parts (is_profile_number p.depth) _ h in
+    let b = and_parts (is_profile_number p.raw) (is_profile_number p.yuv) a.1 in
+    rw (profile-number-word p.depth a.0, profile-number-word p.raw b.0, profile-number-word p.yuv b.1) refl
 
 pub pick-words : (picks : List ℕ) → list_all (λ p. ltb p (2 ^ 32)) picks ≡ true → list_all is_word (codes "pick" ∷ map decimal picks) ≡ true
 pick-words picks h = all-words decimal (λ p. ltb p (2 ^ 32)) small-word picks h

@@ -1,49 +1,26 @@
 -- Values that are spelled are read again.
-use Rattle.std.proofs.Common.{◌≡◌, ℕ, zero, suc, ◌-◌, ◌<◌, ◌≤◌, ◌^◌, Bool, true, false, ◌&&◌, not, cond, eqb, ltb, leb, List, [], ◌∷◌, ◌++◌, length, take, drop, map, replicate, Option, Some, refl, sym, ap, ◌∙◌, inl, inr, arith}
-use Rattle.std.specs.Prelude.{codes, decimal, bytes_eq, nat_eq}
+use Rattle.std.proofs.Common.{◌≡◌, ℕ, zero, suc, ◌-◌, ◌<◌, ◌≤◌, ◌^◌, Bool, true, false, ◌&&◌, not, cond, eqb, ltb, leb, List, [], ◌∷◌, ◌++◌, length, take, drop, map, replicate, Option, Some, refl, sym, ap, ◌∙◌, arith}
+use Rattle.std.specs.Prelude.{codes, decimal, nat_eq}
 use Rattle.std.specs.List.{flat_map, join_by, list_all, starts_with}
 use Rattle.std.specs.Char.{is_ascii_digit}
-use Rattle.std.specs.Str.{all_ascii_digits}
-use Rattle.std.proofs.lemmas.Bool.{cases_eq, and_parts, and_from, eq-eqb, ltb-true, leb-true, eqb-true, not-true}
+use Rattle.std.proofs.lemmas.Bool.{and_parts, and_from, eq-eqb, ltb-true, leb-true, eqb-true, not-true}
 use Rattle.std.proofs.lemmas.Bool.Decides.{nat_tests}
 use Rattle.std.proofs.lemmas.List.{length-take, take-append-drop, length-drop}
-use Rattle.std.proofs.lemmas.List.Folds.{list_all-append}
-use Rattle.std.proofs.lemmas.Fmt.{decimal_nonempty}
 use Rattle.cam_types.specs.declared.item.Item.{Item}
 use Rattle.cam_types.specs.declared.item.Settings.{Settings}
 use Rattle.cam_types.specs.declared.item.Targets.{Targets}
 use Rattle.cam_types.specs.declared.stream.Format.{Format}
 use Rattle.cam_types.specs.declared.stream.Format.TheVariants.{Raw16, Yuv, Other}
 use Rattle.cam_types.specs.declared.stream.StreamSpec.{StreamSpec}
-use Rattle.script_text.specs.Fits.{settings_fit, targets_fit, item_fits, format_fits, spec_fits}
-use Rattle.script_text.specs.Words.{in_two, number_below}
+use Rattle.script_spelling.specs.Fits.{settings_fit, targets_fit, item_fits, format_fits, spec_fits}
+use Rattle.text_parts.specs.Numbers.{number_below}
 use Rattle.script_text.specs.Values.{all_of, format_of, side_of, stream_of, spec_of, four_numbers, settings_of, targets, joined_targets, targets_of, item_of}
-use Rattle.script_text.specs.Spelling.{settings_text, targets_text, item_text, format_text, spec_text}
+use Rattle.script_spelling.specs.Spelling.{settings_text, targets_text, item_text, format_text, spec_text}
 use Rattle.script_text.proofs.Valid.{is_byte}
-use Rattle.script_text.proofs.AgainWords.{avoids, cut_first, cut_none, join-parts, is_plain, is_word, all-weaker, decimal-digits, number-again}
-
-digit-other : (c : ℕ) → is_ascii_digit c ≡ false → (b : ℕ) → is_ascii_digit b ≡ true → not (eqb b c) ≡ true
-digit-other c h b d = elim (cases_eq b c) [
-  | inl e ↦ absurd (let k = rw e at d in cc)
-  | inr n ↦ grind (arith, nat_tests)
-]
-
-digits-are-all : (ds : List ℕ) → all_ascii_digits ds ≡ true → list_all is_ascii_digit ds ≡ true
-digits-are-all [] h = refl
-digits-are-all (d ∷ ds) h = let p = and_parts (is_ascii_digit d) (all_ascii_digits ds) h in and_from _ _ p.0 (digits-are-all ds p.1)
-
--- a number has digits alone
-number-avoids : (c n : ℕ) → is_ascii_digit c ≡ false → n < 2 ^ 64 → avoids c (decimal n) ≡ true
-number-avoids c n h l = all-weaker is_ascii_digit (λ b. not (eqb b c)) (digit-other c h) (decimal n) (digits-are-all (decimal n) (decimal-digits n l))
-
-digit-plain : (b : ℕ) → is_ascii_digit b ≡ true → is_plain b ≡ true
-digit-plain b h = grind (arith, nat_tests)
-
-pub number-plain : (n : ℕ) → n < 2 ^ 64 → list_all is_plain (decimal n) ≡ true
-number-plain n l = all-weaker is_ascii_digit is_plain digit-plain (decimal n) (digits-are-all (decimal n) (decimal-digits n l))
-
-pub number-word : (n : ℕ) → n < 2 ^ 64 → is_word (decimal n) ≡ true
-number-word n l = let k = decimal_nonempty n l in and_from _ _ (number-plain n l) (grind (arith, nat_tests))
+use Rattle.basic_lemmas.proofs.Lists.{all-where}
+use Rattle.text_parts.specs.Words.{is_plain, is_word}
+use Rattle.text_parts.proofs.Joined.{avoids, avoids-append, in-two-again, join-parts, plain-append}
+use Rattle.text_parts.proofs.Spelled.{number-again, number-avoids, number-first, number-plain, more-avoid, more-plain}
 
 -- ---- streams
 
@@ -69,15 +46,6 @@ format-plain (Other n) h = number-plain n (let p = and_parts (ltb n (2 ^ 32)) _ 
 side-again : (n : ℕ) → 0 < n → n < 2 ^ 16 → side_of (decimal n) ≡ Some n
 unfolding side_of
 side-again n l u = let z : eqb n 0 ≡ false = grind (arith, nat_tests) in rw (number-again (2 ^ 16) n u (omega arith), z) refl
-
-in-two-again : (c : ℕ) (a b : List ℕ) → avoids c a ≡ true → avoids c b ≡ true → in_two c (a ++ c ∷ b) ≡ Some (a, b)
-in-two-again c a b h k = rw (cut_first c a b h, cut_none c b k) refl
-
-avoids-append : (c : ℕ) (a b : List ℕ) → avoids c a ≡ true → avoids c b ≡ true → avoids c (a ++ b) ≡ true
-avoids-append c a b h k = list_all-append (λ x. not (eqb x c)) a b ∙ and_from _ _ h k
-
-plain-append : (a b : List ℕ) → list_all is_plain a ≡ true → list_all is_plain b ≡ true → list_all is_plain (a ++ b) ≡ true
-plain-append a b h k = list_all-append is_plain a b ∙ and_from _ _ h k
 
 pub record FitsStream (s : StreamSpec) : Type 0 where
   format : format_fits s.format ≡ true
@@ -180,16 +148,6 @@ four-again s f =
       number-again (2 ^ 31) s.iso f.iso (omega arith),
     ) refl
 
--- a text that begins with a digit is no other word
-digit-first : (ds rest : List ℕ) (c : ℕ) (cs : List ℕ) → all_ascii_digits ds ≡ true → 0 < length ds → is_ascii_digit c ≡ false → bytes_eq (ds ++ rest) (c ∷ cs) ≡ false
-digit-first [] rest c cs h l d = absurd (omega arith)
-digit-first (b ∷ ds) rest c cs h l d =
-    let p = and_parts (is_ascii_digit b) (all_ascii_digits ds) h in
-    rw (not-true (eqb b c) (digit-other c d b p.0)) refl
-
-number-first : (n : ℕ) (rest : List ℕ) (c : ℕ) (cs : List ℕ) → n < 2 ^ 64 → is_ascii_digit c ≡ false → bytes_eq (decimal n ++ rest) (c ∷ cs) ≡ false
-number-first n rest c cs l d = digit-first (decimal n) rest c cs (decimal-digits n l) (decimal_nonempty n l) d
-
 settings-again : (s : Settings) → FitsSettings s → settings_of (settings_text s) ≡ Some s
 unfolding settings_of
 settings-again s f =
@@ -204,21 +162,8 @@ settings-avoid : (c : ℕ) (s : Settings) → is_ascii_digit c ≡ false → eqb
 settings-avoid c s d e f =
     let a = number-avoids c s.pattern d (omega (arith, f.pattern)) in
     let more : avoids c (flat_map (λ n. 44 ∷ decimal n) (s.level ∷ s.exposure ∷ s.iso ∷ [])) ≡ true =
-    more-avoid c (s.level ∷ s.exposure ∷ s.iso ∷ []) e (and_parts _ _ (four-avoid c s d f)).1 in
+    more-avoid c 44 (s.level ∷ s.exposure ∷ s.iso ∷ []) e (and_parts _ _ (four-avoid c s d f)).1 in
     avoids-append c (decimal s.pattern) _ a more
-  where
-    more-avoid : (c : ℕ) (ns : List ℕ) → eqb 44 c ≡ false → list_all (λ n. avoids c (decimal n)) ns ≡ true → avoids c (flat_map (λ n. 44 ∷ decimal n) ns) ≡ true
-    more-avoid c [] e h = refl
-    more-avoid c (n ∷ ns) e h =
-        let p = and_parts (avoids c (decimal n)) (list_all (λ m. avoids c (decimal m)) ns) h in
-        avoids-append c (44 ∷ decimal n) (flat_map (λ m. 44 ∷ decimal m) ns) (rw e p.0) (more-avoid c ns e p.1)
-
--- numbers, each behind a byte
-more-plain : (c : ℕ) (ns : List ℕ) → is_plain c ≡ true → list_all (λ n. list_all is_plain (decimal n)) ns ≡ true → list_all is_plain (flat_map (λ n. c ∷ decimal n) ns) ≡ true
-more-plain c [] e h = refl
-more-plain c (n ∷ ns) e h =
-    let p = and_parts (list_all is_plain (decimal n)) (list_all (λ m. list_all is_plain (decimal m)) ns) h in
-    plain-append (c ∷ decimal n) (flat_map (λ m. c ∷ decimal m) ns) (and_from _ _ e p.0) (more-plain c ns e p.1)
 
 settings-plain : (s : Settings) → FitsSettings s → list_all is_plain (settings_text s) ≡ true
 settings-plain s f =
@@ -238,7 +183,7 @@ bytes-again (n ∷ ns) h =
     rw (number-again (2 ^ 8) n (ltb-true n (2 ^ 8) p.0) (omega arith), bytes-again ns p.1) refl
 
 bytes-avoid : (c : ℕ) → is_ascii_digit c ≡ false → (ns : List ℕ) → list_all is_byte ns ≡ true → list_all (λ n. avoids c (decimal n)) ns ≡ true
-bytes-avoid c d ns h = all-weaker is_byte (λ n. avoids c (decimal n)) (λ n k. number-avoids c n d (byte-small n k)) ns h
+bytes-avoid c d ns h = all-where is_byte (λ n. avoids c (decimal n)) ns (λ n k. number-avoids c n d (byte-small n k)) h
 
 joined-again : (n : ℕ) (ns : List ℕ) → list_all is_byte (n ∷ ns) ≡ true → targets_of (join_by decimal (43 ∷ []) (n ∷ ns)) ≡ Some (targets (n ∷ ns))
 unfolding targets_of joined_targets
@@ -320,7 +265,7 @@ streams-plain false [] h = refl
 streams-plain false (n ∷ ns) h =
     let p = and_parts (is_byte n) (list_all is_byte ns) h in
     plain-append (decimal n) (flat_map (λ m. 43 ∷ decimal m) ns) (number-plain n (byte-small n p.0))
-    (more-plain 43 ns refl (all-weaker is_byte (λ m. list_all is_plain (decimal m)) (λ m k. number-plain m (byte-small m k)) ns p.1))
+    (more-plain 43 ns refl (all-where is_byte (λ m. list_all is_plain (decimal m)) ns (λ m k. number-plain m (byte-small m k)) p.1))
 
 -- ---- captures
 

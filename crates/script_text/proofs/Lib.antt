@@ -1,13 +1,8 @@
-pub mod Cuts
-pub mod Digits
 pub mod Targets
 pub mod Lists
 pub mod Added
 pub mod Valid
 pub mod ValidLines
-pub mod AgainWords
 pub mod AgainValues
 pub mod AgainLines
 pub mod Again
-pub mod FitsValid
-pub mod TypedFits

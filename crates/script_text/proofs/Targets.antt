@@ -6,7 +6,8 @@ use Rattle.std.proofs.lemmas.List.{set_at, length-append}
 use Rattle.cam_types.specs.declared.item.Targets.{Targets}
 use Rattle.script_text.specs.declared.cause.Cause.{Cause}
 use Rattle.script_text.specs.declared.cause.Cause.TheVariants.{Limit, BadNumber}
-use Rattle.script_text.specs.Words.{parts_at, number_below}
+use Rattle.text_parts.specs.Cuts.{parts_at}
+use Rattle.text_parts.specs.Numbers.{number_below}
 use Rattle.script_text.specs.Values.{◌>>=◌, all_of, targets, joined_targets}
 use Rattle.script_text.specs.Lines.{good}
 use Rattle.script_text.specs.Within.{limited, targets_within}

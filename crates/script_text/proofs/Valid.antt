@@ -10,22 +10,20 @@ use Rattle.cam_types.specs.declared.item.Settings.{Settings}
 use Rattle.cam_types.specs.declared.item.Targets.{Targets}
 use Rattle.cam_types.specs.declared.stream.Format.{Format}
 use Rattle.cam_types.specs.declared.stream.StreamSpec.{StreamSpec}
-use Rattle.script_text.specs.Fits.{settings_fit, targets_fit, item_fits, format_fits, spec_fits}
-use Rattle.script_text.specs.Words.{number_below, parts_at}
+use Rattle.script_spelling.specs.Fits.{settings_fit, targets_fit, item_fits, format_fits, spec_fits}
+use Rattle.text_parts.proofs.Spelled.{number-below}
+use Rattle.text_parts.specs.Numbers.{number_below}
+use Rattle.text_parts.specs.Cuts.{parts_at}
 use Rattle.script_text.specs.Values.{◌>>=◌, all_of, format_of, side_of, stream_of, spec_of, four_numbers, settings_of, targets, joined_targets, targets_of, item_of}
 use Rattle.script_text.specs.Within.{targets_within, item_within, within}
 
-pub number-fits : (limit : ℕ) (word : List ℕ) (n : ℕ) → number_below limit word ≡ Some n → ltb n limit ≡ true
-unfolding number_below
-number-fits limit word n h = grind arith
-
 format-fits : (word : List ℕ) (f : Format) → format_of word ≡ Some f → format_fits f ≡ true
 unfolding format_of
-format-fits word f h = grind (arith, nat_tests, number-fits)
+format-fits word f h = grind (arith, nat_tests, number-below)
 
 side-fits : (word : List ℕ) (n : ℕ) → side_of word ≡ Some n → (ltb 0 n ≡ true) × (ltb n (2 ^ 16) ≡ true)
 unfolding side_of
-side-fits word n h = grind (arith, nat_tests, number-fits)
+side-fits word n h = grind (arith, nat_tests, number-below)
 
 stream-fits : (b : Bool) (word : List ℕ) (s : StreamSpec) → stream_of b word ≡ Some s → spec_fits s ≡ true
 unfolding stream_of
@@ -37,7 +35,7 @@ spec-fits word s h = grind (arith, stream-fits)
 
 four-fit : (word : List ℕ) (s : Settings) → four_numbers word ≡ Some s → settings_fit s ≡ true
 unfolding four_numbers
-four-fit word s h = grind (arith, nat_tests, number-fits)
+four-fit word s h = grind (arith, nat_tests, number-below)
 
 settings-fit : (word : List ℕ) (s : Settings) → settings_of word ≡ Some s → settings_fit s ≡ true
 unfolding settings_of
@@ -81,7 +79,7 @@ joined-step (Some ns) t each h within = let e : targets ns ≡ t = cc in ap targ
 
 joined-fit : (word : List ℕ) (t : Targets) → joined_targets word ≡ Some t → targets_within t ≡ true → targets_fit t ≡ true
 unfolding joined_targets
-joined-fit word t h within = joined-step (all_of (number_below (2 ^ 8)) (parts_at 43 word)) t (all-fit (number_below (2 ^ 8)) is_byte (number-fits (2 ^ 8)) (parts_at 43 word)) h within
+joined-fit word t h within = joined-step (all_of (number_below (2 ^ 8)) (parts_at 43 word)) t (all-fit (number_below (2 ^ 8)) is_byte (number-below (2 ^ 8)) (parts_at 43 word)) h within
 
 targets-fit : (word : List ℕ) (t : Targets) → targets_of word ≡ Some t → targets_within t ≡ true → targets_fit t ≡ true
 unfolding targets_of

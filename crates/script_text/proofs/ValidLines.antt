@@ -1,8 +1,9 @@
 -- What is read is a valid script.
-use Rattle.std.proofs.Common.{◌≡◌, ℕ, ◌+◌, ◌^◌, Bool, true, false, ◌&&◌, not, cond, ltb, leb, List, [], ◌∷◌, ◌++◌, length, Option, None, Some, Result, Ok, Err, refl, sym, ap, ◌∙◌, arith}
+use Rattle.std.proofs.Common.{◌≡◌, ◌⊎◌, inl, inr, ℕ, ◌+◌, ◌^◌, Bool, true, false, ◌&&◌, not, cond, eqb, ltb, leb, List, [], ◌∷◌, ◌++◌, length, Option, None, Some, Result, Ok, Err, refl, sym, ap, ◌∙◌, arith}
 use Rattle.std.specs.Prelude.{sum_by, codes, bytes_eq}
 use Rattle.std.specs.List.{list_all, list_any}
-use Rattle.std.proofs.lemmas.Bool.{and_parts, and_from}
+use Rattle.basic_lemmas.proofs.Tests.{chosen}
+use Rattle.std.proofs.lemmas.Bool.{and_parts, and_from, eqb-true}
 use Rattle.std.proofs.lemmas.Bool.Decides.{nat_tests}
 use Rattle.std.proofs.lemmas.List.Folds.{list_all-append, list_any-append}
 use Rattle.std.proofs.lemmas.List.Sums.{sum_by-append}
@@ -15,17 +16,37 @@ use Rattle.cam_types.specs.declared.script.Word.{Word}
 use Rattle.cam_types.specs.declared.script.Word.TheVariants.{Configure, Once, Burst, Repeat, Stop, Wait, Await, Flush, Close, Disconnect}
 use Rattle.cam_types.specs.declared.stream.StreamSpec.{StreamSpec}
 use Rattle.cam_types.specs.Script.{is_closing_command, awaited_by}
-use Rattle.script_text.specs.Fits.{item_fits, spec_fits, command_fits, fault_fits, fits}
+use Rattle.script_spelling.specs.Fits.{item_fits, spec_fits, command_fits, fault_fits, fits}
 use Rattle.script_text.specs.declared.cause.Cause.{Cause}
-use Rattle.script_text.specs.declared.cause.Cause.TheVariants.{NotAscii, Version, Limit, FaultAfterCommand}
+use Rattle.script_text.specs.declared.cause.Cause.TheVariants.{NotAscii, UnknownWord, Limit, FaultAfterCommand}
 use Rattle.script_text.specs.declared.cause.ScriptRefused.{ScriptRefused}
 use Rattle.script_text.specs.declared.cause.ScriptRefused.TheVariants.{Bad}
-use Rattle.script_text.specs.Words.{is_printable, words_of, lines_of}
+use Rattle.script_text.specs.Grammar.{is_printable}
+use Rattle.text_parts.specs.Words.{loose_words}
+use Rattle.text_parts.specs.Lines.{lines_of}
 use Rattle.script_text.specs.Values.{all_of, spec_of, item_of}
-use Rattle.script_text.specs.Lines.{◌>>=◌, Line, FaultLine, PickLine, CommandLine, good, ends, one, number, awaited, frame_and_stream, fault_of, picks_of, command_of, fault_line, pick_line, command_line, command_word, line_of}
+use Rattle.script_text.specs.Lines.{◌>>=◌, Line, FaultLine, EarlyLine, DeviceLine, PickLine, CommandLine, good, ends, one, number, awaited, profile_number, raw_and_yuv, device_of, frame_and_stream, fault_of, picks_of, command_of, fault_line, early_line, device_line, pick_line, command_line, other_line, line_of}
+use Rattle.command_words.specs.Words.{command_word}
+use Rattle.cam_types.specs.Profile.{is_profile, is_profile_number, profile_fits}
+use Rattle.cam_types.specs.declared.profile.Profile.{Profile}
+use Rattle.text_parts.proofs.Spelled.{number-below, number-within}
 use Rattle.script_text.specs.Within.{item_within, within}
-use Rattle.script_text.specs.Grammar.{closed, empty, counts_within, with_line, is_late, is_version, is_comment, text_limit, added, then_added, after_words, after_line, after, at_line, at_end, script_from, script_of}
-use Rattle.script_text.proofs.Valid.{number-fits, spec-fits, all-fit, item-fits, is_u32}
+use Rattle.script_text.specs.Grammar.{closed, Begun, empty, counts_within, script_within, with_line, is_late, version_number, version_of, first_line, is_comment, text_limit, added, then_added, after_words, after_line, after, at_line, at_end, script_from, script_of}
+use Rattle.script_text.proofs.Valid.{spec-fits, all-fit, item-fits, is_u32}
+
+-- ---- steps that gave a value
+
+ok-step : {A B : Type 0} (r : Result A Cause) (f : A → Result B Cause) (y : B) → (r >>= f) ≡ Ok y → (x : A) × (r ≡ Ok x) × (f x ≡ Ok y)
+ok-step (Ok x) f y h = (x, refl, h)
+ok-step (Err c) f y h = absurd (cc)
+
+good-ok : (o : Option ℕ) (n : ℕ) → good o ≡ Ok n → o ≡ Some n
+good-ok None n h = absurd (cc)
+good-ok (Some x) n h = let e : x ≡ n = cc in ap Some e
+
+ends-ok : {A : Type 0} (x y : A) (words : List (List ℕ)) → ends x words ≡ Ok y → x ≡ y
+ends-ok x y [] h = cc
+ends-ok x y (word ∷ words) h = absurd (cc)
 
 -- ---- commands
 
@@ -76,8 +97,8 @@ once-step (word ∷ more ∷ words) c h w = grind (arith, item-fits)
 
 await-step : (words : List (List ℕ)) (c : Command) → (one awaited words >>= λ k. Ok (command.Await k)) ≡ Ok c → command_fits c ≡ true
 await-step [] c h = absurd (cc)
-await-step (word ∷ []) c h = grind (arith, nat_tests, number-fits)
-await-step (word ∷ more ∷ words) c h = grind (arith, nat_tests, number-fits)
+await-step (word ∷ []) c h = grind (arith, nat_tests, number-below)
+await-step (word ∷ more ∷ words) c h = grind (arith, nat_tests, number-below)
 
 ends-step : (d : Command) (words : List (List ℕ)) (c : Command) → command_fits d ≡ true → ends d words ≡ Ok c → command_fits c ≡ true
 ends-step d [] c f h = let e : d ≡ c = cc in ap command_fits (sym e) ∙ f
@@ -101,7 +122,7 @@ command-fits Disconnect words c h w = ends-step command.Disconnect words c refl 
 fault-fits : (words : List (List ℕ)) (f : Fault) → fault_of words ≡ Ok f → fault_fits f ≡ true
 unfolding fault_of frame_and_stream
 fault-fits [] f h = absurd (cc)
-fault-fits (kind ∷ words) f h = grind (arith, nat_tests, number-fits)
+fault-fits (kind ∷ words) f h = grind (arith, nat_tests, number-below)
 
 picks-step : (o : Option (List ℕ)) (ps : List ℕ) → ((xs : List ℕ) → o ≡ Some xs → list_all is_u32 xs ≡ true) → good o ≡ Ok ps → list_all is_u32 ps ≡ true
 picks-step None ps each h = absurd (cc)
@@ -110,53 +131,112 @@ picks-step (Some xs) ps each h = let e : xs ≡ ps = cc in ap (list_all is_u32) 
 picks-fit : (words : List (List ℕ)) (ps : List ℕ) → picks_of words ≡ Ok ps → list_all is_u32 ps ≡ true
 unfolding picks_of
 picks-fit [] ps h = absurd (cc)
-picks-fit (word ∷ words) ps h = picks-step (all_of number (word ∷ words)) ps (all-fit number is_u32 (number-fits (2 ^ 32)) (word ∷ words)) h
+picks-fit (word ∷ words) ps h = picks-step (all_of number (word ∷ words)) ps (all-fit number is_u32 (number-below (2 ^ 32)) (word ∷ words)) h
+
+-- ---- the device
+
+profile-number-fits : (word : List ℕ) (n : ℕ) → profile_number word ≡ Some n → is_profile_number n ≡ true
+profile-number-fits word n h = let p = number-within 1 16 word n h in grind (arith, nat_tests)
+
+raw-and-yuv-fit : (words : List (List ℕ)) (r y : ℕ) → raw_and_yuv words ≡ Ok (r, y) → (is_profile_number r ≡ true) × (is_profile_number y ≡ true)
+unfolding raw_and_yuv
+raw-and-yuv-fit [] r y h = absurd (cc)
+raw-and-yuv-fit (raw ∷ words) r y h =
+    let a = ok-step (good (profile_number raw)) _ (r, y) h in
+    let b = ok-step (one profile_number words) _ (r, y) a.2 in
+    let e : (a.0, b.0) ≡ (r, y) = cc in
+    let f = profile-number-fits raw a.0 (good-ok (profile_number raw) a.0 a.1) in
+    let g = one-profile-fits words b.0 b.1 in
+    (sym (ap (λ (p : ℕ × ℕ). is_profile_number p.0) e) ∙ f, sym (ap (λ (p : ℕ × ℕ). is_profile_number p.1) e) ∙ g)
+  where
+    one-profile-fits : (words : List (List ℕ)) (n : ℕ) → one profile_number words ≡ Ok n → is_profile_number n ≡ true
+    one-profile-fits [] n h = absurd (cc)
+    one-profile-fits (word ∷ words) n h =
+        let a = ok-step (good (profile_number word)) (λ x. ends x words) n h in
+        let e = ends-ok a.0 n words a.2 in
+        ap is_profile_number (sym e) ∙ profile-number-fits word a.0 (good-ok (profile_number word) a.0 a.1)
+
+device-fits : (words : List (List ℕ)) (p : Profile) → device_of words ≡ Ok p → is_profile p ≡ true
+unfolding device_of
+device-fits [] p h = absurd (cc)
+device-fits (depth ∷ words) p h =
+    let a = ok-step (good (profile_number depth)) _ p h in
+    let b = ok-step (raw_and_yuv words) _ p a.2 in
+    let e : record { depth = a.0; raw = b.0.0; yuv = b.0.1 } ≡ p = cc in
+    let d = profile-number-fits depth a.0 (good-ok (profile_number depth) a.0 a.1) in
+    let q = raw-and-yuv-fit words b.0.0 b.0.1 b.1 in
+    ap is_profile (sym e) ∙ and_from _ _ d (and_from _ _ q.0 q.1)
 
 -- ---- lines
 
-abbrev line_fits : Line → Bool
-line_fits (FaultLine f) = fault_fits f
-line_fits (PickLine ps) = list_all is_u32 ps
-line_fits (CommandLine c) = cond (within c) (command_fits c) true
+-- a line fits a script of the version
+abbrev line_fits : ℕ → Line → Bool
+line_fits v (FaultLine f) = fault_fits f
+line_fits v EarlyLine = true
+line_fits v (DeviceLine p) = profile_fits v p
+line_fits v (PickLine ps) = list_all is_u32 ps
+line_fits v (CommandLine c) = cond (within c) (command_fits c) true
 
 command-line-fits : (word : Word) (words : List (List ℕ)) (c : Command) → command_of word words ≡ Ok c → cond (within c) (command_fits c) true ≡ true
 command-line-fits word words c h = when_true (within c) (command_fits c) (command-fits word words c h)
 
-fault-line-step : (r : Result Fault Cause) (line : Line) → ((f : Fault) → r ≡ Ok f → fault_fits f ≡ true) → (r >>= λ f. Ok (FaultLine f)) ≡ Ok line → line_fits line ≡ true
-fault-line-step (Ok f) line each h = let e : FaultLine f ≡ line = cc in ap line_fits (sym e) ∙ each f refl
-fault-line-step (Err cause) line each h = absurd (cc)
+fault-line-fits : (v : ℕ) (words : List (List ℕ)) (line : Line) → fault_line words ≡ Ok line → line_fits v line ≡ true
+fault-line-fits v words line h =
+    let a = ok-step (fault_of words) _ line h in
+    let e : FaultLine a.0 ≡ line = cc in
+    ap (line_fits v) (sym e) ∙ fault-fits words a.0 a.1
 
-pick-line-step : (r : Result (List ℕ) Cause) (line : Line) → ((ps : List ℕ) → r ≡ Ok ps → list_all is_u32 ps ≡ true) → (r >>= λ ps. Ok (PickLine ps)) ≡ Ok line → line_fits line ≡ true
-pick-line-step (Ok ps) line each h = let e : PickLine ps ≡ line = cc in ap line_fits (sym e) ∙ each ps refl
-pick-line-step (Err cause) line each h = absurd (cc)
+pick-line-fits : (v : ℕ) (words : List (List ℕ)) (line : Line) → pick_line words ≡ Ok line → line_fits v line ≡ true
+pick-line-fits v words line h =
+    let a = ok-step (picks_of words) _ line h in
+    let e : PickLine a.0 ≡ line = cc in
+    ap (line_fits v) (sym e) ∙ picks-fit words a.0 a.1
 
-command-line-step : (r : Result Command Cause) (line : Line) → ((c : Command) → r ≡ Ok c → cond (within c) (command_fits c) true ≡ true) → (r >>= λ c. Ok (CommandLine c)) ≡ Ok line → line_fits line ≡ true
-command-line-step (Ok c) line each h = let e : CommandLine c ≡ line = cc in ap line_fits (sym e) ∙ each c refl
-command-line-step (Err cause) line each h = absurd (cc)
+early-line-fits : (v : ℕ) (words : List (List ℕ)) (line : Line) → early_line words ≡ Ok line → line_fits v line ≡ true
+early-line-fits v words line h = let e = ends-ok EarlyLine line words h in ap (line_fits v) (sym e)
 
-by-word-step : (o : Option Word) (words : List (List ℕ)) (line : Line) → command_line o words ≡ Ok line → line_fits line ≡ true
-by-word-step None words line h = absurd (cc)
-by-word-step (Some word) words line h = command-line-step (command_of word words) line (command-line-fits word words) h
+device-line-fits : (v : ℕ) (words : List (List ℕ)) (line : Line) → device_line v words ≡ Ok line → line_fits v line ≡ true
+device-line-fits v words line h = elim (chosen (eqb v 2) (device_of words >>= λ p. Ok (DeviceLine p)) (Err UnknownWord) (Ok line) h) [
+  | inl two ↦
+      let a = ok-step (device_of words) (λ p. Ok (DeviceLine p)) line two.1 in
+      let e : DeviceLine a.0 ≡ line = cc in
+      ap (line_fits v) (sym e) ∙ (rw (eqb-true v 2 two.0) (device-fits words a.0 a.1))
+  | inr other ↦ absurd (let none = other.1 in cc)
+]
 
-line-step : (a b : Bool) (f p c : Result Line Cause) (line : Line) → (f ≡ Ok line → line_fits line ≡ true) → (p ≡ Ok line → line_fits line ≡ true) → (c ≡ Ok line → line_fits line ≡ true) → cond a f (cond b p c) ≡ Ok line → line_fits line ≡ true
-line-step true b f p c line if-f if-p if-c h = if-f h
-line-step false true f p c line if-f if-p if-c h = if-p h
-line-step false false f p c line if-f if-p if-c h = if-c h
+by-word-fits : (v : ℕ) (o : Option Word) (words : List (List ℕ)) (line : Line) → command_line o words ≡ Ok line → line_fits v line ≡ true
+by-word-fits v None words line h = absurd (cc)
+by-word-fits v (Some word) words line h =
+    let a = ok-step (command_of word words) _ line h in
+    let e : CommandLine a.0 ≡ line = cc in
+    ap (line_fits v) (sym e) ∙ command-line-fits word words a.0 a.1
 
-line-fits : (word : List ℕ) (words : List (List ℕ)) (line : Line) → line_of word words ≡ Ok line → line_fits line ≡ true
+line-step : (v : ℕ) (a b : Bool) (first second third : Result Line Cause) (line : Line) → (first ≡ Ok line → line_fits v line ≡ true) → (second ≡ Ok line → line_fits v line ≡ true) → (third ≡ Ok line → line_fits v line ≡ true)
+    → cond a first (cond b second third) ≡ Ok line → line_fits v line ≡ true
+line-step v true b first second third line if-first if-second if-third h = if-first h
+line-step v false true first second third line if-first if-second if-third h = if-second h
+line-step v false false first second third line if-first if-second if-third h = if-third h
+
+other-line-fits : (v : ℕ) (word : List ℕ) (words : List (List ℕ)) (line : Line) → other_line v word words ≡ Ok line → line_fits v line ≡ true
+unfolding other_line
+other-line-fits v word words line h =
+    line-step v (bytes_eq word (codes "early")) (bytes_eq word (codes "device")) (early_line words) (device_line v words) (command_line (command_word word) words) line
+    (early-line-fits v words line) (device-line-fits v words line) (by-word-fits v (command_word word) words line) h
+
+line-fits : (v : ℕ) (word : List ℕ) (words : List (List ℕ)) (line : Line) → line_of v word words ≡ Ok line → line_fits v line ≡ true
 unfolding line_of
-line-fits word words line h =
-    line-step (bytes_eq word (codes "fault")) (bytes_eq word (codes "pick")) (fault_line words) (pick_line words) (command_line (command_word word) words) line
-    (fault-line-step (fault_of words) line (fault-fits words)) (pick-line-step (picks_of words) line (picks-fit words)) (by-word-step (command_word word) words line) h
+line-fits v word words line h =
+    line-step v (bytes_eq word (codes "fault")) (bytes_eq word (codes "pick")) (fault_line words) (pick_line words) (other_line v word words) line
+    (fault-line-fits v words line) (pick-line-fits v words line) (other-line-fits v word words line) h
 
 -- ---- the file
 
 abbrev parts_fit : Script → Bool
-parts_fit s = list_all fault_fits s.faults && (list_all is_u32 s.picks && list_all command_fits s.commands)
+parts_fit s = profile_fits s.version s.profile && (list_all fault_fits s.faults && (list_all is_u32 s.picks && list_all command_fits s.commands))
 
-abbrev state_fits : Option Script → Bool
+abbrev state_fits : Option Begun → Bool
 state_fits None = true
-state_fits (Some s) = parts_fit s && counts_within s
+state_fits (Some b) = parts_fit b.script && counts_within b
 
 last-passes : {A : Type 0} (p : A → Bool) (xs : List A) (x : A) → list_all p (xs ++ x ∷ []) ≡ true → p x ≡ true
 last-passes p [] x h = (and_parts (p x) true h).0
@@ -166,65 +246,102 @@ push-passes : {A : Type 0} (p : A → Bool) (xs : List A) (x : A) → list_all p
 push-passes p [] x h k = and_from _ _ k refl
 push-passes p (y ∷ xs) x h k = let q = and_parts (p y) (list_all p xs) h in and_from _ _ q.0 (push-passes p xs x q.1 k)
 
-with-line-fits : (s : Script) (line : Line) → parts_fit s ≡ true → line_fits line ≡ true → counts_within (with_line s line) ≡ true → parts_fit (with_line s line) ≡ true
-with-line-fits s (FaultLine f) h k w =
-    let q = and_parts (list_all fault_fits s.faults) _ h in and_from _ _ (push-passes fault_fits s.faults f q.0 k) q.1
-with-line-fits s (PickLine ps) h k w =
-    let q = and_parts (list_all fault_fits s.faults) _ h in
-    let r = and_parts (list_all is_u32 s.picks) _ q.1 in
-    and_from _ _ q.0 (and_from _ _ (list_all-append is_u32 s.picks ps ∙ and_from _ _ r.0 k) r.1)
-with-line-fits s (CommandLine c) h k w =
-    let q = and_parts (list_all fault_fits s.faults) _ h in
-    let r = and_parts (list_all is_u32 s.picks) _ q.1 in
-    let all : list_all within (s.commands ++ c ∷ []) ≡ true = grind arith in
-    let own = last-passes within s.commands c all in
-    and_from _ _ q.0 (and_from _ _ r.0 (push-passes command_fits s.commands c r.1 (then_true (within c) (command_fits c) k own)))
+record PartsFit (s : Script) : Type 0 where
+  profile : profile_fits s.version s.profile ≡ true
+  faults : list_all fault_fits s.faults ≡ true
+  picks : list_all is_u32 s.picks ≡ true
+  commands : list_all command_fits s.commands ≡ true
 
-added-step : (fits late : Bool) (new next : Script) → cond (not fits) (Err Limit) (cond late (Err FaultAfterCommand) (Ok new)) ≡ Ok next → (fits ≡ true) × (new ≡ next)
+parts-fit : (s : Script) → parts_fit s ≡ true → PartsFit s
+parts-fit s h =
+    let a = and_parts (profile_fits s.version s.profile) _ h in
+    let b = and_parts (list_all fault_fits s.faults) _ a.1 in
+    let c = and_parts (list_all is_u32 s.picks) _ b.1 in
+    record { profile = a.0; faults = b.0; picks = c.0; commands = c.1 }
+
+parts-from : (s : Script) → PartsFit s → parts_fit s ≡ true
+parts-from s p = and_from _ _ p.profile (and_from _ _ p.faults (and_from _ _ p.picks p.commands))
+
+with-line-fits : (b : Begun) (line : Line) → parts_fit b.script ≡ true → line_fits b.script.version line ≡ true → counts_within (with_line b line) ≡ true → parts_fit (with_line b line).script ≡ true
+with-line-fits b (FaultLine f) h k w =
+    let p = parts-fit b.script h in
+    and_from _ _ p.profile (and_from _ _ (push-passes fault_fits b.script.faults f p.faults k) (and_from _ _ p.picks p.commands))
+with-line-fits b EarlyLine h k w = h
+with-line-fits b (DeviceLine profile) h k w =
+    let p = parts-fit b.script h in
+    and_from _ _ k (and_from _ _ p.faults (and_from _ _ p.picks p.commands))
+with-line-fits b (PickLine ps) h k w =
+    let p = parts-fit b.script h in
+    and_from _ _ p.profile (and_from _ _ p.faults (and_from _ _ (list_all-append is_u32 b.script.picks ps ∙ and_from _ _ p.picks k) p.commands))
+with-line-fits b (CommandLine c) h k w =
+    let p = parts-fit b.script h in
+    let all : list_all within (b.script.commands ++ c ∷ []) ≡ true = grind arith in
+    let own = last-passes within b.script.commands c all in
+    and_from _ _ p.profile (and_from _ _ p.faults (and_from _ _ p.picks (push-passes command_fits b.script.commands c p.commands (then_true (within c) (command_fits c) k own))))
+
+added-step : (fits late : Bool) (new next : Begun) → cond (not fits) (Err Limit) (cond late (Err FaultAfterCommand) (Ok new)) ≡ Ok next → (fits ≡ true) × (new ≡ next)
 added-step true true new next h = absurd (cc)
 added-step true false new next h = (refl, cc)
 added-step false late new next h = absurd (cc)
 
-added-fits : (s : Script) (line : Line) (next : Script) → parts_fit s ≡ true → line_fits line ≡ true → added s line ≡ Ok next → parts_fit next && counts_within next ≡ true
+added-fits : (b : Begun) (line : Line) (next : Begun) → parts_fit b.script ≡ true → line_fits b.script.version line ≡ true → added b line ≡ Ok next → state_fits (Some next) ≡ true
 unfolding added
-added-fits s line next h k a =
-    let p = added-step (counts_within (with_line s line)) (is_late s line) (with_line s line) next a in
-    ap (λ n. parts_fit n && counts_within n) (sym p.1) ∙ and_from _ _ (with-line-fits s line h k p.0) p.0
+added-fits b line next h k a =
+    let p = added-step (counts_within (with_line b line)) (is_late b line) (with_line b line) next a in
+    ap (λ n. state_fits (Some n)) (sym p.1) ∙ and_from _ _ (with-line-fits b line h k p.0) p.0
 
-then-added-fits : (s : Script) (r : Result Line Cause) (next : Script) → parts_fit s ≡ true → ((line : Line) → r ≡ Ok line → line_fits line ≡ true) → then_added s r ≡ Ok next → parts_fit next && counts_within next ≡ true
-then-added-fits s (Ok line) next h each a = added-fits s line next h (each line refl) a
-then-added-fits s (Err cause) next h each a = absurd (cc)
+then-added-fits : (b : Begun) (r : Result Line Cause) (next : Begun) → parts_fit b.script ≡ true → ((line : Line) → r ≡ Ok line → line_fits b.script.version line ≡ true) → then_added b r ≡ Ok next → state_fits (Some next) ≡ true
+then-added-fits b (Ok line) next h each a = added-fits b line next h (each line refl) a
+then-added-fits b (Err cause) next h each a = absurd (cc)
 
-some-step : (r : Result Script Cause) (next : Option Script) → ((s : Script) → r ≡ Ok s → parts_fit s && counts_within s ≡ true) → (r >>= λ s. Ok (Some s)) ≡ Ok next → state_fits next ≡ true
-some-step (Ok s) next each h = let e : Some s ≡ next = cc in ap state_fits (sym e) ∙ each s refl
-some-step (Err cause) next each h = absurd (cc)
+version-fits : (o : Option ℕ) (next : Option Begun) → ((v : ℕ) → o ≡ Some v → (v ≡ 1) ⊎ (v ≡ 2)) → first_line o ≡ Ok next → state_fits next ≡ true
+version-fits None next each h = absurd (cc)
+version-fits (Some v) next each h =
+    let e : Some (empty v) ≡ next = cc in
+    ap state_fits (sym e) ∙ elim (each v refl) as (λ _. state_fits (Some (empty v)) ≡ true) [ inl one ↦ rw one refl | inr two ↦ rw two refl ]
 
-version-step : (b : Bool) (next : Option Script) → cond b (Ok (Some empty)) (Err Version) ≡ Ok next → state_fits next ≡ true
-version-step true next h = let e : Some empty ≡ next = cc in ap state_fits (sym e)
-version-step false next h = absurd (cc)
+version-number-is : (word : List ℕ) (v : ℕ) → version_number word ≡ Some v → (v ≡ 1) ⊎ (v ≡ 2)
+version-number-is word v h = by (bytes_eq word (codes "1")) (bytes_eq word (codes "2")) h
+  where
+    by : (a b : Bool) → cond a (Some 1) (cond b (Some 2) None) ≡ Some v → (v ≡ 1) ⊎ (v ≡ 2)
+    by true b h = inl (cc)
+    by false true h = inr (cc)
+    by false false h = absurd (cc)
 
-after-words-fit : (before : Option Script) (word : List ℕ) (words : List (List ℕ)) (next : Option Script) → state_fits before ≡ true → after_words before word words ≡ Ok next → state_fits next ≡ true
+version-is : (words : List (List ℕ)) (v : ℕ) → version_of words ≡ Some v → (v ≡ 1) ⊎ (v ≡ 2)
+version-is [] v h = absurd (cc)
+version-is (first ∷ []) v h = absurd (cc)
+version-is (first ∷ second ∷ []) v h = by (bytes_eq first (codes "camera")) h
+  where
+    by : (a : Bool) → cond a (version_number second) None ≡ Some v → (v ≡ 1) ⊎ (v ≡ 2)
+    by true h = version-number-is second v h
+    by false h = absurd (cc)
+version-is (first ∷ second ∷ third ∷ words) v h = absurd (cc)
+
+after-words-fit : (before : Option Begun) (word : List ℕ) (words : List (List ℕ)) (next : Option Begun) → state_fits before ≡ true → after_words before word words ≡ Ok next → state_fits next ≡ true
 unfolding after_words
-after-words-fit None word words next f h = version-step (is_version (word ∷ words)) next h
-after-words-fit (Some s) word words next f h =
-    let q = and_parts (parts_fit s) (counts_within s) f in
-    some-step (then_added s (line_of word words)) next (λ t a. then-added-fits s (line_of word words) t q.0 (line-fits word words) a) h
+after-words-fit None word words next f h = version-fits (version_of (word ∷ words)) next (version-is (word ∷ words)) h
+after-words-fit (Some b) word words next f h =
+    let q = and_parts (parts_fit b.script) (counts_within b) f in
+    let a = ok-step (then_added b (line_of b.script.version word words)) (λ (x : Begun). Ok (Some x)) next h in
+    let e : Some a.0 ≡ next = cc in
+    ap state_fits (sym e) ∙ then-added-fits b (line_of b.script.version word words) a.0 q.0 (line-fits b.script.version word words) a.1
 
-comment-step : (b : Bool) (before next : Option Script) (r : Result (Option Script) Cause) → state_fits before ≡ true → (r ≡ Ok next → state_fits next ≡ true) → cond b (Ok before) r ≡ Ok next → state_fits next ≡ true
+comment-step : (b : Bool) (before next : Option Begun) (r : Result (Option Begun) Cause) → state_fits before ≡ true → (r ≡ Ok next → state_fits next ≡ true) → cond b (Ok before) r ≡ Ok next → state_fits next ≡ true
 comment-step true before next r f k h = let e : before ≡ next = cc in ap state_fits (sym e) ∙ f
 comment-step false before next r f k h = k h
 
-after-line-fit : (before : Option Script) (words : List (List ℕ)) (next : Option Script) → state_fits before ≡ true → after_line before words ≡ Ok next → state_fits next ≡ true
+after-line-fit : (before : Option Begun) (words : List (List ℕ)) (next : Option Begun) → state_fits before ≡ true → after_line before words ≡ Ok next → state_fits next ≡ true
 after-line-fit before [] next f h = let e : before ≡ next = cc in ap state_fits (sym e) ∙ f
 after-line-fit before (word ∷ words) next f h = comment-step (is_comment word) before next (after_words before word words) f (after-words-fit before word words next f) h
 
-printable-step : (b : Bool) (r : Result (Option Script) Cause) (next : Option Script) → (r ≡ Ok next → state_fits next ≡ true) → cond b r (Err NotAscii) ≡ Ok next → state_fits next ≡ true
+printable-step : (b : Bool) (r : Result (Option Begun) Cause) (next : Option Begun) → (r ≡ Ok next → state_fits next ≡ true) → cond b r (Err NotAscii) ≡ Ok next → state_fits next ≡ true
 printable-step true r next k h = k h
 printable-step false r next k h = absurd (cc)
 
-after-fits : (before : Option Script) (line : List ℕ) (next : Option Script) → state_fits before ≡ true → after before line ≡ Ok next → state_fits next ≡ true
+after-fits : (before : Option Begun) (line : List ℕ) (next : Option Begun) → state_fits before ≡ true → after before line ≡ Ok next → state_fits next ≡ true
 unfolding after
-after-fits before line next f h = printable-step (list_all is_printable line) (after_line before (words_of line)) next (after-line-fit before (words_of line) next f) h
+after-fits before line next f h = printable-step (list_all is_printable line) (after_line before (loose_words line)) next (after-line-fit before (loose_words line) next f) h
 
 -- the added `close`
 closed-cases : (any : Bool) (cs : List Command) → list_any is_closing_command cs ≡ any → list_all command_fits cs ≡ true →
@@ -236,23 +353,25 @@ closed-cases false cs e h = (
   list_any-append is_closing_command cs (command.Close ∷ []) ∙ grind arith,
 )
 
-end-valid : (n : ℕ) (state : Option Script) (s : Script) → state_fits state ≡ true → at_end n state ≡ Ok s → fits s ≡ true
+end-valid : (n : ℕ) (state : Option Begun) (s : Script) → state_fits state ≡ true → at_end n state ≡ Ok s → fits s ≡ true
 end-valid n None s f h = absurd (cc)
-end-valid n (Some d) s f h =
-    let e : record { faults = d.faults; picks = d.picks; commands = closed d.commands } ≡ s = cc in
-    let q = and_parts (parts_fit d) (counts_within d) f in
-    let a = and_parts (list_all fault_fits d.faults) _ q.0 in
-    let b = and_parts (list_all is_u32 d.picks) _ a.1 in
-    let c = closed-cases (list_any is_closing_command d.commands) d.commands refl b.1 in
-    let counts = q.1 in
-    let k : fits (record { faults = d.faults; picks = d.picks; commands = closed d.commands }) ≡ true = grind arith in
+end-valid n (Some b) s f h =
+    let e : record b.script { commands = closed b.script.commands } ≡ s = cc in
+    let q = and_parts (parts_fit b.script) (counts_within b) f in
+    let p = parts-fit b.script q.0 in
+    let c = closed-cases (list_any is_closing_command b.script.commands) b.script.commands refl p.commands in
+    let counts : script_within b.script ≡ true = (and_parts (leb b.devices 1) (script_within b.script) q.1).1 in
+    let profile = p.profile in
+    let faults = p.faults in
+    let picks = p.picks in
+    let k : fits (record b.script { commands = closed b.script.commands }) ≡ true = grind arith in
     ap fits (sym e) ∙ k
 
 at-line-ok : {A : Type 0} (n : ℕ) (r : Result A Cause) (f : A → Result Script ScriptRefused) (s : Script) → at_line n r f ≡ Ok s → (x : A) × (r ≡ Ok x) × (f x ≡ Ok s)
 at-line-ok n (Ok x) f s h = (x, refl, h)
 at-line-ok n (Err cause) f s h = absurd (cc)
 
-script-valid : (before : Option Script) (n : ℕ) (lines : List (List ℕ)) (s : Script) → state_fits before ≡ true → script_from before n lines ≡ Ok s → fits s ≡ true
+script-valid : (before : Option Begun) (n : ℕ) (lines : List (List ℕ)) (s : Script) → state_fits before ≡ true → script_from before n lines ≡ Ok s → fits s ≡ true
 unfolding script_from
 script-valid before n [] s f h = end-valid n before s f h
 script-valid before n (line ∷ lines) s f h =

@@ -7,10 +7,10 @@ use Rattle.script_text.specs.declared.cause.ScriptRefused.{ScriptRefused}
 use Rattle.script_text.specs.declared.cause.ScriptRefused.TheVariants.{Bad, NoMemory}
 
 -- the answer is what the text means, or that memory ran out
-abbrev pub Answers : Result Script ScriptRefused → Result Script ScriptRefused → Type 0
-Answers (Ok script) meaning = meaning ≡ Ok script
-Answers (Err (Bad line cause)) meaning = meaning ≡ Err (Bad line cause)
-Answers (Err NoMemory) meaning = Unit {0}
+abbrev pub AnswersScript : Result Script ScriptRefused → Result Script ScriptRefused → Type 0
+AnswersScript (Ok script) meaning = meaning ≡ Ok script
+AnswersScript (Err (Bad line cause)) meaning = meaning ≡ Err (Bad line cause)
+AnswersScript (Err NoMemory) meaning = Unit {0}
 
 -- a line's refusal with its number
 abbrev pub refused : ℕ → LineRefused → ScriptRefused

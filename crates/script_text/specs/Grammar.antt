@@ -1,6 +1,7 @@
 -- What a text means as a script: a function of the whole text. (docs/FORMATS.md, script text)
-use Rattle.std.specs.Prelude.{ℕ, ◌==◌, ◌+◌, Bool, false, ◌&&◌, not, List, [], ◌∷◌, ◌++◌, length, nat_lt, nat_le, Option, Some, None, Result, Ok, Err, if◌then◌else◌, codes, bytes_eq, sum_by}
+use Rattle.std.specs.Prelude.{ℕ, ◌==◌, ◌+◌, Bool, true, false, ◌&&◌, not, List, [], ◌∷◌, ◌++◌, length, nat_lt, nat_le, Option, Some, None, Result, Ok, Err, if◌then◌else◌, codes, bytes_eq, sum_by}
 use Rattle.std.specs.List.{list_all, list_any}
+use Rattle.cam_types.specs.declared.profile.Profile.{Profile}
 use Rattle.cam_types.specs.declared.script.Command.{Command}
 use Rattle.cam_types.specs.declared.script.Command.TheVariants.{Close}
 use Rattle.cam_types.specs.declared.script.Script.{Script}
@@ -10,55 +11,81 @@ use Rattle.script_text.specs.declared.cause.Cause.{Cause}
 use Rattle.script_text.specs.declared.cause.Cause.TheVariants.{NotAscii, Version, Limit, FaultAfterCommand}
 use Rattle.script_text.specs.declared.cause.ScriptRefused.{ScriptRefused}
 use Rattle.script_text.specs.declared.cause.ScriptRefused.TheVariants.{Bad}
-use Rattle.script_text.specs.Words.{lines_of, words_of, is_printable}
-use Rattle.script_text.specs.Lines.{◌>>=◌, Line, FaultLine, PickLine, CommandLine, line_of}
+use Rattle.text_parts.specs.Lines.{lines_of}
+use Rattle.text_parts.specs.Words.{loose_words}
+use Rattle.script_text.specs.Lines.{◌>>=◌, Line, FaultLine, EarlyLine, DeviceLine, PickLine, CommandLine, line_of}
 use Rattle.script_text.specs.Within.{within, picks_within}
 
 -- a `close` is added where none, and no `disconnect`, stands
 abbrev pub closed : List Command → List Command
 closed commands = if list_any is_closing_command commands then commands else commands ++ Close ∷ []
 
-abbrev pub empty : Script
-empty = record { faults = []; picks = []; commands = [] }
+-- the profile of a script that names none
+abbrev pub plain_profile : Profile
+plain_profile = record { depth = 6; raw = 3; yuv = 4 }
 
--- a script with one more line
-abbrev pub with_line : Script → Line → Script
-with_line script (FaultLine fault) = record script { faults = script.faults ++ fault ∷ [] }
-with_line script (PickLine picks) = record script { picks = script.picks ++ picks }
-with_line script (CommandLine command) = record script { commands = script.commands ++ command ∷ [] }
+-- what stands so far: a script, and how many `device` lines it has
+pub record Begun : Type 0 where
+  pub script : Script
+  pub devices : ℕ
 
--- each counted number is within its limit, with the `close` that would be added
-abbrev pub counts_within : Script → Bool
-counts_within script =
+abbrev pub begun : Script → ℕ → Begun
+begun script devices = record { script = script; devices = devices }
+
+-- nothing but the version line
+abbrev pub empty : ℕ → Begun
+empty version = begun (record { version = version; profile = plain_profile; early = false; faults = []; picks = []; commands = [] }) 0
+
+-- the same with one more line
+abbrev pub with_line : Begun → Line → Begun
+with_line b (FaultLine fault) = begun (record b.script { faults = b.script.faults ++ fault ∷ [] }) b.devices
+with_line b EarlyLine = begun (record b.script { early = true }) b.devices
+with_line b (DeviceLine profile) = begun (record b.script { profile = profile }) (b.devices + 1)
+with_line b (PickLine picks) = begun (record b.script { picks = b.script.picks ++ picks }) b.devices
+with_line b (CommandLine command) = begun (record b.script { commands = b.script.commands ++ command ∷ [] }) b.devices
+
+-- each counted number is within its limit, with the `close` that would be added; one `device` line at most
+abbrev pub script_within : Script → Bool
+script_within script =
     (nat_le (length script.faults) fault_limit && picks_within script.picks)
     && ((nat_le (length (closed script.commands)) command_limit && list_all within script.commands)
     && nat_le (sum_by awaited_by script.commands) awaited_limit)
 
--- a fault or pick line stands after a command line
-abbrev pub is_late : Script → Line → Bool
-is_late before (CommandLine command) = false
-is_late before _ = not (length before.commands == 0)
+abbrev pub counts_within : Begun → Bool
+counts_within b = nat_le b.devices 1 && script_within b.script
 
--- a script after one more line
-unfoldable pub added : Script → Line → Result Script Cause
+-- a line that isn't a command stands after a command line
+abbrev pub is_late : Begun → Line → Bool
+is_late before (CommandLine command) = false
+is_late before _ = not (length before.script.commands == 0)
+
+-- what stands after one more line
+unfoldable pub added : Begun → Line → Result Begun Cause
 added before line =
     if not (counts_within (with_line before line)) then Err Limit
     else (if is_late before line then Err FaultAfterCommand
     else Ok (with_line before line))
 
-abbrev pub then_added : Script → Result Line Cause → Result Script Cause
+abbrev pub then_added : Begun → Result Line Cause → Result Begun Cause
 then_added before (Ok line) = added before line
 then_added before (Err cause) = Err cause
 
--- the version line: `camera 1`
-abbrev pub is_version : List (List ℕ) → Bool
-is_version (first ∷ second ∷ []) = bytes_eq first (codes "camera") && bytes_eq second (codes "1")
-is_version _ = false
+-- the version line: `camera 1` or `camera 2`
+abbrev pub version_number : List ℕ → Option ℕ
+version_number word = if bytes_eq word (codes "1") then Some 1 else (if bytes_eq word (codes "2") then Some 2 else None)
+
+abbrev pub version_of : List (List ℕ) → Option ℕ
+version_of (first ∷ second ∷ []) = if bytes_eq first (codes "camera") then version_number second else None
+version_of _ = None
+
+abbrev pub first_line : Option ℕ → Result (Option Begun) Cause
+first_line None = Err Version
+first_line (Some version) = Ok (Some (empty version))
 
 -- a line that isn't ignored, by its first word and the words behind it: what stands after it
-unfoldable pub after_words : Option Script → List ℕ → List (List ℕ) → Result (Option Script) Cause
-after_words None word words = if is_version (word ∷ words) then Ok (Some empty) else Err Version
-after_words (Some before) word words = then_added before (line_of word words) >>= λ script. Ok (Some script)
+unfoldable pub after_words : Option Begun → List ℕ → List (List ℕ) → Result (Option Begun) Cause
+after_words None word words = first_line (version_of (word ∷ words))
+after_words (Some before) word words = then_added before (line_of before.script.version word words) >>= λ next. Ok (Some next)
 
 -- a word that begins a comment: 35 is `#`
 abbrev pub is_comment : List ℕ → Bool
@@ -66,14 +93,18 @@ is_comment [] = false
 is_comment (b ∷ bs) = b == 35
 
 -- a line of spaces alone, and a comment, are ignored
-abbrev pub after_line : Option Script → List (List ℕ) → Result (Option Script) Cause
+abbrev pub after_line : Option Begun → List (List ℕ) → Result (Option Begun) Cause
 after_line before [] = Ok before
 after_line before (word ∷ words) = if is_comment word then Ok before else after_words before word words
 
+-- a byte from space to `~`
+abbrev pub is_printable : ℕ → Bool
+is_printable b = nat_le 32 b && nat_le b 126
+
 -- What stands after a line: nothing before the version line, a script from then on.
 -- The causes of one line are tried in the order of their numbers.
-unfoldable pub after : Option Script → List ℕ → Result (Option Script) Cause
-after before line = if list_all is_printable line then after_line before (words_of line) else Err NotAscii
+unfoldable pub after : Option Begun → List ℕ → Result (Option Begun) Cause
+after before line = if list_all is_printable line then after_line before (loose_words line) else Err NotAscii
 
 -- a refusal names its line
 abbrev pub at_line : {A : Type 0} → ℕ → Result A Cause → (A → Result Script ScriptRefused) → Result Script ScriptRefused
@@ -81,12 +112,12 @@ at_line n (Ok x) f = f x
 at_line n (Err cause) f = Err (Bad n cause)
 
 -- what stands at the end of a text, of which n is the number that a next line would have
-abbrev pub at_end : ℕ → Option Script → Result Script ScriptRefused
+abbrev pub at_end : ℕ → Option Begun → Result Script ScriptRefused
 at_end n None = Err (Bad n Version)
-at_end n (Some script) = Ok (record script { commands = closed script.commands })
+at_end n (Some b) = Ok (record b.script { commands = closed b.script.commands })
 
 -- the lines from number n on, after what stands before them
-unfoldable pub script_from : Option Script → ℕ → List (List ℕ) → Result Script ScriptRefused
+unfoldable pub script_from : Option Begun → ℕ → List (List ℕ) → Result Script ScriptRefused
 script_from before n [] = at_end n before
 script_from before n (line ∷ lines) = at_line n (after before line) (λ next. script_from next (n + 1) lines)
 

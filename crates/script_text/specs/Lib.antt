@@ -1,4 +1,3 @@
-pub mod Words
 pub mod Values
 pub mod Lines
 pub mod Within
@@ -6,5 +5,3 @@ pub mod Reader
 pub mod Grammar
 pub mod Answers
 pub mod Causes
-pub mod Spelling
-pub mod Fits

@@ -1,5 +1,7 @@
 -- What a line means by its words. (docs/FORMATS.md, script text)
-use Rattle.std.specs.Prelude.{ℕ, ◌==◌, ◌^◌, List, [], ◌∷◌, Option, Some, None, Result, Ok, Err, if◌then◌else◌, codes, bytes_eq, find}
+use Rattle.std.specs.Prelude.{ℕ, ◌==◌, ◌^◌, List, [], ◌∷◌, Option, Some, None, Result, Ok, Err, if◌then◌else◌, codes, bytes_eq}
+use Rattle.cam_types.specs.Limits.{profile_limit}
+use Rattle.cam_types.specs.declared.profile.Profile.{Profile}
 use Rattle.cam_types.specs.declared.script.Command.{Command}
 use Rattle.cam_types.specs.declared.script.Command.TheVariants as command
 use Rattle.cam_types.specs.declared.script.Fault.{Fault}
@@ -8,7 +10,8 @@ use Rattle.cam_types.specs.declared.script.Word.{Word}
 use Rattle.cam_types.specs.declared.script.Word.TheVariants.{Configure, Once, Burst, Repeat, Stop, Wait, Await, Flush, Close, Disconnect}
 use Rattle.script_text.specs.declared.cause.Cause.{Cause}
 use Rattle.script_text.specs.declared.cause.Cause.TheVariants.{UnknownWord, BadNumber, Missing, Extra}
-use Rattle.script_text.specs.Words.{number_below}
+use Rattle.command_words.specs.Words.{command_word}
+use Rattle.text_parts.specs.Numbers.{number_below, number_within}
 use Rattle.script_text.specs.Values.{all_of, spec_of, item_of}
 
 infixl 10 ◌>>=◌
@@ -19,6 +22,8 @@ abbrev pub ◌>>=◌ : {A B : Type 0} → Result A Cause → (A → Result B Cau
 -- a line that has a place in a script, after the version line
 pub data Line : Type 0 where
   FaultLine : Fault → Line
+  EarlyLine : Line
+  DeviceLine : Profile → Line
   PickLine : List ℕ → Line
   CommandLine : Command → Line
 
@@ -75,29 +80,30 @@ fault_of (kind ∷ words) =
     else (if bytes_eq kind (codes "device") then (one number words >>= λ n. Ok (fault.Device (record { 0 = n })))
     else Err UnknownWord)))
 
+-- each number of a profile is from 1 to 16
+abbrev pub profile_number : List ℕ → Option ℕ
+profile_number word = number_within 1 profile_limit word
+
+-- `RAW YUV`
+unfoldable pub raw_and_yuv : List (List ℕ) → Result (ℕ × ℕ) Cause
+raw_and_yuv [] = Err Missing
+raw_and_yuv (raw ∷ words) = do
+  r ← good (profile_number raw)
+  y ← one profile_number words
+  Ok (r, y)
+
+-- `device` and these words: `DEPTH RAW YUV`
+unfoldable pub device_of : List (List ℕ) → Result Profile Cause
+device_of [] = Err Missing
+device_of (depth ∷ words) = do
+  d ← good (profile_number depth)
+  p ← raw_and_yuv words
+  Ok (record { depth = d; raw = p.0; yuv = p.1 })
+
 -- `pick` and these words
 unfoldable pub picks_of : List (List ℕ) → Result (List ℕ) Cause
 picks_of [] = Err Missing
 picks_of (word ∷ words) = many number (word ∷ words)
-
--- the word of a command, as it is written
-abbrev pub word_text : Word → List ℕ
-word_text Configure = codes "configure"
-word_text Once = codes "once"
-word_text Burst = codes "burst"
-word_text Repeat = codes "repeat"
-word_text Stop = codes "stop"
-word_text Wait = codes "wait"
-word_text Await = codes "await"
-word_text Flush = codes "flush"
-word_text Close = codes "close"
-word_text Disconnect = codes "disconnect"
-
-abbrev pub command_words : List Word
-command_words = Configure ∷ Once ∷ Burst ∷ Repeat ∷ Stop ∷ Wait ∷ Await ∷ Flush ∷ Close ∷ Disconnect ∷ []
-
-unfoldable pub command_word : List ℕ → Option Word
-command_word word = find (λ w. bytes_eq word (word_text w)) command_words
 
 -- a command by its word and the words behind it
 unfoldable pub command_of : Word → List (List ℕ) → Result Command Cause
@@ -115,6 +121,14 @@ command_of Disconnect words = ends command.Disconnect words
 abbrev pub fault_line : List (List ℕ) → Result Line Cause
 fault_line words = fault_of words >>= λ fault. Ok (FaultLine fault)
 
+-- `early`, which has no further words
+abbrev pub early_line : List (List ℕ) → Result Line Cause
+early_line words = ends EarlyLine words
+
+-- the first version has no `device`
+abbrev pub device_line : ℕ → List (List ℕ) → Result Line Cause
+device_line version words = if version == 2 then (device_of words >>= λ profile. Ok (DeviceLine profile)) else Err UnknownWord
+
 abbrev pub pick_line : List (List ℕ) → Result Line Cause
 pick_line words = picks_of words >>= λ picks. Ok (PickLine picks)
 
@@ -122,9 +136,15 @@ abbrev pub command_line : Option Word → List (List ℕ) → Result Line Cause
 command_line None words = Err UnknownWord
 command_line (Some word) words = command_of word words >>= λ c. Ok (CommandLine c)
 
--- a line by its first word and the words behind it
-unfoldable pub line_of : List ℕ → List (List ℕ) → Result Line Cause
-line_of word words =
+-- a line of a script of the version, by its first word and the words behind it
+unfoldable pub other_line : ℕ → List ℕ → List (List ℕ) → Result Line Cause
+other_line version word words =
+    if bytes_eq word (codes "early") then early_line words
+    else (if bytes_eq word (codes "device") then device_line version words
+    else command_line (command_word word) words)
+
+unfoldable pub line_of : ℕ → List ℕ → List (List ℕ) → Result Line Cause
+line_of version word words =
     if bytes_eq word (codes "fault") then fault_line words
     else (if bytes_eq word (codes "pick") then pick_line words
-    else command_line (command_word word) words)
+    else other_line version word words)

@@ -7,7 +7,8 @@ use Rattle.cam_types.specs.declared.item.Targets.{Targets}
 use Rattle.cam_types.specs.declared.stream.Format.{Format}
 use Rattle.cam_types.specs.declared.stream.Format.TheVariants.{Raw16, Yuv, Other}
 use Rattle.cam_types.specs.declared.stream.StreamSpec.{StreamSpec}
-use Rattle.script_text.specs.Words.{parts_at, in_two, in_four, number_below}
+use Rattle.text_parts.specs.Cuts.{parts_at, in_two, in_four}
+use Rattle.text_parts.specs.Numbers.{number_below}
 
 -- the second value, where the first is there
 infixl 10 ◌>>=◌

@@ -11,9 +11,9 @@ use std::alloc::AllocError;
 pub enum Cause {
     /// The line has a byte other than 0x20 to 0x7E, apart from its end.
     NotAscii = 31,
-    /// It is the first line that isn't ignored, and isn't `camera 1`.
+    /// It is the first line that isn't ignored, and is neither `camera 1` nor `camera 2`.
     Version = 32,
-    /// Its first word isn't that of any line, or the word after `fault` isn't that of any fault.
+    /// Its first word isn't that of any line of its version, or the word after `fault` isn't that of any fault.
     UnknownWord = 33,
     /// A word that stands in the place of a number, a stream or a capture isn't one, or is out of its range.
     BadNumber = 34,
@@ -21,9 +21,9 @@ pub enum Cause {
     Missing = 35,
     /// It has too many words.
     Extra = 36,
-    /// With this line a counted number passes its limit. As cause of line 0: the text is too long.
+    /// With this line a counted number passes its limit, as that of `device` lines, which is one. As cause of line 0: the text is too long.
     Limit = 37,
-    /// A fault or pick line stands after a command line.
+    /// A fault, pick, early or device line stands after a command line.
     FaultAfterCommand = 38,
 }
 

@@ -1,96 +1,130 @@
 //! The script that stands after some lines.
 
-ghost use Rattle.std.specs.Prelude.{◌≡◌, IsTrue, IfOk, sum_by};
+ghost use Rattle.std.specs.Prelude.{◌≡◌, ◌==◌, IsTrue, IfOk, length, not, sum_by};
 ghost use Rattle.std.specs.List.{list_any};
 ghost use Rattle.cam_types.specs.Script.{awaited_by, is_closing_command};
-ghost use Rattle.script_text.specs.Words.{words_of};
-ghost use Rattle.script_text.specs.Lines.{FaultLine, CommandLine, pick_line};
+ghost use Rattle.text_parts.specs.Words.{loose_words};
+ghost use Rattle.script_text.specs.Lines.{CommandLine, DeviceLine, EarlyLine, FaultLine, pick_line};
 ghost use Rattle.script_text.specs.Within.{within};
 ghost use Rattle.script_text.specs.Reader.{GivesBy};
-ghost use Rattle.script_text.specs.Grammar.{counts_within, closed, added, then_added, empty};
+ghost use Rattle.script_text.specs.Grammar.{added, begun, closed, counts_within, empty, then_added};
 
 use crate::cause::{Cause, LineRefused};
 use crate::list::with_picks;
-use crate::text::split_word;
 use cam_types::{
     AWAITED_LIMIT, COMMAND_LIMIT, Command, CommandList, FAULT_LIMIT, Fault, FaultList, NoMemory,
-    PickList, Script,
+    PickList, Profile, Script,
 };
 use std::alloc::Global;
+use text_parts::next_loose_word;
 
 /// A script that may still grow. Its sums are kept with it, so that no line is looked at twice.
 #[derive(Drop)]
 pub struct Draft {
     script: Script,
+    devices: u32,
     awaited: u64,
     is_closed: bool,
     ghost sums_up: { awaited ≡ sum_by awaited_by script.commands },
     ghost closes: { is_closed ≡ list_any is_closing_command script.commands },
-    ghost counted: { IsTrue (counts_within script) },
-}
-
-/// What a command adds to the frames that are waited for.
-fn awaited_by(command: &Command) -> u32
-    ensures { result ≡ awaited_by command.now }
-{
-    match command {
-        Command::Await(count) => *count,
-        _ => 0,
-    }
-}
-
-/// Whether a command ends the use of the device.
-fn is_closing_command(command: &Command) -> bool
-    ensures { result ≡ is_closing_command command.now }
-{
-    matches!(command, Command::Close | Command::Disconnect)
+    ghost counted: { IsTrue (counts_within (begun script devices)) },
 }
 
 impl Draft {
     /// Nothing but the version line.
-    pub fn new(alloc: Global) -> Draft
-        ensures { result.script ≡ empty }
+    pub fn new(alloc: Global, version: u8) -> Draft
+        ensures { begun result.script result.devices ≡ empty version }
     {
         Draft {
             script: Script {
+                version,
+                profile: Profile::PLAIN,
+                early: false,
                 faults: FaultList::new(alloc),
                 picks: PickList::new(alloc),
                 commands: CommandList::new(alloc),
             },
+            devices: 0,
             awaited: 0,
             is_closed: false,
         }
     }
 
+    /// The version of the script.
+    pub fn version(&self) -> u8
+        ensures { result ≡ self.now.script.version }
+    {
+        self.script.version
+    }
+
+    /// Whether a command line stands.
+    fn has_commands(&self) -> bool
+        ensures { result ≡ not (length self.now.script.commands == 0) }
+    {
+        self.script.commands.len() > 0
+    }
+
     /// The draft with a fault line.
     #[tactic(auto, unfolding(crate::specs::Grammar::added))]
     pub fn with_fault(mut self, fault: Fault) -> Result<Draft, LineRefused>
-        ensures { GivesBy (λ d. d.script) result (added self.script (FaultLine fault)) }
+        ensures { GivesBy (λ d. begun d.script d.devices) result (added (begun self.script self.devices) (FaultLine fault)) }
     {
         if self.script.faults.len() >= FAULT_LIMIT {
             return Err(LineRefused::Bad(Cause::Limit));
         }
-        if self.script.commands.len() > 0 {
+        if self.has_commands() {
             return Err(LineRefused::Bad(Cause::FaultAfterCommand));
         }
         self.script.faults.push(fault)?;
         Ok(self)
     }
 
+    /// The draft with a line `early`.
+    #[tactic(auto, unfolding(crate::specs::Grammar::added))]
+    pub fn with_early(mut self) -> Result<Draft, LineRefused>
+        ensures { GivesBy (λ d. begun d.script d.devices) result (added (begun self.script self.devices) EarlyLine) }
+    {
+        if self.has_commands() {
+            return Err(LineRefused::Bad(Cause::FaultAfterCommand));
+        }
+        self.script.early = true;
+        Ok(self)
+    }
+
+    /// The draft with a device line.
+    #[tactic(auto, unfolding(crate::specs::Grammar::added))]
+    pub fn with_device(mut self, profile: Profile) -> Result<Draft, LineRefused>
+        ensures { GivesBy (λ d. begun d.script d.devices) result (added (begun self.script self.devices) (DeviceLine profile)) }
+    {
+        if self.devices > 0 {
+            return Err(LineRefused::Bad(Cause::Limit));
+        }
+        if self.has_commands() {
+            return Err(LineRefused::Bad(Cause::FaultAfterCommand));
+        }
+        self.script.profile = profile;
+        self.devices = 1;
+        Ok(self)
+    }
+
     /// The draft with a pick line, by the words behind `pick`.
     #[tactic(auto, unfolding(crate::specs::Grammar::added, crate::specs::Lines::picks_of))]
     pub fn with_picks(self, words: &[u8]) -> Result<Draft, LineRefused>
-        ensures { GivesBy (λ d. d.script) result (then_added self.script (pick_line (words_of words.now))) }
+        ensures { GivesBy (λ d. begun d.script d.devices) result (then_added (begun self.script self.devices) (pick_line (loose_words words.now))) }
     {
-        if split_word(words).is_none() {
+        if next_loose_word(words).is_none() {
             return Err(LineRefused::Bad(Cause::Missing));
         }
         let Draft {
             script: Script {
+                version,
+                profile,
+                early,
                 faults,
                 picks,
                 commands,
             },
+            devices,
             awaited,
             is_closed,
         } = self;
@@ -100,10 +134,14 @@ impl Draft {
         }
         Ok(Draft {
             script: Script {
+                version,
+                profile,
+                early,
                 faults,
                 picks,
                 commands,
             },
+            devices,
             awaited,
             is_closed,
         })
@@ -113,11 +151,11 @@ impl Draft {
     #[tactic(auto, unfolding(crate::specs::Grammar::added))]
     pub fn with_command(mut self, command: Command) -> Result<Draft, LineRefused>
         requires { IsTrue (within command) }
-        ensures { GivesBy (λ d. d.script) result (added self.script (CommandLine command)) }
+        ensures { GivesBy (λ d. begun d.script d.devices) result (added (begun self.script self.devices) (CommandLine command)) }
     {
-        let is_closed = self.is_closed || is_closing_command(&command);
+        let is_closed = self.is_closed || command.is_closing();
         let count = self.script.commands.len() + if is_closed { 1 } else { 2 };
-        let awaited = self.awaited + u64::from(awaited_by(&command));
+        let awaited = self.awaited + u64::from(command.awaited());
         if count > COMMAND_LIMIT || awaited > AWAITED_LIMIT {
             return Err(LineRefused::Bad(Cause::Limit));
         }

@@ -6,9 +6,10 @@ ghost use Rattle.script_text.specs.Lines.{good};
 ghost use Rattle.script_text.specs.Within.{limited, targets_within, item_within};
 
 use crate::cause::Cause;
-use crate::number::{byte_of, number_below, small_number};
-use crate::text::{split_at_byte, split_in_four, split_in_two};
 use cam_types::{Item, Settings, TARGET_LIMIT, Targets};
+use text_parts::{
+    byte_number, number_below, small_number_below, split_at_byte, split_in_four, split_in_two,
+};
 
 /// The settings of the template for a preview.
 const PREVIEW: Settings = Settings {
@@ -32,10 +33,10 @@ fn four_numbers(word: &[u8]) -> Option<Settings>
     ensures { result ≡ four_numbers word.now }
 {
     let (pattern, level, exposure, iso) = split_in_four(word, b',')?;
-    let pattern = byte_of(pattern)?;
-    let level = small_number(level, 1 << 31)?;
+    let pattern = byte_number(pattern)?;
+    let level = small_number_below(level, 1 << 31)?;
     let exposure = number_below(exposure, 1 << 63)?;
-    let iso = small_number(iso, 1 << 31)?;
+    let iso = small_number_below(iso, 1 << 31)?;
     Some(Settings {
         pattern,
         level,
@@ -73,14 +74,14 @@ fn joined_targets(word: &[u8]) -> Result<Targets, Cause>
     let mut count = 0usize;
     let mut rest = word;
     while let Some((stream, after)) = split_at_byte(rest, b'+') {
-        let Some(stream) = byte_of(stream) else {
+        let Some(stream) = byte_number(stream) else {
             return Err(Cause::BadNumber);
         };
         put_target(&mut list, count, stream);
         count += 1;
         rest = after;
     }
-    let Some(stream) = byte_of(rest) else {
+    let Some(stream) = byte_number(rest) else {
         return Err(Cause::BadNumber);
     };
     put_target(&mut list, count, stream);

@@ -1,4 +1,5 @@
-//! Client scripts as text: what a text means as a script, and the one spelling of each script.
+//! Client scripts as text: what a text means as a script, and `read`, which finds it. The one spelling of a script is that
+//! of `script_spelling`; what is printed is read again as the same script.
 #![tactic(auto)]
 
 mod cause;
@@ -6,16 +7,13 @@ mod draft;
 mod item;
 mod line;
 mod list;
-mod number;
+mod printing;
 mod reading;
-mod spelling;
 mod stream;
-mod text;
 
 pub use cause::{Cause, ScriptRefused};
+pub use printing::print;
 pub use reading::read;
-pub use spelling::print;
-pub use text::{split_at_byte, split_word, without_return};
 
 #[cfg(test)]
 mod tests;

@@ -1,33 +1,35 @@
 //! What a line means by its words.
 
 ghost use Rattle.std.specs.Prelude.{◌≡◌, ◌↔◌, [], IsTrue};
-ghost use Rattle.script_text.specs.Words.{words_of};
+ghost use Rattle.text_parts.specs.Words.{loose_words};
 ghost use Rattle.script_text.specs.Values.{item_of};
-ghost use Rattle.script_text.specs.Lines.{one, ends, number, stream, awaited, frame_and_stream, fault_of, command_word, command_of};
+ghost use Rattle.script_text.specs.Lines.{awaited, command_of, device_of, ends, fault_of, frame_and_stream, good, number, one, profile_number, raw_and_yuv, stream};
 ghost use Rattle.script_text.specs.Within.{limited, within, item_within};
 ghost use Rattle.script_text.specs.Reader.{Gives};
 
 use crate::cause::{Cause, LineRefused};
 use crate::item::item_of;
 use crate::list::{items_of, specs_of};
-use crate::number::{byte_of, small_number};
-use crate::text::split_word;
-use cam_types::{BURST_LIMIT, Command, Fault, FrameNo, Item, REPEAT_LIMIT, StreamIx, Word};
+use cam_types::{
+    BURST_LIMIT, Command, Fault, FrameNo, Item, PROFILE_LIMIT, Profile, REPEAT_LIMIT, StreamIx,
+    Word,
+};
 use std::alloc::Global;
+use text_parts::{byte_number, next_loose_word, number_within, small_number};
 
 /// Whether no word is left.
-fn is_end(words: &[u8]) -> bool
-    ensures { IsTrue result ↔ (words_of words.now ≡ []) }
+pub fn is_end(words: &[u8]) -> bool
+    ensures { IsTrue result ↔ (loose_words words.now ≡ []) }
 {
-    split_word(words).is_none()
+    next_loose_word(words).is_none()
 }
 
 /// One number, and no more.
 fn one_number(words: &[u8]) -> Result<u32, Cause>
-    ensures { result ≡ one number (words_of words.now) }
+    ensures { result ≡ one number (loose_words words.now) }
 {
-    let (word, rest) = split_word(words).ok_or(Cause::Missing)?;
-    let number = small_number(word, 1 << 32).ok_or(Cause::BadNumber)?;
+    let (word, rest) = next_loose_word(words).ok_or(Cause::Missing)?;
+    let number = small_number(word).ok_or(Cause::BadNumber)?;
     if is_end(rest) {
         Ok(number)
     } else {
@@ -37,10 +39,10 @@ fn one_number(words: &[u8]) -> Result<u32, Cause>
 
 /// One byte, and no more.
 fn one_byte(words: &[u8]) -> Result<u8, Cause>
-    ensures { result ≡ one stream (words_of words.now) }
+    ensures { result ≡ one stream (loose_words words.now) }
 {
-    let (word, rest) = split_word(words).ok_or(Cause::Missing)?;
-    let number = byte_of(word).ok_or(Cause::BadNumber)?;
+    let (word, rest) = next_loose_word(words).ok_or(Cause::Missing)?;
+    let number = byte_number(word).ok_or(Cause::BadNumber)?;
     if is_end(rest) {
         Ok(number)
     } else {
@@ -50,10 +52,10 @@ fn one_byte(words: &[u8]) -> Result<u8, Cause>
 
 /// How many frames an `await` waits for, and no more.
 fn one_awaited(words: &[u8]) -> Result<u32, Cause>
-    ensures { result ≡ one awaited (words_of words.now) }
+    ensures { result ≡ one awaited (loose_words words.now) }
 {
-    let (word, rest) = split_word(words).ok_or(Cause::Missing)?;
-    match small_number(word, 1 << 32) {
+    let (word, rest) = next_loose_word(words).ok_or(Cause::Missing)?;
+    match small_number(word) {
         None | Some(0) => Err(Cause::BadNumber),
         Some(_) if !is_end(rest) => Err(Cause::Extra),
         Some(count) => Ok(count),
@@ -62,9 +64,9 @@ fn one_awaited(words: &[u8]) -> Result<u32, Cause>
 
 /// One capture, and no more.
 fn one_item(words: &[u8]) -> Result<Item, Cause>
-    ensures { result ≡ limited item_within (one item_of (words_of words.now)) }
+    ensures { result ≡ limited item_within (one item_of (loose_words words.now)) }
 {
-    let (word, rest) = split_word(words).ok_or(Cause::Missing)?;
+    let (word, rest) = next_loose_word(words).ok_or(Cause::Missing)?;
     match item_of(word) {
         Err(Cause::BadNumber) => Err(Cause::BadNumber),
         item if is_end(rest) => item,
@@ -75,10 +77,10 @@ fn one_item(words: &[u8]) -> Result<Item, Cause>
 /// A frame and a stream.
 #[tactic(auto, unfolding(crate::specs::Lines::frame_and_stream))]
 fn frame_and_stream(words: &[u8]) -> Result<(u32, u8), Cause>
-    ensures { result ≡ frame_and_stream (words_of words.now) }
+    ensures { result ≡ frame_and_stream (loose_words words.now) }
 {
-    let (word, rest) = split_word(words).ok_or(Cause::Missing)?;
-    let frame = small_number(word, 1 << 32).ok_or(Cause::BadNumber)?;
+    let (word, rest) = next_loose_word(words).ok_or(Cause::Missing)?;
+    let frame = small_number(word).ok_or(Cause::BadNumber)?;
     let stream = one_byte(rest)?;
     Ok((frame, stream))
 }
@@ -86,9 +88,9 @@ fn frame_and_stream(words: &[u8]) -> Result<(u32, u8), Cause>
 /// A fault, by the words behind `fault`.
 #[tactic(auto, unfolding(crate::specs::Lines::fault_of))]
 pub fn fault_of(words: &[u8]) -> Result<Fault, Cause>
-    ensures { result ≡ fault_of (words_of words.now) }
+    ensures { result ≡ fault_of (loose_words words.now) }
 {
-    let (kind, rest) = split_word(words).ok_or(Cause::Missing)?;
+    let (kind, rest) = next_loose_word(words).ok_or(Cause::Missing)?;
     match kind {
         b"request" => Ok(Fault::Request(FrameNo(one_number(rest)?))),
         b"result" => Ok(Fault::Result(FrameNo(one_number(rest)?))),
@@ -101,29 +103,52 @@ pub fn fault_of(words: &[u8]) -> Result<Fault, Cause>
     }
 }
 
-/// The command that has this word.
-#[tactic(auto, unfolding(crate::specs::Lines::command_word))]
-pub fn command_word(word: &[u8]) -> Option<Word>
-    ensures { result ≡ command_word word.now }
+/// A number of a profile, which is from 1 to 16.
+fn profile_number(word: &[u8]) -> Result<u32, Cause>
+    ensures { result ≡ good (profile_number word.now) }
 {
-    match word {
-        b"configure" => Some(Word::Configure),
-        b"once" => Some(Word::Once),
-        b"burst" => Some(Word::Burst),
-        b"repeat" => Some(Word::Repeat),
-        b"stop" => Some(Word::Stop),
-        b"wait" => Some(Word::Wait),
-        b"await" => Some(Word::Await),
-        b"flush" => Some(Word::Flush),
-        b"close" => Some(Word::Close),
-        b"disconnect" => Some(Word::Disconnect),
-        _ => None,
+    let number = number_within(word, 1, u64::from(PROFILE_LIMIT)).ok_or(Cause::BadNumber)?;
+    Ok(number as u32)
+}
+
+/// One number of a profile, and no more.
+fn one_profile_number(words: &[u8]) -> Result<u32, Cause>
+    ensures { result ≡ one profile_number (loose_words words.now) }
+{
+    let (word, rest) = next_loose_word(words).ok_or(Cause::Missing)?;
+    let number = profile_number(word)?;
+    if is_end(rest) {
+        Ok(number)
+    } else {
+        Err(Cause::Extra)
     }
+}
+
+/// The buffers of the two formats.
+#[tactic(auto, unfolding(crate::specs::Lines::raw_and_yuv))]
+fn raw_and_yuv(words: &[u8]) -> Result<(u32, u32), Cause>
+    ensures { result ≡ raw_and_yuv (loose_words words.now) }
+{
+    let (word, rest) = next_loose_word(words).ok_or(Cause::Missing)?;
+    let raw = profile_number(word)?;
+    let yuv = one_profile_number(rest)?;
+    Ok((raw, yuv))
+}
+
+/// A profile, by the words behind `device`.
+#[tactic(auto, unfolding(crate::specs::Lines::device_of))]
+pub fn device_of(words: &[u8]) -> Result<Profile, Cause>
+    ensures { result ≡ device_of (loose_words words.now) }
+{
+    let (word, rest) = next_loose_word(words).ok_or(Cause::Missing)?;
+    let depth = profile_number(word)?;
+    let (raw, yuv) = raw_and_yuv(rest)?;
+    Ok(Profile { depth, raw, yuv })
 }
 
 /// A command that has no further words.
 fn alone(command: Command, words: &[u8]) -> Result<Command, LineRefused>
-    ensures { Gives result (ends command (words_of words.now)) }
+    ensures { Gives result (ends command (loose_words words.now)) }
 {
     if is_end(words) {
         Ok(command)
@@ -135,7 +160,7 @@ fn alone(command: Command, words: &[u8]) -> Result<Command, LineRefused>
 /// A command, by its word and the words behind it.
 #[tactic(auto, unfolding(crate::specs::Lines::command_of))]
 pub fn command_of(alloc: Global, word: Word, words: &[u8]) -> Result<Command, LineRefused>
-    ensures { Gives result (limited within (command_of word (words_of words.now))) }
+    ensures { Gives result (limited within (command_of word (loose_words words.now))) }
 {
     match word {
         Word::Configure => Ok(Command::Configure(specs_of(alloc, words)?)),

@@ -1,7 +1,7 @@
 //! Lists of words: the streams of a `configure`, the captures of a `burst` or `repeat`, the numbers of a `pick`.
 
 ghost use Rattle.std.specs.Prelude.{◌≡◌, IsTrue};
-ghost use Rattle.script_text.specs.Words.{words_of};
+ghost use Rattle.text_parts.specs.Words.{loose_words};
 ghost use Rattle.script_text.specs.Values.{all_of, spec_of, item_of};
 ghost use Rattle.script_text.specs.Lines.{many, number};
 ghost use Rattle.script_text.specs.Within.{limited, specs_within, items_within, picks_within};
@@ -9,18 +9,17 @@ ghost use Rattle.script_text.specs.Reader.{Gives, past_limit, behind};
 
 use crate::cause::{Cause, LineRefused};
 use crate::item::item_of;
-use crate::number::small_number;
 use crate::stream::spec_of;
-use crate::text::split_word;
 use cam_types::{ItemList, PICK_LIMIT, PickList, SPEC_LIMIT, SpecList};
 use std::alloc::Global;
+use text_parts::{next_loose_word, small_number};
 
 /// The cause of a line that has too many streams, by the words behind the first that is too many.
 fn past_specs(words: &[u8]) -> Cause
-    ensures { result ≡ past_limit (all_of spec_of (words_of words.now)) }
+    ensures { result ≡ past_limit (all_of spec_of (loose_words words.now)) }
 {
     let mut rest = words;
-    while let Some((word, after)) = split_word(rest) {
+    while let Some((word, after)) = next_loose_word(rest) {
         if spec_of(word).is_none() {
             return Cause::BadNumber;
         }
@@ -31,11 +30,11 @@ fn past_specs(words: &[u8]) -> Cause
 
 /// The streams of a `configure`.
 pub fn specs_of(alloc: Global, words: &[u8]) -> Result<SpecList, LineRefused>
-    ensures { Gives result (limited specs_within (many spec_of (words_of words.now))) }
+    ensures { Gives result (limited specs_within (many spec_of (loose_words words.now))) }
 {
     let mut specs = SpecList::new(alloc);
     let mut rest = words;
-    while let Some((word, after)) = split_word(rest) {
+    while let Some((word, after)) = next_loose_word(rest) {
         let Some(spec) = spec_of(word) else {
             return Err(LineRefused::Bad(Cause::BadNumber));
         };
@@ -50,10 +49,10 @@ pub fn specs_of(alloc: Global, words: &[u8]) -> Result<SpecList, LineRefused>
 
 /// The cause of a line that has too many captures, by the words behind the first that is too many.
 fn past_items(words: &[u8]) -> Cause
-    ensures { result ≡ past_limit (all_of item_of (words_of words.now)) }
+    ensures { result ≡ past_limit (all_of item_of (loose_words words.now)) }
 {
     let mut rest = words;
-    while let Some((word, after)) = split_word(rest) {
+    while let Some((word, after)) = next_loose_word(rest) {
         if item_of(word) == Err(Cause::BadNumber) {
             return Cause::BadNumber;
         }
@@ -64,11 +63,11 @@ fn past_items(words: &[u8]) -> Cause
 
 /// The captures of a `burst` or a `repeat`.
 pub fn items_of(alloc: Global, words: &[u8], limit: u32) -> Result<ItemList, LineRefused>
-    ensures { Gives result (limited (items_within limit) (many item_of (words_of words.now))) }
+    ensures { Gives result (limited (items_within limit) (many item_of (loose_words words.now))) }
 {
     let mut items = ItemList::new(alloc);
     let mut rest = words;
-    while let Some((word, after)) = split_word(rest) {
+    while let Some((word, after)) = next_loose_word(rest) {
         let item = match item_of(word) {
             Ok(item) => item,
             Err(Cause::Limit) => return Err(LineRefused::Bad(past_items(after))),
@@ -85,11 +84,11 @@ pub fn items_of(alloc: Global, words: &[u8], limit: u32) -> Result<ItemList, Lin
 
 /// The cause of a line that has too many numbers, by the words behind the first that is too many.
 fn past_numbers(words: &[u8]) -> Cause
-    ensures { result ≡ past_limit (all_of number (words_of words.now)) }
+    ensures { result ≡ past_limit (all_of number (loose_words words.now)) }
 {
     let mut rest = words;
-    while let Some((word, after)) = split_word(rest) {
-        if small_number(word, 1 << 32).is_none() {
+    while let Some((word, after)) = next_loose_word(rest) {
+        if small_number(word).is_none() {
             return Cause::BadNumber;
         }
         rest = after;
@@ -100,11 +99,11 @@ fn past_numbers(words: &[u8]) -> Cause
 /// The picks with those of one more line.
 pub fn with_picks(mut picks: PickList, words: &[u8]) -> Result<PickList, LineRefused>
     requires { IsTrue (picks_within picks) }
-    ensures { Gives result (limited picks_within (behind picks (many number (words_of words.now)))) }
+    ensures { Gives result (limited picks_within (behind picks (many number (loose_words words.now)))) }
 {
     let mut rest = words;
-    while let Some((word, after)) = split_word(rest) {
-        let Some(pick) = small_number(word, 1 << 32) else {
+    while let Some((word, after)) = next_loose_word(rest) {
+        let Some(pick) = small_number(word) else {
             return Err(LineRefused::Bad(Cause::BadNumber));
         };
         if picks.len() >= PICK_LIMIT {

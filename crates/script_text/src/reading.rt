@@ -4,19 +4,21 @@ ghost use Rattle.std.specs.Prelude.{◌≡◌, ◌∷◌, IsTrue, IfOk};
 ghost use Rattle.std.specs.List.{list_all};
 ghost use Rattle.std.specs.Option.{option_map};
 ghost use Rattle.cam_types.specs.Script.{is_valid};
-ghost use Rattle.script_text.specs.Fits.{fits};
-ghost use Rattle.script_text.specs.Words.{words_of, is_printable};
-ghost use Rattle.script_text.specs.Lines.{command_word, command_line, line_of};
+ghost use Rattle.command_words.specs.Words.{command_word};
+ghost use Rattle.script_spelling.specs.Fits.{fits};
+ghost use Rattle.text_parts.specs.Words.{loose_words};
+ghost use Rattle.script_text.specs.Lines.{command_line, device_line, early_line, line_of, other_line};
 ghost use Rattle.script_text.specs.Reader.{GivesBy};
-ghost use Rattle.script_text.specs.Grammar.{then_added, is_version, after_words, after, script_of};
-ghost use Rattle.script_text.specs.Answers.{Answers, refused};
+ghost use Rattle.script_text.specs.Grammar.{after, after_words, begun, is_printable, script_of, then_added, version_number, version_of};
+ghost use Rattle.script_text.specs.Answers.{AnswersScript, refused};
 
 use crate::cause::{Cause, LineRefused, ScriptRefused};
 use crate::draft::Draft;
-use crate::line::{command_of, command_word, fault_of};
-use crate::text::{split_line, split_word};
+use crate::line::{command_of, device_of, fault_of, is_end};
 use cam_types::{SCRIPT_BYTES, Script};
+use command_words::command_word;
 use std::alloc::Global;
+use text_parts::{next_loose_word, split_line};
 
 /// Whether a line has bytes from space to `~` alone.
 fn is_printable(line: &[u8]) -> bool
@@ -25,22 +27,35 @@ fn is_printable(line: &[u8]) -> bool
     line.iter().all(|byte| *byte >= b' ' && *byte <= b'~')
 }
 
-/// Whether a line is `camera 1`.
-fn is_version(word: &[u8], rest: &[u8]) -> bool
-    ensures { result ≡ is_version (word.now ∷ words_of rest.now) }
+/// The version that a word names.
+fn version_number(word: &[u8]) -> Option<u8>
+    ensures { result ≡ version_number word.now }
+{
+    match word {
+        b"1" => Some(1),
+        b"2" => Some(2),
+        _ => None,
+    }
+}
+
+/// The version of a line that is `camera 1` or `camera 2`.
+fn version_of(word: &[u8], rest: &[u8]) -> Option<u8>
+    ensures { result ≡ version_of (word.now ∷ loose_words rest.now) }
 {
     if word != b"camera".as_slice() {
-        return false;
+        return None;
     }
-    match split_word(rest) {
-        Some((b"1", rest)) => split_word(rest).is_none(),
-        _ => false,
+    let (number, rest) = next_loose_word(rest)?;
+    if is_end(rest) {
+        version_number(number)
+    } else {
+        None
     }
 }
 
 /// A draft with one more line that is a command, by its word and what stands behind it.
 fn with_command(alloc: Global, draft: Draft, word: &[u8], rest: &[u8]) -> Result<Draft, LineRefused>
-    ensures { GivesBy (λ d. d.script) result (then_added draft.script (command_line (command_word word.now) (words_of rest.now))) }
+    ensures { GivesBy (λ d. begun d.script d.devices) result (then_added (begun draft.script draft.devices) (command_line (command_word word.now) (loose_words rest.now))) }
 {
     let Some(word) = command_word(word) else {
         return Err(LineRefused::Bad(Cause::UnknownWord));
@@ -49,10 +64,51 @@ fn with_command(alloc: Global, draft: Draft, word: &[u8], rest: &[u8]) -> Result
     draft.with_command(command)
 }
 
+/// A draft with one more line `early`, by what stands behind the word.
+fn with_early(draft: Draft, rest: &[u8]) -> Result<Draft, LineRefused>
+    ensures { GivesBy (λ d. begun d.script d.devices) result (then_added (begun draft.script draft.devices) (early_line (loose_words rest.now))) }
+{
+    if is_end(rest) {
+        draft.with_early()
+    } else {
+        Err(LineRefused::Bad(Cause::Extra))
+    }
+}
+
+/// A draft with one more device line, by what stands behind the word.
+fn with_device(draft: Draft, rest: &[u8]) -> Result<Draft, LineRefused>
+    ensures { GivesBy (λ d. begun d.script d.devices) result (then_added (begun draft.script draft.devices) (device_line draft.script.version (loose_words rest.now))) }
+{
+    if draft.version() != 2 {
+        return Err(LineRefused::Bad(Cause::UnknownWord));
+    }
+    let profile = device_of(rest)?;
+    draft.with_device(profile)
+}
+
+/// A draft with one more line that is neither a fault nor a pick line, by its first word and what stands behind it.
+#[tactic(auto, unfolding(crate::specs::Lines::other_line))]
+fn with_other_line(
+    alloc: Global,
+    draft: Draft,
+    word: &[u8],
+    rest: &[u8],
+) -> Result<Draft, LineRefused>
+    ensures { GivesBy (λ d. begun d.script d.devices) result (then_added (begun draft.script draft.devices) (other_line draft.script.version word.now (loose_words rest.now))) }
+{
+    if word == b"early".as_slice() {
+        with_early(draft, rest)
+    } else if word == b"device".as_slice() {
+        with_device(draft, rest)
+    } else {
+        with_command(alloc, draft, word, rest)
+    }
+}
+
 /// A draft with one more line, by its first word and what stands behind it.
 #[tactic(auto, unfolding(crate::specs::Lines::line_of))]
 fn with_line(alloc: Global, draft: Draft, word: &[u8], rest: &[u8]) -> Result<Draft, LineRefused>
-    ensures { GivesBy (λ d. d.script) result (then_added draft.script (line_of word.now (words_of rest.now))) }
+    ensures { GivesBy (λ d. begun d.script d.devices) result (then_added (begun draft.script draft.devices) (line_of draft.script.version word.now (loose_words rest.now))) }
 {
     match word {
         b"fault" => {
@@ -60,7 +116,7 @@ fn with_line(alloc: Global, draft: Draft, word: &[u8], rest: &[u8]) -> Result<Dr
             draft.with_fault(fault)
         }
         b"pick" => draft.with_picks(rest),
-        _ => with_command(alloc, draft, word, rest),
+        _ => with_other_line(alloc, draft, word, rest),
     }
 }
 
@@ -72,24 +128,26 @@ fn after_words(
     word: &[u8],
     rest: &[u8],
 ) -> Result<Option<Draft>, LineRefused>
-    ensures { GivesBy (option_map (λ d. d.script)) result (after_words (option_map (λ d. d.script) before) word.now (words_of rest.now)) }
+    ensures { GivesBy (option_map (λ d. begun d.script d.devices)) result (after_words (option_map (λ d. begun d.script d.devices) before) word.now (loose_words rest.now)) }
 {
     match before {
         Some(draft) => Ok(Some(with_line(alloc, draft, word, rest)?)),
-        None if is_version(word, rest) => Ok(Some(Draft::new(alloc))),
-        None => Err(LineRefused::Bad(Cause::Version)),
+        None => {
+            let version = version_of(word, rest).ok_or(Cause::Version)?;
+            Ok(Some(Draft::new(alloc, version)))
+        }
     }
 }
 
 /// What stands after a line.
 #[tactic(auto, unfolding(crate::specs::Grammar::after))]
 fn after(alloc: Global, before: Option<Draft>, line: &[u8]) -> Result<Option<Draft>, LineRefused>
-    ensures { GivesBy (option_map (λ d. d.script)) result (after (option_map (λ d. d.script) before) line.now) }
+    ensures { GivesBy (option_map (λ d. begun d.script d.devices)) result (after (option_map (λ d. begun d.script d.devices) before) line.now) }
 {
     if !is_printable(line) {
         return Err(LineRefused::Bad(Cause::NotAscii));
     }
-    match split_word(line) {
+    match next_loose_word(line) {
         None | Some(([b'#', ..], _)) => Ok(before),
         Some((word, rest)) => after_words(alloc, before, word, rest),
     }
@@ -113,7 +171,7 @@ fn refused(line: u32, why: LineRefused) -> ScriptRefused
 #[tactic(auto, unfolding(crate::specs::Grammar::script_of, crate::specs::Grammar::script_from))]
 pub fn read(alloc: Global, bytes: &[u8]) -> Result<Script, ScriptRefused>
     // What the text means, unless memory ran out.
-    ensures exact { Answers result (script_of bytes.now) }
+    ensures exact { AnswersScript result (script_of bytes.now) }
     // Only valid scripts are read, with numbers within their types.
     ensures valid { IfOk result (λ script. IsTrue (is_valid script)) }
     ensures fits { IfOk result (λ script. IsTrue (fits script)) }

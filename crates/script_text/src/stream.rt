@@ -3,16 +3,15 @@
 ghost use Rattle.std.specs.Prelude.{◌≡◌};
 ghost use Rattle.script_text.specs.Values.{numbered_format, format_of, side_of, stream_of, spec_of};
 
-use crate::number::small_number;
-use crate::text::split_in_two;
 use cam_types::{Format, StreamSpec};
+use text_parts::{small_number, small_number_below, split_in_two};
 
 /// A format that has no name, by its number.
 fn numbered_format(word: &[u8]) -> Option<Format>
     ensures { result ≡ numbered_format word.now }
 {
     match word {
-        [b'x', number @ ..] => match small_number(number, 1 << 32)? {
+        [b'x', number @ ..] => match small_number(number)? {
             0x20 | 0x23 => None,
             number => Some(Format::Other(number)),
         },
@@ -37,7 +36,7 @@ fn format_of(word: &[u8]) -> Option<Format>
 fn side_of(word: &[u8]) -> Option<u32>
     ensures { result ≡ side_of word.now }
 {
-    match small_number(word, 1 << 16)? {
+    match small_number_below(word, 1 << 16)? {
         0 => None,
         side => Some(side),
     }

@@ -52,9 +52,38 @@ const REFUSED: &[(&str, u32, u8)] = &[
     ("camera", 1, 32),
     ("camera 01", 1, 32),
     ("stop\ncamera 1", 1, 32),
+    ("camera 3\nstop", 1, 32),
+    ("camera 2 1", 1, 32),
+    ("camera 2\ncamera 2", 2, 33),
+    // `early` and `device`.
+    ("camera 1\nearly now", 2, 36),
+    ("camera 1\nstop\nearly", 3, 38),
+    ("camera 1\nstop\nearly now", 3, 36),
+    ("camera 1\nEarly", 2, 33),
+    ("camera 1\ndevice", 2, 33),
+    ("camera 1\ndevice 0 x", 2, 33),
+    ("camera 1\nstop\ndevice 6 3 4", 3, 33),
+    ("camera 2\ndevice", 2, 35),
+    ("camera 2\ndevice 1", 2, 35),
+    ("camera 2\ndevice 1 2", 2, 35),
+    ("camera 2\ndevice 1 2 3 4", 2, 36),
+    ("camera 2\ndevice 1 2 3 x", 2, 36),
+    ("camera 2\ndevice 0 1 1", 2, 34),
+    ("camera 2\ndevice 1 0 1", 2, 34),
+    ("camera 2\ndevice 1 1 0", 2, 34),
+    ("camera 2\ndevice 17 1 1", 2, 34),
+    ("camera 2\ndevice 1 17 1", 2, 34),
+    ("camera 2\ndevice 1 1 17", 2, 34),
+    ("camera 2\ndevice 06 3 4", 2, 34),
+    ("camera 2\ndevice 1 x", 2, 34),
+    ("camera 2\ndevice 1 2 x 4", 2, 34),
+    ("camera 2\ndevice 6 3 4\ndevice 6 3 4", 3, 37),
+    ("camera 2\ndevice 8 3 7\nearly\ndevice 8 3", 4, 35),
+    ("camera 2\nstop\ndevice 6 3 4", 3, 38),
+    ("camera 2\ndevice 6 3 4\nstop\ndevice 6 3 4", 4, 37),
+    ("camera 2\nstop\nearly", 3, 38),
     // Words.
     ("camera 1\ncamera 1", 2, 33),
-    ("camera 1\nearly", 2, 33),
     ("camera 1\ndevice 6 3 4", 2, 33),
     ("camera 1\nSTOP", 2, 33),
     ("camera 1\nfault lens", 2, 33),
@@ -128,6 +157,8 @@ const ACCEPTED: &[&str] = &[
     "camera 1\nonce 255,2147483647,9223372036854775807,2147483647@255+0+255",
     "camera 1\nonce 0,0,0,0@-\nburst\nrepeat",
     "camera 1\nawait 16383\nawait 1\nclose\nclose\ndisconnect\nstop",
+    "camera 1\nearly\npick 1\n  early  \nfault device 0\nearly",
+    "camera 2\nfault device 0\nearly\ndevice 16 1 16\npick 1",
 ];
 
 #[test]
@@ -179,7 +210,7 @@ fn keeps_limits(rt: HostRuntime) -> Result<(), Fail> {
 
 /// The one spelling of the script that a text means.
 fn respelled(rt: &HostRuntime, text: &str) -> Result<String, Fail> {
-    let script = read(rt.alloc(), text.as_bytes()).ok().ok_or("no script")?;
+    let script = read(rt.alloc(), text.as_bytes())?;
     let printed = print(rt.alloc(), &script)?;
     let printed = String::from_utf8(printed).ok().ok_or("no text")?;
     Ok(printed)
@@ -188,6 +219,15 @@ fn respelled(rt: &HostRuntime, text: &str) -> Result<String, Fail> {
 /// Texts, with the one spelling of each.
 const SPELLED: &[(&str, &str)] = &[
     ("camera 1", "camera 1\nclose\n"),
+    ("camera 2", "camera 2\ndevice 6 3 4\nclose\n"),
+    (
+        "camera 1\nfault device 3\nearly\npick 1\nearly",
+        "camera 1\nearly\nfault device 3\npick 1\nclose\n",
+    ),
+    (
+        "camera 2\npick 1\nearly\nfault device 3\ndevice 8  3 7\nflush",
+        "camera 2\ndevice 8 3 7\nearly\nfault device 3\npick 1\nflush\nclose\n",
+    ),
     (
         "camera 1\nonce preview@0\nconfigure raw16:160x120 yuv:40x30\nonce preview@3\n\
          once preview@0+0\nonce 0,100,99999,100@0\nonce preview@-\nburst\nstop\nclose\nonce preview@0",

@@ -1,33 +1,18 @@
 -- A readout that is written row by row.
-use Rattle.std.proofs.Common.{◌≡◌, ℕ, ◌+◌, ◌-◌, ◌*◌, ◌/◌, ◌%◌, ◌<◌, ◌≤◌, List, ◌++◌, length, take, drop, get_or, min, None, refl, ap, ◌∙◌, arith, inl, inr}
+use Rattle.std.proofs.Common.{◌≡◌, ℕ, ◌+◌, ◌*◌, ◌/◌, ◌%◌, ◌<◌, ◌≤◌, List, ◌++◌, length, take, drop, get_or, min, None, refl, ap, ◌∙◌, arith, inl, inr}
 use Rattle.std.proofs.lemmas.Grind.{common_steps}
-use Rattle.std.proofs.lemmas.Bool.{cases_lt, cases_eq}
+use Rattle.std.proofs.lemmas.Bool.{cases_eq}
 use Rattle.std.proofs.lemmas.Bool.Decides.{nat_tests}
 use Rattle.std.proofs.Math.Nat.{mod-mod, mod-eq_of_lt, div-eq_of_lt}
 use Rattle.cam_types.specs.Metadata.{range_fault}
 use Rattle.sensor_sim.proofs.GainLemmas.{pattern-most}
 use Rattle.std.proofs.lemmas.List.{places}
-use Rattle.std.proofs.lemmas.List.FromFn.{fill_by_all, length-map-range_with_len, get_or-map-range_with_len}
+use Rattle.std.proofs.lemmas.List.FromFn.{length-map-range_with_len, get_or-map-range_with_len}
 use Rattle.std.proofs.lemmas.Nat.{div-mul-add, mod-mul-add}
 use Rattle.cam_types.specs.declared.item.Settings.{Settings}
 use Rattle.cam_types.specs.Picture.{plane, readout, sensor_value}
 use Rattle.sensor_sim.specs.Line.{line_width, row_start}
-
--- one more row is written, and all of it has the values of f
-pub rows-more : (f : ℕ → ℕ) (xs row : List ℕ) (at width : ℕ) → at + width ≤ length xs → length row ≡ width → ((k : ℕ) → k < at → get_or xs k 0 ≡ f k) → ((x : ℕ) → x < width → get_or row x 0 ≡ f (at + x)) → (k : ℕ) → k < at + width → get_or (take at xs ++ (row ++ drop width (drop at xs))) k 0 ≡ f k
-rows-more f xs row at width fits len before here k below =
-    elim (cases_lt k at) [
-      | inl less ↦ (let e : get_or (take at xs ++ (row ++ drop width (drop at xs))) k 0 ≡ get_or xs k 0 = grind (arith, places) in e ∙ before k less)
-      | inr more ↦ (let e : get_or (take at xs ++ (row ++ drop width (drop at xs))) k 0 ≡ get_or row (k - at) 0 = grind (arith, places) in
-          let same : at + (k - at) ≡ k = omega arith in
-          e ∙ (here (k - at) (omega arith) ∙ ap f same))
-    ]
-
--- a list that has the values of a plane at each place is the plane
-pub plane-all : (value : ℕ → ℕ → ℕ) (width height n : ℕ) (xs : List ℕ) → n ≡ width * height → length xs ≡ n → ((k : ℕ) → k < n → get_or xs k 0 ≡ value (k % width) (k / width)) → xs ≡ plane value width height
-unfolding plane
-plane-all value width height n xs size len each =
-    fill_by_all (λ i. value (i % width) (i / width)) xs (width * height) 0 (len ∙ size) (λ k below. each k (omega arith))
+use Rattle.cam_types.proofs.WrittenLemmas.{rows-more, plane-all}
 
 pub readout-all : (s : Settings) (n : ℕ) (xs : List ℕ) → length xs ≡ 19200 → ((k : ℕ) → k < 19200 → get_or xs k 0 ≡ sensor_value s n (k % 160) (k / 160)) → xs ≡ readout s n
 unfolding readout

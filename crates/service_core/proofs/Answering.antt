@@ -24,10 +24,10 @@ use Rattle.trace_model.specs.Place as in_trace
 use Rattle.trace_model.specs.Reply.{reply, reply_with}
 use Rattle.cam_types.specs.Refusals.{refused, or_else, item_refusal}
 use Rattle.trace_model.specs.Stopping.{has_failed}
-use Rattle.service_core.specs.declared.step.StepName.TheVariants.{Client as ClientStep}
+use Rattle.run_model.specs.declared.step.StepName.TheVariants.{Client as ClientStep}
 use Rattle.service_core.specs.declared.tables.Place.TheVariants.{Pool}
 use Rattle.service_core.specs.First.{entry_of}
-use Rattle.service_core.specs.Ready.{or_entry}
+use Rattle.run_model.specs.Ready.{or_entry}
 use Rattle.service_core.specs.Due.{client_of, close_of, configure_reply, is_home, is_pool, is_resting, once_reply, queue_refusal_of}
 use Rattle.service_core.specs.Fit.{Facts, Fit, raw_made, raw_spec}
 use Rattle.service_core.proofs.Frames.{quiet-yes, quiet-no}
@@ -93,7 +93,7 @@ module _ (script : Script) (past : List Entry) (t : Facts) (raw : IsRaw script) 
   configures : t.configured ≡ false → t.closed ≡ false → reply script past (Configure (raw_spec ∷ [])) ≡ Configured (record { a = Some raw_made; b = None; c = None; d = None })
   configures none open' =
       let count : made_count past ≡ 0 = fit.made_count ∙ rw none refl in
-      rw (fit.closed, open', not-failed, count) refl
+      rw (fit.closed, open', not-failed, count, raw.buffers) refl
 
   idle-at-first : t.configured ≡ false → (is_idle script past && all_in_pool past) ≡ true
   idle-at-first none =

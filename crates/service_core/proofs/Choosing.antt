@@ -7,20 +7,21 @@ use Rattle.std.specs.List.{flat_map, range_with_len, position_from}
 use Rattle.std.proofs.lemmas.Bool.{cases_Bool, cases_lt, cases_eq}
 use Rattle.std.proofs.lemmas.Bool.Decides.{nat_tests}
 use Rattle.std.proofs.lemmas.Grind.{common_steps}
+use Rattle.basic_lemmas.proofs.Lists.{find-none}
 use Rattle.cam_types.specs.declared.script.Script.{Script}
 use Rattle.trace_model.specs.declared.entry.Entry.{Entry}
 use Rattle.trace_model.specs.Calls.{command_at}
 use Rattle.trace_model.specs.Configuration.{made_count}
 use Rattle.trace_model.specs.Frames.{frames, targets_of}
 use Rattle.trace_model.specs.Numbers.{next_fence}
-use Rattle.service_core.specs.declared.step.Move.{Move}
-use Rattle.service_core.specs.declared.step.StepName.{StepName}
-use Rattle.service_core.specs.declared.step.StepName.TheVariants.{Send, Release, Signal, Client, Shutter, Partial, Deliver}
+use Rattle.run_model.specs.declared.step.Move.{Move}
+use Rattle.run_model.specs.declared.step.StepName.{StepName}
+use Rattle.run_model.specs.declared.step.StepName.TheVariants.{Send, Release, Signal, Client, Shutter, Partial, Deliver}
 use Rattle.service_core.specs.Due.{client_of, first_of, is_deliverable, or_step, passed, release_step, send_of, shutter_of, signal_step, step_if}
 use Rattle.service_core.specs.First.{entry_of, first_candidates, first_chosen, first_steps, is_first_ready}
 use Rattle.service_core.specs.Fit.{Facts, Fit, below, is_client}
-use Rattle.service_core.specs.History.{trace_of}
-use Rattle.service_core.specs.Played.{for_frames, for_targets, for_numbers}
+use Rattle.run_model.specs.History.{trace_of}
+use Rattle.run_model.specs.Played.{for_frames, for_targets, for_numbers}
 use Rattle.service_core.specs.declared.tables.Place.TheVariants.{Pool}
 use Rattle.service_core.proofs.Due.{release-is, signal-is}
 use Rattle.service_core.proofs.RawLemmas.{IsRaw}
@@ -48,10 +49,6 @@ find-map p f (n ∷ ns) = elim (cases_Bool (p (f n))) [
 find-same : (p q : ℕ → Bool) → ((n : ℕ) → p n ≡ q n) → (ns : List ℕ) → find p ns ≡ find q ns
 find-same p q h [] = refl
 find-same p q h (n ∷ ns) = rw (h n, find-same p q h ns) refl
-
-find-none : (p : ℕ → Bool) → ((n : ℕ) → p n ≡ false) → (ns : List ℕ) → find p ns ≡ None
-find-none p h [] = refl
-find-none p h (n ∷ ns) = rw (h n) (find-none p h ns)
 
 numbers-append : (p : ℕ → Bool) (xs ys : List ℕ) → find p xs ≡ None → find p (xs ++ ys) ≡ find p ys
 numbers-append p [] ys h = refl
@@ -156,7 +153,7 @@ module _ (script : Script) (past : List Entry) (t : Facts) (raw : IsRaw script) 
       let l = fit.order.shutters in
       at ∙ rw fit.frames (elim (cases_lt t.ended t.shutters) [
         | inl some ↦ (let test : nat_lt t.ended t.shutters ≡ true = grind (arith, nat_tests) in rw (test, only-one (λ n. is_first_ready script past (partial_step n)) t.sent t.ended (omega arith) (rw (ready-partial t.ended, test) (grind (arith, nat_tests))) (λ i a b. rw (ready-partial i) (grind (arith, nat_tests)))) refl)
-        | inr none ↦ (let test : nat_lt t.ended t.shutters ≡ false = grind (arith, nat_tests) in rw (test, find-none (λ n. is_first_ready script past (partial_step n)) (λ n. rw (ready-partial n) (grind (arith, nat_tests))) (reverse (below t.sent))) refl)
+        | inr none ↦ (let test : nat_lt t.ended t.shutters ≡ false = grind (arith, nat_tests) in rw (test, find-none (λ n. is_first_ready script past (partial_step n)) (reverse (below t.sent)) (λ n. rw (ready-partial n) (grind (arith, nat_tests)))) refl)
       ])
     where
       partial_step : ℕ → StepName
@@ -183,7 +180,7 @@ module _ (script : Script) (past : List Entry) (t : Facts) (raw : IsRaw script) 
       let l = fit.order.shutters in
       rw (fit.frames, all-deliveries t.sent (omega arith)) (find-map (is_first_ready script past) deliver_step (reverse (below t.sent)) ∙ elim (cases_Bool (nat_lt t.returned t.shutters && passed t t.fence)) [
         | inl some ↦ (let within : t.returned < t.shutters = grind (arith, nat_tests) in rw (some, only-one (λ n. is_first_ready script past (deliver_step n)) t.sent t.returned (omega arith) (rw (ready-deliver t.returned, some) (grind (arith, nat_tests))) (λ i a b. rw (ready-deliver i) (grind (arith, nat_tests)))) refl)
-        | inr none ↦ rw (none, find-none (λ n. is_first_ready script past (deliver_step n)) (λ n. rw (ready-deliver n) (other n none)) (reverse (below t.sent))) refl
+        | inr none ↦ rw (none, find-none (λ n. is_first_ready script past (deliver_step n)) (reverse (below t.sent)) (λ n. rw (ready-deliver n) (other n none))) refl
       ])
     where
       other : (n : ℕ) → (nat_lt t.returned t.shutters && passed t t.fence) ≡ false → ((n == t.returned) && (nat_lt n t.shutters && passed t t.fence)) ≡ false

@@ -27,7 +27,8 @@ use Rattle.service_core.specs.Due.{passed}
 use Rattle.service_core.proofs.FitSteps.{frame-settings}
 use Rattle.service_core.proofs.Frames.{no-request-error, no-result-error, no-buffer-error, no-errors, sent-is, ended-is, earlier}
 use Rattle.service_core.proofs.Lists.{none-below}
-use Rattle.service_core.proofs.Plain.{goes-on}
+use Rattle.basic_lemmas.proofs.Tests.{and-true}
+use Rattle.service_core.proofs.Plain.{goes-on, no-early-fence}
 use Rattle.service_core.proofs.RawLemmas.{IsRaw}
 
 client-place : (p : Place) → is_at (as_place p) in_trace.Client ≡ is_client p
@@ -45,7 +46,7 @@ not-both false false s p e h = refl
 
 module _ (script : Script) (past : List Entry) (t : Facts) (fit : Fit script past t) where
   pub release-is : (b : BufferId) → release_due past b.0 ≡ (if is_client (slice_index_or t.places b.0 Pool) then Some (Release b (record { 0 = t.released })) else None)
-  release-is b = rw (fit.places b.0, client-place (slice_index_or t.places b.0 Pool), fit.next_fence) refl
+  release-is b = rw (fit.places b.0, client-place (slice_index_or t.places b.0 Pool), no-early-fence b.0 past fit.plain, fit.next_fence, and-true (is_client (slice_index_or t.places b.0 Pool))) refl
 
   pub signal-is : (f : FenceNo) → signal_due past f.0 ≡ (if nat_lt f.0 t.released && not (slice_index_or t.signalled f.0 false) then Some (Signal f) else None)
   signal-is f = rw (fit.next_fence, fit.signalled f.0) refl

@@ -1,22 +1,18 @@
 -- When a run is complete, and which steps its moves are.
-use Rattle.std.proofs.Common.{◌≡◌, ℕ, zero, suc, ◌==◌, ◌<◌, Bool, true, false, ◌&&◌, not, List, [], ◌∷◌, refl, sym, ◌∙◌, arith, inl, inr, nat_lt, length, IsTrue}
+use Rattle.std.proofs.Common.{◌≡◌, ℕ, zero, suc, ◌==◌, ◌<◌, Bool, true, false, ◌&&◌, not, List, refl, sym, ◌∙◌, arith, inl, inr, nat_lt, length, IsTrue}
 use Rattle.std.specs.List.{list_all}
-use Rattle.std.proofs.lemmas.Bool.{cases_eq}
+use Rattle.std.proofs.lemmas.Bool.{cases_eq, and_parts, and_from}
 use Rattle.cam_types.specs.declared.script.Script.{Script}
 use Rattle.trace_model.specs.declared.entry.Entry.{Entry}
 use Rattle.trace_model.specs.Complete.{IsComplete, is_all_called, is_all_signalled}
 use Rattle.trace_model.specs.Fence.{is_signalled}
 use Rattle.trace_model.specs.Legal.{IsLegal}
+use Rattle.basic_lemmas.proofs.Lists.{all-agree}
 use Rattle.service_core.specs.Fit.{Facts, Fit, below}
 use Rattle.service_core.specs.Due.{is_home, is_resting, is_pool, has_signal, has_all_signals}
 use Rattle.service_core.proofs.Answering.{quiet-is, pool-is}
-use Rattle.service_core.proofs.Lists.{and_parts, and_from}
 use Rattle.service_core.proofs.Queue.{queue-is-empty}
 use Rattle.service_core.proofs.RawLemmas.{IsRaw}
-
-all-same : {T : Type 0} (p q : T → Bool) → ((x : T) → p x ≡ q x) → (xs : List T) → list_all p xs ≡ list_all q xs
-all-same p q h [] = refl
-all-same p q h (x ∷ xs) = rw (h x, all-same p q h xs) refl
 
 pub not-all-below : (p : ℕ → Bool) (n m : ℕ) → m < n → p m ≡ false → list_all p (below n) ≡ false
 not-all-below p zero m l h = absurd (omega arith)
@@ -31,7 +27,7 @@ is_finished script t = (t.calls == length script.commands) && (is_home t && has_
 
 module _ (script : Script) (past : List Entry) (t : Facts) (raw : IsRaw script) (fit : Fit script past t) where
   signals-are : is_all_signalled past ≡ has_all_signals t
-  signals-are = rw fit.released (all-same (λ f. is_signalled f past) (has_signal t) (λ f. fit.signalled f) (below t.released))
+  signals-are = rw fit.released (all-agree (λ f. is_signalled f past) (has_signal t) (below t.released) (λ f. fit.signalled f))
 
   called-is : is_all_called script past ≡ (t.calls == length script.commands)
   called-is = rw fit.calls refl

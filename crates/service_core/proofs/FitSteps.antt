@@ -42,6 +42,9 @@ settings-kept items item n (suc r) long l = ap (λ (x : Item). Some x.settings) 
 
 -- ---- the client
 
+abbrev request : ℕ → RequestId
+request n = record { 0 = n }
+
 module _ (script : Script) (past : List Entry) (t : Facts) where
   pub fit-begin : (word : Word) → is_raw_call word ≡ true → Fit script past t → Fit script (Begin word ∷ past) (noted script (Begin word) t)
   fit-begin word raw fit = record {
@@ -195,7 +198,7 @@ module _ (script : Script) (past : List Entry) (t : Facts) where
         alone = λ q l. by-case (λ x. asked x ≡ 0 ∷ []) fit.alone alone q l long;
         in_range = λ q l. by-case (λ x. range_fault x.settings ≡ None) fit.in_range range q l long;
         unset = λ q l. (let old = fit.unset q (omega arith) in let set = index-set t.items t.requests q item no_item long in grind (arith, nat_tests));
-        submitted = rw (fit.submitted, command, number, add-one t.requests, requests-kept t.items item t.requests t.requests long (omega arith), item-new t.items item t.requests long) refl;
+        submitted = rw (fit.submitted, command, ap request number, add-one t.requests, requests-kept t.items item t.requests t.requests long (omega arith), item-new t.items item t.requests long) refl;
         streams = fit.streams;
         made = fit.made;
         made_count = grind (arith, common_steps, fit.made_count);

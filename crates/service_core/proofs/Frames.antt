@@ -7,10 +7,10 @@ use Rattle.cam_types.specs.declared.script.Script.{Script}
 use Rattle.trace_model.specs.declared.entry.Entry.{Entry}
 use Rattle.trace_model.specs.Entry.{sends, is_error_of, is_error_request, is_error_result, is_error_buffer}
 use Rattle.trace_model.specs.Frames.{is_sent, has_error, has_error_request, each_earlier}
-use Rattle.trace_model.specs.Open.{is_metadata_ended, has_error_result, has_error_buffer, all_returned, is_open, is_quiet, open_count}
+use Rattle.trace_model.specs.Open.{is_metadata_ended, has_error_result, has_error_buffer, all_settled, is_open, is_quiet, open_count}
 use Rattle.service_core.specs.Fit.{Facts, Fit}
 use Rattle.service_core.proofs.Lists.{all-below, filter-none-below}
-use Rattle.service_core.proofs.Plain.{none-plain, no-error, no-error-request, no-error-result, no-error-buffer}
+use Rattle.service_core.proofs.Plain.{none-plain, no-error, no-error-request, no-error-result, no-error-buffer, settled-returned}
 
 any-found : {T : Type 0} (p : T → Bool) (xs : List T) → list_any p xs ≡ is_some (find p xs)
 any-found p [] = refl
@@ -41,10 +41,10 @@ module _ (script : Script) (past : List Entry) (t : Facts) (fit : Fit script pas
   pub ended-is : (n : ℕ) → is_metadata_ended n past ≡ nat_lt n t.ended
   ended-is n = rw (fit.third n, no-result-error n, no-request-error n) (grind arith)
 
-  pub returned-is : (n : ℕ) → n < t.sent → all_returned n past ≡ nat_lt n t.returned
+  pub returned-is : (n : ℕ) → n < t.sent → all_settled n past ≡ nat_lt n t.returned
   returned-is n l =
       let s = fit.sends n l in
-      rw (s.send, s.stream, fit.returned n) (grind arith)
+      rw (s.send, s.stream, settled-returned n 0 past fit.plain, fit.returned n) (grind arith)
 
   pub open-is : (n : ℕ) → n < t.sent → is_open n past ≡ not (nat_lt n t.ended && nat_lt n t.returned)
   open-is n l =

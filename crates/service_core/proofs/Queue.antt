@@ -14,7 +14,7 @@ use Rattle.service_core.proofs.RawLemmas.{IsRaw}
 
 -- request r, as it waits
 abbrev pub waiting : Facts → ℕ → WaitingItem
-waiting t r = record { request = r; index = 0; item = item_for t.items r }
+waiting t r = record { request = record { 0 = r }; index = 0; item = item_for t.items r }
 
 -- the first requests, without those that were taken
 abbrev pub kept : Facts → List Entry → ℕ → List WaitingItem
@@ -67,7 +67,7 @@ module _ (script : Script) (past : List Entry) (t : Facts) (raw : IsRaw script) 
   pub queue-length : length (queued script past) ≡ t.requests - t.sent
   queue-length = rw kept-is (kept-length script past t t.requests fit)
 
-  pub next-is : t.sent < t.requests → next script past ≡ Some (record { request = t.sent; index = 0; item = item_for t.items t.sent; repeats = false })
+  pub next-is : t.sent < t.requests → next script past ≡ Some (record { request = record { 0 = t.sent }; index = 0; item = item_for t.items t.sent; repeating = false })
   next-is l = rw (queue-first l) refl
 
   pub next-none : t.requests ≤ t.sent → next script past ≡ None

@@ -1,7 +1,7 @@
 -- What holds of the commands of a raw script, and of an item that isn't refused.
-use Rattle.std.proofs.Common.{◌≡◌, ℕ, zero, suc, ◌==◌, ◌+◌, ◌≤◌, true, false, ◌&&◌, not, List, [], ◌∷◌, Option, Some, None, refl, sym, ap, ◌∙◌, arith, inl, inr, nat_le, nat_lt, find, length, count_by, slice_get}
+use Rattle.std.proofs.Common.{◌≡◌, ℕ, zero, suc, ◌==◌, ◌≤◌, true, false, ◌&&◌, not, List, [], ◌∷◌, Option, Some, None, refl, sym, ap, ◌∙◌, arith, inl, inr, nat_le, nat_lt, find, length, count_by, slice_get}
 use Rattle.std.specs.List.{list_all}
-use Rattle.std.proofs.lemmas.Bool.{cases_Bool, false≢true}
+use Rattle.std.proofs.lemmas.Bool.{cases_Bool, false≢true, and_parts}
 use Rattle.std.proofs.lemmas.Bool.Decides.{nat_tests}
 use Rattle.cam_types.specs.Metadata.{range_fault}
 use Rattle.cam_types.specs.declared.item.Item.{Item}
@@ -14,15 +14,18 @@ use Rattle.cam_types.specs.declared.stream.Format.TheVariants.{Raw16, Yuv, Other
 use Rattle.cam_types.specs.declared.stream.StreamSpec.{StreamSpec}
 use Rattle.trace_model.specs.Calls.{command_at}
 use Rattle.trace_model.specs.Reply.{is_configure_command}
+use Rattle.cam_types.specs.Profile.{profile_fits}
 use Rattle.cam_types.specs.Refusals.{or_else, with_value, first_repeated, targets_refusal, item_refusal, is_raw}
 use Rattle.trace_bounds.proofs.NextFits.{at-all}
 use Rattle.service_core.specs.Fit.{asked, configures_at, configures_if_any, raw_spec}
 use Rattle.service_core.specs.RawScripts.{is_raw_spec, is_raw_alone, is_raw_command, are_raw_commands, is_raw_script}
-use Rattle.service_core.proofs.Lists.{and_parts}
-use Rattle.basic_lemmas.proofs.Counts.{count-cons}
+use Rattle.basic_lemmas.proofs.Counts.{count-one, count-over}
 
 -- what it means that a script is a raw one
 pub record IsRaw (script : Script) : Type 0 where
+  -- how many frames may be open, and how many buffers of a RAW16 stream may be at the device
+  pub depth : script.profile.depth ≡ 6
+  pub buffers : script.profile.raw ≡ 3
   pub faults : script.faults ≡ []
   pub picks : script.picks ≡ []
   pub known : (i : ℕ) (c : Command) → command_at script i ≡ Some c → is_raw_command c ≡ true
@@ -58,18 +61,11 @@ specs-are (spec ∷ (other ∷ specs)) h = absurd (false≢true h)
 
 -- ---- the one configure
 
--- a command that doesn't configure leaves the count, and one that does raises it
-count-without : (c : Command) (cs : List Command) → is_configure_command c ≡ false → count_by is_configure_command (c ∷ cs) ≡ count_by is_configure_command cs
-count-without c cs h = count-cons is_configure_command c cs ∙ rw h (omega arith)
-
-count-with : (c : Command) (cs : List Command) → is_configure_command c ≡ true → count_by is_configure_command (c ∷ cs) ≡ 1 + count_by is_configure_command cs
-count-with c cs h = count-cons is_configure_command c cs ∙ rw h refl
-
 none-there : (cs : List Command) (i : ℕ) → count_by is_configure_command cs ≡ 0 → configures_if_any (slice_get cs i) ≡ false
 none-there [] i h = refl
 none-there (c ∷ cs) i h = elim (cases_Bool (is_configure_command c)) [
-  | inl y ↦ absurd (let e = count-with c cs y in omega (arith, e, h))
-  | inr n ↦ at i n (none-there cs) (let e = count-without c cs n in omega (arith, e, h))
+  | inl y ↦ absurd (let e = count-one is_configure_command c cs y in omega (arith, e, h))
+  | inr n ↦ at i n (none-there cs) (let e = count-over is_configure_command c cs n in omega (arith, e, h))
 ]
   where
     at : (i : ℕ) → is_configure_command c ≡ false → ((j : ℕ) → count_by is_configure_command cs ≡ 0 → configures_if_any (slice_get cs j) ≡ false) → count_by is_configure_command cs ≡ 0 → configures_if_any (slice_get (c ∷ cs) i) ≡ false
@@ -78,12 +74,12 @@ none-there (c ∷ cs) i h = elim (cases_Bool (is_configure_command c)) [
 
 fewer : (c : Command) (cs : List Command) → count_by is_configure_command (c ∷ cs) ≤ 1 → count_by is_configure_command cs ≤ 1
 fewer c cs few = elim (cases_Bool (is_configure_command c)) [
-  | inl y ↦ (let e = count-with c cs y in omega (arith, e, few))
-  | inr n ↦ (let e = count-without c cs n in omega (arith, e, few))
+  | inl y ↦ (let e = count-one is_configure_command c cs y in omega (arith, e, few))
+  | inr n ↦ (let e = count-over is_configure_command c cs n in omega (arith, e, few))
 ]
 
 none-behind : (c : Command) (cs : List Command) → count_by is_configure_command (c ∷ cs) ≤ 1 → is_configure_command c ≡ true → count_by is_configure_command cs ≡ 0
-none-behind c cs few y = let e = count-with c cs y in omega (arith, e, few)
+none-behind c cs few y = let e = count-one is_configure_command c cs y in omega (arith, e, few)
 
 only-place : (cs : List Command) (i j : ℕ) → count_by is_configure_command cs ≤ 1 → configures_if_any (slice_get cs i) ≡ true → configures_if_any (slice_get cs j) ≡ true → i ≡ j
 only-place [] i j few a b = absurd (false≢true a)
@@ -94,17 +90,27 @@ only-place (c ∷ cs) (suc i) (suc j) few a b = ap suc (only-place cs i j (fewer
 
 pub raw : (script : Script) → is_raw_script script ≡ true → IsRaw script
 raw script h =
-    let parts = and_parts (length script.faults == 0) ((length script.picks == 0) && are_raw_commands script.commands) h in
+    let profile = script.profile in
+    let form = and_parts ((script.version == 1) && (profile_fits 1 profile && not script.early)) ((length script.faults == 0) && ((length script.picks == 0) && are_raw_commands script.commands)) h in
+    let head = and_parts (script.version == 1) (profile_fits 1 profile && not script.early) form.0 in
+    let device = and_parts (profile_fits 1 profile) (not script.early) head.1 in
+    let numbers = and_parts (profile.depth == 6) ((profile.raw == 3) && (profile.yuv == 4)) device.0 in
+    let parts = and_parts (length script.faults == 0) ((length script.picks == 0) && are_raw_commands script.commands) form.1 in
     let parts' = and_parts (length script.picks == 0) (are_raw_commands script.commands) parts.1 in
     let commands = and_parts (list_all is_raw_command script.commands) (nat_le (count_by is_configure_command script.commands) 1) parts'.1 in
     let few : count_by is_configure_command script.commands ≤ 1 = at-most-one (count_by is_configure_command script.commands) commands.1 in
     record {
+      depth = same profile.depth 6 numbers.0;
+      buffers = same profile.raw 3 (and_parts (profile.raw == 3) (profile.yuv == 4) numbers.1).0;
       faults = empty script.faults parts.0;
       picks = empty script.picks parts'.0;
       known = λ i c at. at-all is_raw_command script.commands i c commands.0 at;
       one = λ i j a b. only-place script.commands i j few a b;
     }
   where
+    same : (n m : ℕ) → (n == m) ≡ true → n ≡ m
+    same n m h = grind (arith, nat_tests)
+
     at-most-one : (n : ℕ) → nat_le n 1 ≡ true → n ≤ 1
     at-most-one n h = grind (arith, nat_tests)
 

@@ -2,7 +2,7 @@
 -- their ranges.
 use Rattle.std.proofs.Common.{◌≡◌, ℕ, zero, suc, ◌==◌, ◌+◌, ◌-◌, ◌⊎◌, Bool, true, false, not, List, [], ◌∷◌, Option, Some, None, refl, ap, ◌∙◌, arith, inl, inr, find, take, nat_lt, if◌then◌else◌}
 use Rattle.std.specs.List.{list_any}
-use Rattle.std.proofs.lemmas.Bool.{cases_Bool, false≢true}
+use Rattle.std.proofs.lemmas.Bool.{cases_Bool, false≢true, and_parts}
 use Rattle.std.proofs.lemmas.Bool.Decides.{nat_tests}
 use Rattle.cam_types.specs.Metadata.{exposure_tag, is_exposure, is_level, is_pattern, is_sensitivity, level_tag, pattern_tag, range_fault, sensitivity_tag}
 use Rattle.cam_types.specs.declared.item.Item.{Item}
@@ -17,7 +17,6 @@ use Rattle.trace_bounds.proofs.Printed.{found-all}
 use Rattle.trace_bounds.proofs.RefusedFits.{fits_if_any, refusal_fits}
 use Rattle.service_core.specs.Due.{item_reply, once_reply, queue_refusal_of}
 use Rattle.service_core.specs.Fit.{Facts, asked}
-use Rattle.service_core.proofs.Lists.{and_parts}
 use Rattle.service_core.proofs.RawLemmas.{not-refused}
 
 -- ---- the numbers fit

@@ -18,8 +18,8 @@ use Rattle.trace_model.specs.Send.{are_last, is_same_bool, mark_of, targets_in_o
 use Rattle.service_core.specs.declared.tables.Place.{Place}
 use Rattle.service_core.specs.declared.tables.Place.TheVariants.{Pool, Device, Client}
 use Rattle.service_core.specs.First.{entry_of}
-use Rattle.service_core.specs.Ready.{where_entry}
-use Rattle.service_core.specs.declared.step.StepName.TheVariants.{Send as SendStep}
+use Rattle.run_model.specs.Ready.{where_entry}
+use Rattle.run_model.specs.declared.step.StepName.TheVariants.{Send as SendStep}
 use Rattle.service_core.specs.Fit.{Facts, Fit, as_place, item_for, settings_for, one_target, settings_before}
 use Rattle.service_core.proofs.Due.{stands}
 use Rattle.service_core.proofs.Frames.{quiet-yes, quiet-no, none-open}
@@ -58,9 +58,9 @@ module _ (script : Script) (past : List Entry) (t : Facts) (raw : IsRaw script) 
   streams-of : t.sent < t.requests → targets_in_order (item_for t.items t.sent) ≡ 0 ∷ []
   streams-of l = rw (fit.alone t.sent l) refl
 
-  goes : t.ended ≡ t.sent → t.returned ≡ t.sent → t.sent < t.requests → may_go script past (record { request = t.sent; index = 0; item = item_for t.items t.sent; repeats = false }) ≡ true
+  goes : t.ended ≡ t.sent → t.returned ≡ t.sent → t.sent < t.requests → may_go script past (record { request = record { 0 = t.sent }; index = 0; item = item_for t.items t.sent; repeating = false }) ≡ true
   goes e r l =
-      rw (goes-on past fit.plain, streams-of l, none-open script past t fit e r, none-away r (buffers_of past 0), fit.streams, stands script past t raw fit (omega (arith, l))) refl
+      rw (goes-on past fit.plain, streams-of l, none-open script past t fit e r, none-away r (buffers_of past 0), fit.streams, stands script past t raw fit (omega (arith, l)), raw.depth, raw.buffers) refl
 
   pub send-yes : t.ended ≡ t.sent → t.returned ≡ t.sent → t.sent < t.requests → entry_of script past SendStep ≡ sent_with t (position is_pool t.places)
   send-yes e r l =
@@ -68,7 +68,7 @@ module _ (script : Script) (past : List Entry) (t : Facts) (raw : IsRaw script) 
       let least : find (λ b. is_at (place b past) in_trace.Pool) (range_with_len 0 5) ≡ position is_pool t.places = ap (λ (n : ℕ). find (λ b. is_at (place b past) in_trace.Pool) (range_with_len 0 n)) (sym fit.order.places) ∙ (find-range is_pool (λ b. is_at (place b past) in_trace.Pool) t.places Pool (λ i _. (rw (fit.places i) (pool-place (slice_index_or t.places i Pool))))) in
       rw (quiet-yes script past t fit e r, next-is script past t raw fit l, goes e r l, streams-of l, buffers-are some, least) (with-least (position is_pool t.places))
     where
-      with-least : (o : Option ℕ) → send_with script past (record { request = t.sent; index = 0; item = item_for t.items t.sent; repeats = false }) (with_target (target_with past 0 o) (Some [])) ≡ sent_with t o
+      with-least : (o : Option ℕ) → send_with script past (record { request = record { 0 = t.sent }; index = 0; item = item_for t.items t.sent; repeating = false }) (with_target (target_with past 0 o) (Some [])) ≡ sent_with t o
       with-least None = refl
       with-least (Some b) = rw (fit.fences b, fit.numbers, fit.settings) refl
 

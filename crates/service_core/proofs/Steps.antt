@@ -1,6 +1,6 @@
 -- An entry that a step adds is allowed, and leaves the tables in order.
-use Rattle.std.proofs.Common.{◌≡◌, ℕ, ◌==◌, ◌+◌, ◌<◌, ◌≤◌, Bool, true, false, ◌&&◌, ◌||◌, not, List, [], ◌∷◌, Option, Some, None, refl, sym, ap, ◌∙◌, arith, inl, inr, nat_lt, length, position, slice_index_or, is_some, if◌then◌else◌}
-use Rattle.std.proofs.lemmas.Bool.{cases_Bool, cases_lt, cases_eq, false≢true}
+use Rattle.std.proofs.Common.{◌≡◌, ℕ, ◌==◌, ◌+◌, ◌<◌, ◌≤◌, Bool, true, false, ◌&&◌, ◌||◌, not, List, [], ◌∷◌, Option, Some, None, refl, sym, ap, ◌∙◌, arith, inl, inr, nat_lt, length, position, slice_index_or, is_some}
+use Rattle.std.proofs.lemmas.Bool.{cases_Bool, cases_lt, cases_eq, false≢true, and_parts}
 use Rattle.std.proofs.lemmas.Bool.Decides.{nat_tests}
 use Rattle.std.proofs.lemmas.List.Quantifiers.{position-Some}
 use Rattle.cam_types.specs.declared.number.BufferId.{BufferId}
@@ -22,7 +22,7 @@ use Rattle.trace_model.specs.Reply.{reply}
 use Rattle.cam_types.specs.Refusals.{refused}
 use Rattle.std.specs.List.{list_all}
 use Rattle.cam_types.specs.declared.script.Word.TheVariants.{Once as WordOnce}
-use Rattle.service_core.proofs.Printing.{call-prints, fence-fits, filled-prints, part-fits, release-prints, send-prints, shutter-prints, small-number}
+use Rattle.service_core.proofs.Printing.{call-prints, filled-prints, part-fits, release-prints, send-prints, shutter-prints, small-number}
 use Rattle.trace_model.specs.Send.{are_last}
 use Rattle.cam_types.specs.Metadata.{part_at}
 use Rattle.cam_types.specs.declared.item.Item.{Item}
@@ -33,28 +33,26 @@ use Rattle.cam_types.specs.declared.reply.Reply.TheVariants.{Ok, Submitted, Conf
 use Rattle.cam_types.specs.declared.script.Command.{Command}
 use Rattle.cam_types.specs.declared.script.Command.TheVariants.{Configure, Once, Close}
 use Rattle.cam_types.specs.declared.script.Word.TheVariants.{Configure as WordConfigure, Close as WordClose}
-use Rattle.service_core.specs.declared.step.StepName.{StepName}
-use Rattle.service_core.specs.declared.step.StepName.TheVariants.{Send, Release, Signal, Client, Shutter, Partial, Deliver}
+use Rattle.run_model.specs.declared.step.StepName.{StepName}
+use Rattle.run_model.specs.declared.step.StepName.TheVariants.{Send, Release, Signal, Client, Shutter, Partial, Deliver}
 use Rattle.service_core.specs.declared.tables.Place.{Place}
 use Rattle.service_core.specs.declared.tables.Place.TheVariants.{Pool, Device, Client as AtClient}
 use Rattle.service_core.specs.First.{entry_of}
-use Rattle.service_core.specs.Ready.{or_entry}
+use Rattle.run_model.specs.Ready.{or_entry}
 use Rattle.service_core.specs.Fit.{Facts, Fit, IsSmall, is_client, settings_for, noted, raw_made, raw_spec, settings_before}
 use Rattle.service_core.specs.Due.{client_of, close_reply, configure_reply, is_home, is_pool, once_reply, passed}
 use Rattle.service_core.proofs.Answering.{client-is, is-first}
 use Rattle.service_core.proofs.Refusing.{IsRefused, once-kind}
 use Rattle.trace_bounds.specs.Typed.{command_typed}
 use Rattle.trace_bounds.proofs.NextFits.{at-all}
+use Rattle.trace_bounds.proofs.Printed.{fence-fits}
 use Rattle.service_core.proofs.Due.{release-is, signal-is, shutter-yes, shutter-no, partial-yes, partial-no, filled-yes, filled-no}
 use Rattle.service_core.proofs.FitSteps.{fit-begin, fit-configure, fit-once, fit-close, fit-refused, fit-send, fit-shutter, fit-part, fit-third, fit-filled, fit-release, fit-signal}
-use Rattle.service_core.proofs.Lists.{and_parts, index-within}
+use Rattle.service_core.proofs.Lists.{index-within}
 use Rattle.service_core.proofs.RawLemmas.{IsRaw, short-exposure, specs-are}
 use Rattle.service_core.proofs.Sending.{send-yes, send-busy, send-none, send-allowed}
 use Rattle.basic_lemmas.proofs.Counts.{place-within}
-
-if-some : (b : Bool) (x e : Entry) → (if b then Some x else None) ≡ Some e → (b ≡ true) × (x ≡ e)
-if-some true x e h = (refl, cc)
-if-some false x e h = absurd (cc)
+use Rattle.basic_lemmas.proofs.Tests.{given-where}
 
 same-entry : {x e : Entry} → Some x ≡ Some e → x ≡ e
 same-entry h = cc
@@ -111,7 +109,7 @@ module _ (script : Script) (past : List Entry) (t : Facts) (raw : IsRaw script) 
 
   step-release : (b : BufferId) (e : Entry) → entry_of script past (Release b) ≡ Some e → Goes e
   step-release b e h =
-      let due = if-some (is_client (slice_index_or t.places b.0 Pool)) _ e (sym (release-is script past t fit b) ∙ h) in
+      let due = given-where (is_client (slice_index_or t.places b.0 Pool)) _ e (sym (release-is script past t fit b) ∙ h) in
       let there = client-only (slice_index_or t.places b.0 Pool) due.0 in
       let within : b.0 < 5 = elim (cases_lt b.0 5) [
         | inl l ↦ l
@@ -121,7 +119,7 @@ module _ (script : Script) (past : List Entry) (t : Facts) (raw : IsRaw script) 
 
   step-signal : (f : FenceNo) (e : Entry) → entry_of script past (Signal f) ≡ Some e → Goes e
   step-signal f e h =
-      let due = if-some (nat_lt f.0 t.released && not (slice_index_or t.signalled f.0 false)) _ e (sym (signal-is script past t fit f) ∙ h) in
+      let due = given-where (nat_lt f.0 t.released && not (slice_index_or t.signalled f.0 false)) _ e (sym (signal-is script past t fit f) ∙ h) in
       let l : f.0 < t.released = (let p = and_parts (nat_lt f.0 t.released) (not (slice_index_or t.signalled f.0 false)) due.0 in grind (arith, nat_tests)) in
       rw (← due.1) (h ∙ ap Some (sym due.1), fit-signal script past t f l fit, small-number f.0 (let few = small.released in omega arith))
 
@@ -181,11 +179,11 @@ module _ (script : Script) (past : List Entry) (t : Facts) (raw : IsRaw script) 
 
   begin-shape : (o : Option Command) (e : Entry) → begin_of past o ≡ Some e → (word : Word) × (e ≡ trace.Begin word)
   begin-shape None e h = absurd (cc)
-  begin-shape (Some c) e h = (word_of c, sym (if-some (is_waiting_command c && not (is_some (begun past))) _ e h).1)
+  begin-shape (Some c) e h = (word_of c, sym (given-where (is_waiting_command c && not (is_some (begun past))) _ e h).1)
 
   call-shape : (o : Option Command) (e : Entry) → call_of script past o ≡ Some e → (i : ℕ) × (word : Word) × (r : Reply) × (e ≡ trace.Call i word r)
   call-shape None e h = absurd (cc)
-  call-shape (Some c) e h = (call_count past, word_of c, reply script past c, sym (if-some (may_answer script past c) _ e h).1)
+  call-shape (Some c) e h = (call_count past, word_of c, reply script past c, sym (given-where (may_answer script past c) _ e h).1)
 
   client-allowed : (x : Option Entry) (e : Entry) → begin_due script past ≡ x → or_entry x (call_due script past) ≡ Some e → IsAllowed script past e
   client-allowed (Some d) e b h =
@@ -249,7 +247,7 @@ module _ (script : Script) (past : List Entry) (t : Facts) (raw : IsRaw script) 
       at (Some (Once item)) c b eb h = let is = same-entry h in rw (← is) (once-follows item c)
       at (Some Close) c None eb h = let is = same-entry h in rw (← is) (fit-begin script past t WordClose refl fit, refl)
       at (Some Close) c (Some word) eb h =
-          let is = (if-some (t.closed || is_home t) (trace.Call t.calls WordClose (close_reply t)) e h).1 in
+          let is = (given-where (t.closed || is_home t) (trace.Call t.calls WordClose (close_reply t)) e h).1 in
           rw (← is) (close-follows t.closed refl c)
       at (Some other) c b eb h = absurd (false≢true (raw.known t.calls other c))
 

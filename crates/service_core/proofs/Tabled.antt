@@ -1,6 +1,6 @@
 -- What the tables say is due is what the definitions say.
 use Rattle.std.proofs.Common.{◌≡◌, ℕ, ◌==◌, ◌+◌, ◌<◌, true, false, ◌&&◌, List, Some, None, refl, ap, ◌∙◌, arith, inl, inr, nat_lt}
-use Rattle.std.proofs.lemmas.Bool.{cases_Bool, cases_lt, cases_eq}
+use Rattle.std.proofs.lemmas.Bool.{cases_Bool, cases_lt, cases_eq, and_parts}
 use Rattle.std.proofs.lemmas.Bool.Decides.{nat_tests}
 use Rattle.cam_types.specs.declared.number.FrameNo.{FrameNo}
 use Rattle.cam_types.specs.declared.number.StreamIx.{StreamIx}
@@ -9,13 +9,12 @@ use Rattle.trace_model.specs.declared.entry.Entry.{Entry}
 use Rattle.trace_model.specs.Filled.{filled_due}
 use Rattle.trace_model.specs.Partial.{partial_due}
 use Rattle.trace_model.specs.Shutter.{shutter_due}
-use Rattle.service_core.specs.declared.step.StepName.TheVariants.{Send as SendStep}
+use Rattle.run_model.specs.declared.step.StepName.TheVariants.{Send as SendStep}
 use Rattle.service_core.specs.First.{entry_of}
 use Rattle.cam_types.specs.Metadata.{range_fault}
 use Rattle.service_core.specs.Fit.{Facts, Fit, settings_for}
 use Rattle.service_core.specs.Due.{filled_of, is_deliverable, is_resting, partial_of, passed, send_of, shutter_of}
 use Rattle.service_core.proofs.Due.{shutter-yes, shutter-no, partial-yes, partial-no, filled-yes, filled-no}
-use Rattle.service_core.proofs.Lists.{and_parts}
 use Rattle.service_core.proofs.RawLemmas.{IsRaw}
 use Rattle.service_core.proofs.Sending.{send-yes, send-busy, send-none}
 

@@ -1,5 +1,6 @@
 use Rattle.std.specs.Prelude.{ℕ, ◌==◌, ◌+◌, ◌-◌, Bool, true, false, ◌&&◌, ◌||◌, not, Option, Some, None, is_some, nat_lt, option_map, position, slice_index_or, take, if◌then◌else◌}
 use Rattle.std.specs.List.{list_all}
+use Rattle.cam_types.specs.Limits.{queue_limit}
 use Rattle.cam_types.specs.Metadata.{part_at}
 use Rattle.cam_types.specs.declared.item.Item.{Item}
 use Rattle.cam_types.specs.declared.number.BufferId.{BufferId}
@@ -18,8 +19,8 @@ use Rattle.trace_model.specs.Picture.{digest}
 use Rattle.trace_model.specs.Reply.{reply_with}
 use Rattle.cam_types.specs.Refusals.{refused, or_else, where_true, item_refusal}
 use Rattle.trace_model.specs.Send.{are_last}
-use Rattle.service_core.specs.declared.step.StepName.{StepName}
-use Rattle.service_core.specs.declared.step.StepName.TheVariants.{Send as StepSend, Release as StepRelease, Signal as StepSignal, Client as StepClient, Shutter as StepShutter, Partial as StepPartial, Deliver as StepDeliver}
+use Rattle.run_model.specs.declared.step.StepName.{StepName}
+use Rattle.run_model.specs.declared.step.StepName.TheVariants.{Send as StepSend, Release as StepRelease, Signal as StepSignal, Client as StepClient, Shutter as StepShutter, Partial as StepPartial, Deliver as StepDeliver}
 use Rattle.service_core.specs.declared.tables.Place.{Place}
 use Rattle.service_core.specs.declared.tables.Place.TheVariants.{Pool}
 use Rattle.service_core.specs.Fit.{Facts, below, is_client, one_target, raw_made, raw_spec, settings_before, settings_for}
@@ -61,7 +62,7 @@ signal_of t f = if nat_lt f.0 t.released && not (slice_index_or t.signalled f.0 
 
 -- refused where too many would wait
 abbrev pub queue_refusal_of : Facts → Option Reply
-queue_refusal_of t = where_true (nat_lt 256 (t.requests - t.sent + 1)) (refused 11)
+queue_refusal_of t = where_true (nat_lt queue_limit (t.requests - t.sent + 1)) (refused 11)
 
 abbrev pub item_reply : Facts → Item → Reply
 item_reply t item = reply_with (or_else (item_refusal 1 0 item) (queue_refusal_of t)) (Submitted (record { 0 = t.requests }))

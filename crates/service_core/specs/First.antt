@@ -1,6 +1,4 @@
-use Rattle.std.specs.Prelude.{◌≡◌, ℕ, ◌+◌, ◌*◌, ◌%◌, Bool, List, [], ◌∷◌, ◌++◌, Option, Some, None, filter, length, slice_get, is_some, sum_by, ◌⊎◌}
-use Rattle.cam_types.specs.Script.{awaited_by}
-use Rattle.cam_types.specs.declared.script.Command.{Command}
+use Rattle.std.specs.Prelude.{◌≡◌, ◌%◌, Bool, List, [], ◌∷◌, ◌++◌, Option, Some, None, filter, length, slice_get, is_some, ◌⊎◌}
 use Rattle.cam_types.specs.declared.script.Script.{Script}
 use Rattle.trace_model.specs.declared.entry.Entry.{Entry}
 use Rattle.trace_model.specs.Client.{begin_due, call_due}
@@ -10,16 +8,16 @@ use Rattle.trace_model.specs.Filled.{filled_due}
 use Rattle.trace_model.specs.Numbers.{next_fence}
 use Rattle.trace_model.specs.Open.{is_quiet}
 use Rattle.trace_model.specs.Partial.{partial_due}
-use Rattle.trace_model.specs.Queue.{queued_items}
 use Rattle.trace_model.specs.Release.{release_due, signal_due}
 use Rattle.trace_model.specs.Send.{send_due}
 use Rattle.trace_model.specs.Shutter.{shutter_due}
-use Rattle.service_core.specs.declared.step.Move.{Move}
-use Rattle.service_core.specs.declared.step.StepName.{StepName}
-use Rattle.service_core.specs.declared.step.StepName.TheVariants.{Send, Release, Signal, Client, Shutter, Partial, Deliver}
-use Rattle.service_core.specs.History.{trace_of}
-use Rattle.service_core.specs.Played.{for_frames, for_targets, for_numbers, pick_at}
-use Rattle.service_core.specs.Ready.{or_entry, where_entry, adding}
+use Rattle.run_model.specs.declared.step.Move.{Move}
+use Rattle.run_model.specs.declared.step.StepName.{StepName}
+use Rattle.run_model.specs.declared.step.StepName.TheVariants.{Send, Release, Signal, Client, Shutter, Partial, Deliver}
+use Rattle.run_model.specs.Bounds.{move_bound}
+use Rattle.run_model.specs.History.{trace_of}
+use Rattle.run_model.specs.Played.{for_frames, for_targets, for_numbers, pick_at}
+use Rattle.run_model.specs.Ready.{or_entry, where_entry, adding}
 
 -- The steps of a service that has one frame at a time and no jobs: it makes the picture as it delivers it. Seven kinds of
 -- steps are there, and each adds an entry. (`Ready` has the steps of a service with jobs.)
@@ -81,18 +79,6 @@ IsFirstPlayed script (m ∷ h) =
 pub record IsFirstPlayedRun (script : Script) (h : List Move) : Type 0 where
   pub played : IsFirstPlayed script h
   pub complete : IsComplete script (trace_of h)
-
--- how many items a command puts into the queue
-abbrev pub queued_by : Command → ℕ
-queued_by command = length (queued_items (Some command))
-
--- more frames than a run sends (our own choice): 64 repeating ones for each call, what the awaits ask for, each item
-abbrev pub frame_bound : Script → ℕ
-frame_bound script = 64 * (length script.commands + 2) + (sum_by awaited_by script.commands + sum_by queued_by script.commands)
-
--- more moves than a run makes
-abbrev pub move_bound : Script → ℕ
-move_bound script = 32 * frame_bound script + (2 * (length script.commands + 1) + 1)
 
 -- the run can't go on: it isn't complete, and no step is ready or the bound is reached
 pub record IsFirstStuck (script : Script) (h : List Move) : Type 0 where

@@ -221,7 +221,7 @@ configures_at script i = configures_if_any (command_at script i)
 -- the first requests, as they were put into the queue
 abbrev pub requests_to : List Item → ℕ → List WaitingItem
 requests_to items zero = []
-requests_to items (suc r) = requests_to items r ++ record { request = r; index = 0; item = item_for items r } ∷ []
+requests_to items (suc r) = requests_to items r ++ record { request = record { 0 = r }; index = 0; item = item_for items r } ∷ []
 
 abbrev pub one_target : Sent → Four Sent
 one_target target = record { a = Some target; b = None; c = None; d = None }

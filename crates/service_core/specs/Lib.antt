@@ -1,9 +1,3 @@
-pub mod History
-pub mod Jobs
-pub mod Ready
-pub mod Run
-pub mod Rows
-pub mod Played
 pub mod RawScripts
 pub mod First
 pub mod Fit

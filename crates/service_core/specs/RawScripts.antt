@@ -4,8 +4,9 @@ use Rattle.cam_types.specs.declared.script.Command.{Command}
 use Rattle.cam_types.specs.declared.script.Command.TheVariants.{Configure, Once, Close}
 use Rattle.cam_types.specs.declared.script.Script.{Script}
 use Rattle.cam_types.specs.declared.stream.StreamSpec.{StreamSpec}
-use Rattle.trace_model.specs.Reply.{is_configure_command}
+use Rattle.cam_types.specs.Profile.{profile_fits}
 use Rattle.cam_types.specs.Refusals.{is_raw}
+use Rattle.trace_model.specs.Reply.{is_configure_command}
 
 -- The scripts that the service runs today: of RAW16 pictures of one stream. They have `configure`, `once` and `close` commands in
 -- any order and number, but at most one `configure`, which is of the one stream. The items ask for any streams with any
@@ -29,6 +30,8 @@ is_raw_command _ = false
 abbrev pub are_raw_commands : List Command → Bool
 are_raw_commands commands = list_all is_raw_command commands && nat_le (count_by is_configure_command commands) 1
 
--- the script has this form, no faults and no picks
+-- the script is of the first version, with its plain profile, and has this form, no faults, no picks and no early returns
 abbrev pub is_raw_script : Script → Bool
-is_raw_script script = (length script.faults == 0) && ((length script.picks == 0) && are_raw_commands script.commands)
+is_raw_script script =
+    ((script.version == 1) && (profile_fits 1 script.profile && not script.early))
+    && ((length script.faults == 0) && ((length script.picks == 0) && are_raw_commands script.commands))

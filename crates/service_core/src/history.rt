@@ -1,8 +1,8 @@
 ghost use Rattle.std.specs.Prelude.{◌≡◌, ◌∷◌, [], false, reverse, OnOk, OnErr, Option};
-ghost use Rattle.service_core.specs.History.{is_silent, trace_of};
+ghost use Rattle.run_model.specs.History.{is_silent, trace_of};
 
-use crate::step::StepName;
 use cam_types::NoMemory;
+use run_model::StepName;
 use std::alloc::Global;
 use std::marker::Model;
 use trace_model::Entry;
@@ -17,8 +17,8 @@ pub struct History {
 
 impl Model for History {
     ghost use Rattle.std.specs.Prelude.{◌≡◌, List, reverse};
-    ghost use Rattle.service_core.specs.declared.step.Move.{Move as AMove};
-    ghost use Rattle.service_core.specs.History.{join, trace_of};
+    ghost use Rattle.run_model.specs.declared.step.Move.{Move as AMove};
+    ghost use Rattle.run_model.specs.History.{join, trace_of};
 
     ghost Value = { List AMove };
 

@@ -11,5 +11,6 @@ mod tables;
 mod tests;
 
 pub use raw::is_raw_script;
+pub use run_model::{Kind, Move, StepName};
 pub use service::Service;
-pub use step::{Kind, Move, Step, StepName};
+pub use step::Step;

@@ -5,12 +5,15 @@ ghost use Rattle.service_core.specs.RawScripts.{are_raw_commands, is_raw_alone, 
 
 use cam_types::{Command, Format, Script, StreamSpec};
 
-/// Whether the service runs the script today: `configure`, `once` and `close` commands, at most one `configure`, of one
-/// RAW16 stream, without faults and picks.
+/// Whether the service runs the script today: of the first version, with `configure`, `once` and `close` commands, at most
+/// one `configure`, of one RAW16 stream, without faults, picks and early returns.
 pub fn is_raw_script(script: &Script) -> bool
     ensures { result ≡ is_raw_script script.now }
 {
-    script.faults.len() == 0
+    script.version == 1
+        && script.profile.fits(1)
+        && !script.early
+        && script.faults.len() == 0
         && script.picks.len() == 0
         && are_raw_commands(script.commands.as_slice())
 }

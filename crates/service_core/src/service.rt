@@ -3,19 +3,20 @@ ghost use Rattle.std.specs.List.{list_all};
 ghost use Rattle.trace_model.specs.Complete.{IsComplete};
 ghost use Rattle.trace_model.specs.Legal.{IsLegal};
 ghost use Rattle.trace_model.specs.Printable.{is_printable};
-ghost use Rattle.service_core.specs.Answers.{Answers};
+ghost use Rattle.service_core.specs.Answers.{AnswersStep};
 ghost use Rattle.service_core.specs.First.{IsFirstRun, entry_of, first_chosen, first_move_of};
-ghost use Rattle.service_core.specs.History.{trace_of};
+ghost use Rattle.run_model.specs.History.{trace_of};
 ghost use Rattle.service_core.specs.RawScripts.{is_raw_script};
 
 use crate::history::History;
-use crate::step::{Step, StepName};
+use crate::step::Step;
 use crate::tables::Tables;
 use cam_types::{
     BufferId, FenceNo, Format, FrameNo, NoMemory, SENSOR_HEIGHT, SENSOR_WIDTH, Script, StreamIx,
     StreamSpec,
 };
 use picture_digest::Canvas;
+use run_model::StepName;
 use std::alloc::{AllocError, Global};
 use std::marker::Model;
 use trace_bounds::every_script_is_typed;
@@ -44,7 +45,7 @@ impl Model for Service {
     ghost use Rattle.service_core.specs.Answers.{State};
     ghost use Rattle.service_core.specs.Fit.{Fit, facts_of};
     ghost use Rattle.service_core.specs.First.{IsFirstRun};
-    ghost use Rattle.service_core.specs.History.{trace_of};
+    ghost use Rattle.run_model.specs.History.{trace_of};
     ghost use Rattle.service_core.specs.RawScripts.{is_raw_script};
     ghost use Rattle.std.specs.List.{list_all};
     ghost use Rattle.trace_model.specs.Legal.{IsLegal};
@@ -108,7 +109,7 @@ impl Service {
     /// Makes a step whose entry is due.
     fn add(&mut self, step: StepName, entry: Entry) -> Step
         requires { entry_of self.old.script (trace_of self.old.history) step ≡ Option.Some entry }
-        ensures { Answers (first_move_of self.old.script self.old.history step) self.old result self.new }
+        ensures { AnswersStep (first_move_of self.old.script self.old.history step) self.old result self.new }
     {
         if self.history.push(step, entry).is_err() {
             return Step::NoMemory;
@@ -120,7 +121,7 @@ impl Service {
     /// Makes a step where it is ready.
     fn make(&mut self, step: StepName, due: Option<Entry>) -> Step
         requires { due ≡ entry_of self.old.script (trace_of self.old.history) step }
-        ensures { Answers (first_move_of self.old.script self.old.history step) self.old result self.new }
+        ensures { AnswersStep (first_move_of self.old.script self.old.history step) self.old result self.new }
     {
         match due {
             Some(entry) => self.add(step, entry),
@@ -138,7 +139,7 @@ impl Service {
 
     /// The client's next command begins or is answered.
     pub fn client(&mut self) -> Step
-        ensures { Answers (first_move_of self.old.script self.old.history StepName.Client) self.old result self.new }
+        ensures { AnswersStep (first_move_of self.old.script self.old.history StepName.Client) self.old result self.new }
     {
         let due = self.due_client();
         self.make(StepName::Client, due)
@@ -146,7 +147,7 @@ impl Service {
 
     /// The next item is sent to the device, while it has no frame.
     pub fn send(&mut self) -> Step
-        ensures { Answers (first_move_of self.old.script self.old.history StepName.Send) self.old result self.new }
+        ensures { AnswersStep (first_move_of self.old.script self.old.history StepName.Send) self.old result self.new }
     {
         let due = self.tables.due_send();
         self.make(StepName::Send, due)
@@ -154,7 +155,7 @@ impl Service {
 
     /// The exposure of the frame begins.
     pub fn shutter(&mut self) -> Step
-        ensures { Answers (first_move_of self.old.script self.old.history StepName.Shutter) self.old result self.new }
+        ensures { AnswersStep (first_move_of self.old.script self.old.history StepName.Shutter) self.old result self.new }
     {
         let due = self.tables.due_shutter();
         self.make(StepName::Shutter, due)
@@ -162,7 +163,7 @@ impl Service {
 
     /// The next metadata result of a frame.
     pub fn partial(&mut self, frame: FrameNo) -> Step
-        ensures { Answers (first_move_of self.old.script self.old.history (StepName.Partial frame)) self.old result self.new }
+        ensures { AnswersStep (first_move_of self.old.script self.old.history (StepName.Partial frame)) self.old result self.new }
     {
         let due = self.tables.due_partial(frame);
         self.make(StepName::Partial(frame), due)
@@ -195,7 +196,7 @@ impl Service {
 
     /// Makes the picture of a frame for a stream, and gives the buffer to the client.
     pub fn deliver(&mut self, frame: FrameNo, stream: StreamIx) -> Step
-        ensures { Answers (first_move_of self.old.script self.old.history (StepName.Deliver frame stream)) self.old result self.new }
+        ensures { AnswersStep (first_move_of self.old.script self.old.history (StepName.Deliver frame stream)) self.old result self.new }
     {
         let due = self.due_filled(frame, stream);
         self.make(StepName::Deliver(frame, stream), due)
@@ -203,7 +204,7 @@ impl Service {
 
     /// The client gives a buffer back, with a fence.
     pub fn release(&mut self, buffer: BufferId) -> Step
-        ensures { Answers (first_move_of self.old.script self.old.history (StepName.Release buffer)) self.old result self.new }
+        ensures { AnswersStep (first_move_of self.old.script self.old.history (StepName.Release buffer)) self.old result self.new }
     {
         let due = self.tables.due_release(buffer);
         self.make(StepName::Release(buffer), due)
@@ -211,7 +212,7 @@ impl Service {
 
     /// The client signals a fence.
     pub fn signal(&mut self, fence: FenceNo) -> Step
-        ensures { Answers (first_move_of self.old.script self.old.history (StepName.Signal fence)) self.old result self.new }
+        ensures { AnswersStep (first_move_of self.old.script self.old.history (StepName.Signal fence)) self.old result self.new }
     {
         let due = self.tables.due_signal(fence);
         self.make(StepName::Signal(fence), due)
@@ -229,7 +230,7 @@ impl Service {
 
     /// Makes a step by its name.
     pub fn step(&mut self, step: StepName) -> Step
-        ensures { Answers (first_move_of self.old.script self.old.history step) self.old result self.new }
+        ensures { AnswersStep (first_move_of self.old.script self.old.history step) self.old result self.new }
     {
         match step {
             StepName::Send => self.send(),
@@ -245,6 +246,8 @@ impl Service {
             StepName::SensorDone(_) => Step::NotReady,
             StepName::TakeFill(_, _) => Step::NotReady,
             StepName::FillDone(_, _) => Step::NotReady,
+            StepName::Early(_, _) => Step::NotReady,
+            StepName::Finish(_, _) => Step::NotReady,
         }
     }
 }

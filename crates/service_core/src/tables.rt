@@ -8,33 +8,23 @@ ghost use Rattle.cam_types.specs.declared.script.Script.{Script as SomeScript};
 ghost use Rattle.cam_types.specs.declared.script.Word.{Word as SomeWord};
 ghost use Rattle.cam_types.specs.declared.stream.StreamSpec.{StreamSpec as SomeSpec};
 ghost use Rattle.trace_model.specs.Calls.{command_at};
-ghost use Rattle.cam_types.specs.Refusals.{refused};
 ghost use Rattle.trace_model.specs.Send.{are_same};
 ghost use Rattle.service_core.specs.Fit.{IsSmall, facts_of, first_facts, is_client, noted, noted_target, once_item, settings_for};
 ghost use Rattle.service_core.specs.Due.{buffer_number, client_of, close_of, close_reply, configure_reply, device_first, fence_number, first_but_send, first_of, has_all_signals, is_deliverable, is_home, is_pool, is_resting, item_reply, mark_for, once_reply, partial_of, passed, queue_refusal_of, release_of, send_of, sent_with, shutter_of, signal_of};
 
-use crate::step::StepName;
 use cam_types::{
-    BufferId, Command, FenceNo, Four, FrameNo, Item, Made, NoMemory, Reply, RequestId, Script,
-    Settings, StreamIx, Targets, Word,
+    BufferId, CLOSED, Command, FIRST_SHUTTER, FRAME_TIME, FenceNo, Four, FrameNo, Item, Made,
+    NOT_CONFIGURED, NoMemory, QUEUE_FULL, QUEUE_LIMIT, Reply, RequestId, Script, Settings,
+    StreamIx, Targets, Word,
 };
+use item_checks::item_refusal;
 use partial_results::part;
+use run_model::StepName;
 use std::alloc::Global;
 use trace_model::{Entry, Sent};
-use trace_replies::item::item_refusal;
-use trace_replies::refused::{CLOSED, NOT_CONFIGURED, QUEUE_FULL};
 
 /// The buffers of the stream: three at the device, and two beside them.
 pub const BUFFERS: u32 = 5;
-
-/// The most items that may wait.
-const QUEUE_LIMIT: u32 = 256;
-
-/// The time of the first shutter, in nanoseconds.
-const FIRST_SHUTTER: u64 = 1_000_000_000;
-
-/// The least time between two shutters, in nanoseconds.
-const FRAME_TIME: u64 = 33_333_333;
 
 /// The item of no request.
 const NO_ITEM: Item = Item {
@@ -119,16 +109,6 @@ fn item_of_command(script: &Script, place: u32) -> Item
     match script.commands.get(place) {
         Some(Command::Once(item)) => *item,
         _ => NO_ITEM,
-    }
-}
-
-fn refused(code: u8) -> Reply
-    ensures { result ≡ refused code }
-{
-    Reply::Refused {
-        code,
-        first: None,
-        second: None,
     }
 }
 
@@ -332,7 +312,7 @@ impl Tables {
         ensures { result ≡ configure_reply (facts_of self.now) }
     {
         if self.closed {
-            refused(CLOSED)
+            Reply::refused(CLOSED)
         } else {
             Reply::Configured(RAW_MADE)
         }
@@ -353,7 +333,7 @@ impl Tables {
         ensures { result ≡ close_reply (facts_of self.now) }
     {
         if self.closed {
-            refused(CLOSED)
+            Reply::refused(CLOSED)
         } else {
             Reply::Ok
         }
@@ -384,11 +364,7 @@ impl Tables {
         requires { self.now.sent ≤ self.now.requests }
         ensures { result ≡ queue_refusal_of (facts_of self.now) }
     {
-        if self.requests - self.sent >= QUEUE_LIMIT {
-            Some(refused(QUEUE_FULL))
-        } else {
-            None
-        }
+        Reply::refused_where(self.requests - self.sent >= QUEUE_LIMIT, QUEUE_FULL)
     }
 
     /// The reply to a request while the stream stands.
@@ -410,8 +386,8 @@ impl Tables {
         ensures { result ≡ once_reply (facts_of self.now) item.now }
     {
         match (self.closed, self.configured) {
-            (true, _) => refused(CLOSED),
-            (false, false) => refused(NOT_CONFIGURED),
+            (true, _) => Reply::refused(CLOSED),
+            (false, false) => Reply::refused(NOT_CONFIGURED),
             (false, true) => self.reply_to_item(item),
         }
     }

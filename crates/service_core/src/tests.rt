@@ -2,17 +2,23 @@
 use super::*;
 use cam_types::{
     BufferId, Command, CommandList, Fault, FaultList, FenceNo, Format, Four, FrameNo, Item,
-    Listing, Made, NoMemory, Part, Reply, RequestId, Script, Settings, SpecList, StreamIx,
+    Listing, Made, NoMemory, Part, Profile, Reply, RequestId, Script, Settings, SpecList, StreamIx,
     StreamSpec, Targets, Word,
 };
 use std::alloc::Global;
 use std::test::Fail;
 use trace_model::{Entry, Sent};
 
-/// A command of a script, or the fault that its device has.
+/// A command of a script, or what its head or its device has.
 #[derive(Clone, Copy, Debug, PartialEq, Eq)]
 enum Line {
     Fault,
+    /// Buffers may come back early.
+    Early,
+    /// The second version of scripts.
+    Second,
+    /// The device takes only two RAW16 buffers.
+    TwoBuffers,
     /// One RAW16 stream.
     Raw,
     /// Two RAW16 streams.
@@ -33,6 +39,18 @@ const SCRIPTS: &[(&[Line], bool)] = &[
     (&[Line::Raw, Line::Once(256), Line::Close], true),
     (
         &[Line::Fault, Line::Raw, Line::Once(100), Line::Close],
+        false,
+    ),
+    (
+        &[Line::Early, Line::Raw, Line::Once(100), Line::Close],
+        false,
+    ),
+    (
+        &[Line::Second, Line::Raw, Line::Once(100), Line::Close],
+        false,
+    ),
+    (
+        &[Line::TwoBuffers, Line::Raw, Line::Once(100), Line::Close],
         false,
     ),
     (&[Line::TwoRaw, Line::Once(100), Line::Close], false),
@@ -310,7 +328,7 @@ fn raw_streams(alloc: Global, count: u32) -> Result<SpecList, NoMemory> {
 /// The command of a line, if it is one.
 fn command(alloc: Global, line: Line) -> Result<Option<Command>, NoMemory> {
     Ok(match line {
-        Line::Fault => None,
+        Line::Fault | Line::Early | Line::Second | Line::TwoBuffers => None,
         Line::Raw => Some(Command::Configure(raw_streams(alloc, 1)?)),
         Line::TwoRaw => Some(Command::Configure(raw_streams(alloc, 2)?)),
         Line::Once(level) => Some(Command::Once(item(level, 0))),
@@ -320,16 +338,27 @@ fn command(alloc: Global, line: Line) -> Result<Option<Command>, NoMemory> {
     })
 }
 
+fn has(lines: &[Line], wanted: Line) -> bool {
+    lines.iter().any(|line| *line == wanted)
+}
+
 fn script(alloc: Global, lines: &[Line]) -> Result<Script, NoMemory> {
     let mut faults: FaultList = Listing::new(alloc);
     let mut commands: CommandList = Listing::new(alloc);
     for line in lines {
         match command(alloc, *line)? {
             Some(command) => add(&mut commands, command)?,
-            None => add(&mut faults, Fault::Request(FrameNo(0)))?,
+            None if *line == Line::Fault => add(&mut faults, Fault::Request(FrameNo(0)))?,
+            None => {}
         }
     }
     Ok(Script {
+        version: if has(lines, Line::Second) { 2 } else { 1 },
+        profile: Profile {
+            raw: if has(lines, Line::TwoBuffers) { 2 } else { 3 },
+            ..Profile::PLAIN
+        },
+        early: has(lines, Line::Early),
         faults,
         picks: Listing::new(alloc),
         commands,

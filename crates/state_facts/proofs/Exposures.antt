@@ -1,12 +1,11 @@
 -- The shutter and the device's failure that are due are read from the state.
-use Rattle.std.proofs.Common.{◌≡◌, ℕ, ◌==◌, Bool, true, false, ◌&&◌, ◌||◌, not, List, [], ◌∷◌, Option, Some, None, refl, sym, ap, ◌∙◌, inl, inr, filter, find, map}
+use Rattle.std.proofs.Common.{◌≡◌, ℕ, Bool, true, false, ◌&&◌, ◌||◌, not, List, [], ◌∷◌, Option, Some, None, refl, sym, ap, ◌∙◌, inl, inr, filter, find, map}
 use Rattle.std.specs.Prelude.{is_some}
 use Rattle.std.specs.List.{list_any, list_all}
 use Rattle.std.specs.Option.{option_map}
-use Rattle.std.proofs.lemmas.Bool.{and_parts, cases_Bool, eqb-true, false≢true, or_right}
+use Rattle.std.proofs.lemmas.Bool.{and_parts, cases_Bool, false≢true, or_right}
 use Rattle.cam_types.specs.declared.script.Script.{Script}
 use Rattle.trace_model.specs.declared.entry.Entry.{Entry}
-use Rattle.trace_model.specs.declared.entry.Entry.TheVariants.{Shutter, ErrorResult}
 use Rattle.trace_model.specs.Errors.{error_device_due, may_fail_device_at}
 use Rattle.trace_model.specs.Faults.{device_fault}
 use Rattle.trace_model.specs.Frames.{each_earlier, frames, has_error, has_error_request, has_shutter, is_sent, shutter_time}
@@ -14,7 +13,6 @@ use Rattle.trace_model.specs.Legal.{IsLegal}
 use Rattle.trace_model.specs.Open.{has_error_result, has_part, is_open}
 use Rattle.trace_model.specs.Shutter.{is_next_for_sensor, may_expose, shutter_at, shutter_due}
 use Rattle.trace_model.specs.Stopping.{is_stopping}
-use Rattle.frame_laws.proofs.Metadata.{result-fails}
 use Rattle.frame_laws.proofs.Sends.{all-sent}
 use Rattle.frame_laws.proofs.Shutters.{no-request}
 use Rattle.past_facts.proofs.Exposed.{part-shutter, result-shutter}

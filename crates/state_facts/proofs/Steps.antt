@@ -1,6 +1,6 @@
 -- The whole state after an entry is what the entry makes of the state before it.
-use Rattle.std.proofs.Common.{◌≡◌, ℕ, ◌==◌, ◌+◌, Bool, true, false, List, [], ◌∷◌, Option, Some, None, refl, sym, ap, ◌∙◌, inl, inr, max}
-use Rattle.std.proofs.lemmas.Bool.{and_parts, cases_Bool, eqb-true, false≢true, or_right}
+use Rattle.std.proofs.Common.{◌≡◌, ℕ, ◌+◌, Bool, true, false, List, ◌∷◌, Option, Some, None, refl, sym, ap, ◌∙◌, inl, inr, max}
+use Rattle.std.proofs.lemmas.Bool.{cases_Bool, false≢true}
 use Rattle.cam_types.specs.declared.four.Four.{Four}
 use Rattle.cam_types.specs.declared.item.Settings.{Settings}
 use Rattle.cam_types.specs.declared.number.FrameNo.{FrameNo}
@@ -9,18 +9,16 @@ use Rattle.cam_types.specs.declared.reply.Reply.TheVariants.{Configured}
 use Rattle.cam_types.specs.Limits.{frame_time}
 use Rattle.cam_types.specs.declared.script.Script.{Script}
 use Rattle.trace_model.specs.declared.entry.Entry.{Entry}
-use Rattle.trace_model.specs.declared.entry.Entry.TheVariants.{Call, Send, Shutter, Partial, ErrorResult}
+use Rattle.trace_model.specs.declared.entry.Entry.TheVariants.{Call, Send, Shutter}
 use Rattle.trace_model.specs.declared.entry.Sent.{Sent}
 use Rattle.trace_model.specs.Calls.{is_repeating, item_at}
-use Rattle.trace_model.specs.Entry.{is_error_of, is_error_result, is_part}
 use Rattle.trace_model.specs.Frames.{has_error, has_shutter, is_sent, settings_in}
 use Rattle.trace_model.specs.Legal.{IsLegal}
-use Rattle.trace_model.specs.Open.{has_error_result, has_part, is_open}
+use Rattle.trace_model.specs.Open.{has_part, is_open}
 use Rattle.trace_model.specs.Queue.{next}
 use Rattle.cam_types.specs.declared.request.Queued.{Queued}
 use Rattle.trace_model.specs.Send.{last_settings, may_send}
 use Rattle.trace_model.specs.Shutter.{next_time}
-use Rattle.frame_laws.proofs.Parts.{part-is}
 use Rattle.frame_laws.proofs.Shutters.{exposed, no-request}
 use Rattle.past_facts.proofs.Exposed.{part-shutter, no-result}
 use Rattle.queue_facts.specs.Turns.{Turns, next_of, turns}
@@ -37,7 +35,6 @@ use Rattle.row_facts.proofs.Readings.{finishes_is, found_is}
 use Rattle.row_facts.proofs.Steps.{noted_is as rows_are}
 use Rattle.state_facts.specs.States.{State, clock_after, last_after, noted, repeats_next, settings_next, settings_row, state}
 use Rattle.state_facts.proofs.Items.{IsNext, is-next}
-use Rattle.basic_lemmas.proofs.Lists.{any-less}
 
 -- ---- what the next item says of a send
 

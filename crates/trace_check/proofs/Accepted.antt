@@ -17,7 +17,7 @@ use Rattle.cam_types.specs.declared.script.Script.{Script}
 use Rattle.cam_types.specs.declared.script.Word.{Word}
 use Rattle.cam_types.specs.declared.stream.StreamSpec.{StreamSpec}
 use Rattle.trace_model.specs.declared.entry.Entry.{Entry}
-use Rattle.trace_model.specs.declared.entry.Entry.TheVariants.{Begin, Call, Send, Dropped, Shutter, Partial, Filled, Failed, ErrorRequest, ErrorResult, ErrorBuffer, ErrorDevice, Release, Signal}
+use Rattle.trace_model.specs.declared.entry.Entry.TheVariants.{Begin, Call, Send, Dropped, Shutter, Partial, Filled, Failed, ErrorRequest, ErrorResult, ErrorBuffer, ErrorDevice, Release, Signal, Early, Late}
 use Rattle.trace_model.specs.Allowed.{IsAllowed}
 use Rattle.trace_model.specs.Calls.{command_at, command_of, item_at, items_of, next_command, word_of}
 use Rattle.trace_model.specs.Client.{call_of, may_answer}
@@ -163,8 +163,8 @@ answered script past i word r h = by-command (next_command script past) refl h w
         record { command = c; next = rw (sym number) is; number = sym number; gives = gives }
 
 -- what an accepted call tells of its command: it has no refusal of its own
-pub accepted : (script : Script) (past : List Entry) (c : Command) (r : Reply) → reply script past c ≡ r → is_refusal r ≡ false → (own_refusal script past c ≡ None) × (acceptance past c ≡ r)
-accepted script past c r = accepted-of (state_refusal past c) (own_refusal script past c) (acceptance past c) r (state-refuses past c) (own-refuses script past c)
+pub accepted : (script : Script) (past : List Entry) (c : Command) (r : Reply) → reply script past c ≡ r → is_refusal r ≡ false → (own_refusal script past c ≡ None) × (acceptance script past c ≡ r)
+accepted script past c r = accepted-of (state_refusal past c) (own_refusal script past c) (acceptance script past c) r (state-refuses past c) (own-refuses script past c)
 
 -- ---- streams
 
@@ -239,6 +239,8 @@ streams-offered script (ErrorBuffer n t ∷ past) legal s spec at = streams-offe
 streams-offered script (ErrorDevice ∷ past) legal s spec at = streams-offered script past legal.1 s spec at
 streams-offered script (Release b f ∷ past) legal s spec at = streams-offered script past legal.1 s spec at
 streams-offered script (Signal f ∷ past) legal s spec at = streams-offered script past legal.1 s spec at
+streams-offered script (Early n t b f ∷ past) legal s spec at = streams-offered script past legal.1 s spec at
+streams-offered script (Late f digest ∷ past) legal s spec at = streams-offered script past legal.1 s spec at
 
 -- ---- settings
 
@@ -308,6 +310,8 @@ item-in-range script (ErrorBuffer n t ∷ past) legal r k item at = item-in-rang
 item-in-range script (ErrorDevice ∷ past) legal r k item at = item-in-range script past legal.1 r k item at
 item-in-range script (Release b f ∷ past) legal r k item at = item-in-range script past legal.1 r k item at
 item-in-range script (Signal f ∷ past) legal r k item at = item-in-range script past legal.1 r k item at
+item-in-range script (Early n t b f ∷ past) legal r k item at = item-in-range script past legal.1 r k item at
+item-in-range script (Late f digest ∷ past) legal r k item at = item-in-range script past legal.1 r k item at
 
 of-send : (script : Script) (past : List Entry) → IsLegal script past → (o : Option Entry) (item : Item) → item_in script past o ≡ Some item → range_fault item.settings ≡ None
 of-send script past legal None item at = absurd (cc)

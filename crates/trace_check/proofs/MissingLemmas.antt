@@ -2,7 +2,7 @@
 use Rattle.std.proofs.Common.{◌≡◌, ℕ, Bool, ◌&&◌, List, [], ◌∷◌, refl, ap}
 use Rattle.std.specs.List.{list_all}
 use Rattle.trace_model.specs.declared.entry.Entry.{Entry}
-use Rattle.trace_model.specs.declared.entry.Entry.TheVariants.{Begin, Call, Send, Dropped, Shutter, Partial, Filled, Failed, ErrorRequest, ErrorResult, ErrorBuffer, ErrorDevice, Release, Signal}
+use Rattle.trace_model.specs.declared.entry.Entry.TheVariants.{Begin, Call, Send, Dropped, Shutter, Partial, Filled, Failed, ErrorRequest, ErrorResult, ErrorBuffer, ErrorDevice, Release, Signal, Early, Late}
 use Rattle.trace_model.specs.Complete.{released}
 use Rattle.trace_check.specs.Released.{on_release}
 
@@ -22,3 +22,5 @@ released-all p (ErrorResult n ∷ past) = released-all p past
 released-all p (ErrorBuffer n s ∷ past) = released-all p past
 released-all p (ErrorDevice ∷ past) = released-all p past
 released-all p (Signal f ∷ past) = released-all p past
+released-all p (Early n s b f ∷ past) = released-all p past
+released-all p (Late f digest ∷ past) = released-all p past

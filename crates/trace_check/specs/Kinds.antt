@@ -1,8 +1,9 @@
 use Rattle.std.specs.Prelude.{Bool, true, false}
 use Rattle.trace_model.specs.declared.entry.Entry.{Entry}
-use Rattle.trace_model.specs.declared.entry.Entry.TheVariants.{Filled}
+use Rattle.trace_model.specs.declared.entry.Entry.TheVariants.{Filled, Late}
 
--- the entry gives a buffer back with its picture (our own choice: the one kind that is judged by drawing)
-abbrev pub is_fill : Entry → Bool
-is_fill (Filled _ _ _ _ _) = true
-is_fill _ = false
+-- the entry gives the digest of a picture (our own choice: these two kinds are judged by drawing)
+abbrev pub has_digest : Entry → Bool
+has_digest (Filled _ _ _ _ _) = true
+has_digest (Late _ _) = true
+has_digest _ = false

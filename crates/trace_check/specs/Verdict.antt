@@ -1,7 +1,7 @@
 use Rattle.std.specs.Prelude.{◌≡◌, ℕ, not, List, Option, Some, None, reverse, take, slice_get, if◌then◌else◌}
 use Rattle.cam_types.specs.declared.script.Script.{Script}
 use Rattle.trace_model.specs.declared.entry.Entry.{Entry}
-use Rattle.trace_model.specs.declared.entry.Entry.TheVariants.{Begin, Call, Send, Dropped, Shutter, Partial, Filled, Failed, ErrorRequest, ErrorResult, ErrorBuffer, ErrorDevice, Release, Signal}
+use Rattle.trace_model.specs.declared.entry.Entry.TheVariants.{Begin, Call, Send, Dropped, Shutter, Partial, Filled, Failed, ErrorRequest, ErrorResult, ErrorBuffer, ErrorDevice, Release, Signal, Early, Late}
 use Rattle.trace_model.specs.Allowed.{IsAllowed}
 use Rattle.trace_model.specs.Complete.{IsComplete, is_all_called, is_all_signalled, is_queue_empty}
 use Rattle.trace_model.specs.Legal.{IsLegal}
@@ -23,6 +23,8 @@ rule_of (Dropped _ _ _) = D10
 rule_of (Shutter _ _) = D11
 rule_of (Partial _ _ _) = D12
 rule_of (Filled _ _ _ _ _) = D13
+rule_of (Early _ _ _ _) = D13
+rule_of (Late _ _) = D13
 rule_of (Failed _ _ _ _) = D14
 rule_of (ErrorRequest _) = D14
 rule_of (ErrorResult _) = D14

@@ -1,24 +1,24 @@
 //! Whether an entry is allowed after the entries before it.
 ghost use Rattle.std.specs.Prelude.{◌≡◌, ◌↔◌, false, reverse, IsTrue};
-ghost use Rattle.trace_check.specs.Kinds.{is_fill};
+ghost use Rattle.trace_check.specs.Kinds.{has_digest};
 ghost use Rattle.trace_model.specs.Allowed.{IsAllowed};
 ghost use Rattle.trace_model.specs.Legal.{IsLegal};
 
-use crate::filled::{Fill, is_filled_due};
+use crate::filled::{Fill, is_filled_due, is_late_due};
 use cam_types::Script;
-use picture_digest::Canvas;
-use trace_calls::answer::is_call_due;
-use trace_model::Entry;
-use trace_rules::rule::{
-    is_begin_due, is_dropped_due, is_error_buffer_due, is_error_device_due, is_error_request_due,
-    is_error_result_due, is_failed_due, is_partial_due, is_release_due, is_shutter_due,
-    is_signal_due,
+use judge_calls::answer::is_call_due;
+use judge_rules::rule::{
+    is_begin_due, is_dropped_due, is_early_due, is_error_buffer_due, is_error_device_due,
+    is_error_request_due, is_error_result_due, is_failed_due, is_partial_due, is_release_due,
+    is_shutter_due, is_signal_due,
 };
-use trace_sends::rule::is_send_due;
+use judge_sends::rule::is_send_due;
+use picture_digest::Canvas;
+use trace_model::Entry;
 
-/// Whether the entry, if it isn't a filled buffer, is due.
+/// Whether the entry, if it is one without a digest, is due.
 fn is_due(script: &Script, entries: &[Entry], entry: &Entry) -> bool
-    ensures { is_fill entry.now ≡ false → (IsTrue result ↔ IsAllowed script.now (reverse entries.now) entry.now) }
+    ensures { has_digest entry.now ≡ false → (IsTrue result ↔ IsAllowed script.now (reverse entries.now) entry.now) }
 {
     match *entry {
         Entry::Begin { word } => is_begin_due(script, entries, word),
@@ -41,7 +41,13 @@ fn is_due(script: &Script, entries: &[Entry], entry: &Entry) -> bool
             number,
             part,
         } => is_partial_due(script, entries, frame, number, part),
-        Entry::Filled { .. } => false,
+        Entry::Filled { .. } | Entry::Late { .. } => false,
+        Entry::Early {
+            frame,
+            stream,
+            buffer,
+            fence,
+        } => is_early_due(script, entries, frame, stream, buffer, fence),
         Entry::Failed {
             frame,
             stream,
@@ -84,6 +90,7 @@ pub fn is_allowed(
             };
             is_filled_due(script, entries, fill, canvas)
         }
+        Entry::Late { fence, digest } => is_late_due(script, entries, fence, digest, canvas),
         _ => (is_due(script, entries, entry), canvas),
     }
 }

@@ -1,4 +1,4 @@
-//! Whether a filled buffer is the one that is due: its digest is that of its picture.
+//! Whether a filled buffer, or the signal of a device fence, is the one that is due: its digest is that of its picture.
 ghost use Rattle.std.specs.Prelude.{◌≡◌, ◌↔◌, ℕ, None, reverse, slice_get, IsTrue};
 ghost use Rattle.cam_types.specs.Metadata.{range_fault};
 ghost use Rattle.cam_types.specs.Picture.{picture};
@@ -10,11 +10,11 @@ ghost use Rattle.trace_model.specs.Legal.{IsLegal};
 ghost use Rattle.trace_model.specs.Picture.{digest_of};
 
 use cam_types::{BufferId, FenceNo, FrameNo, Script, Settings, StreamIx, StreamSpec};
+use judge_filters::configuration::streams;
+use judge_filters::frame::item_of;
+use judge_rules::rule::{is_fill_due, late_due};
 use picture_digest::Canvas;
-use trace_filters::configuration::streams;
-use trace_filters::frame::item_of;
 use trace_model::Entry;
-use trace_rules::rule::is_fill_due;
 
 /// A buffer that came back with its picture, as its entry says.
 #[derive(Clone, Copy, Debug, PartialEq, Eq)]
@@ -103,5 +103,22 @@ pub fn is_filled_due(
         is_its_digest(script, entries, frame, stream, digest, canvas)
     } else {
         (false, canvas)
+    }
+}
+
+/// Whether the signal of the device fence is due, with this digest.
+pub fn is_late_due(
+    script: &Script,
+    entries: &[Entry],
+    fence: FenceNo,
+    digest: [u8; 32],
+    canvas: Canvas,
+) -> (bool, Canvas)
+    requires { IsLegal script.now (reverse entries.now) }
+    ensures { IsTrue result.0 ↔ IsAllowed script.now (reverse entries.now) (Entry.Late fence digest) }
+{
+    match late_due(entries, fence) {
+        Some(which) => is_its_digest(script, entries, which.0, which.1, digest, canvas),
+        None => (false, canvas),
     }
 }

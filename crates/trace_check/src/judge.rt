@@ -15,11 +15,12 @@ use std::alloc::Global;
 use trace_model::{Entry, TraceList};
 
 /// Judges a trace: whether it is a complete legal run of the script, else its first entry that isn't allowed, else the
-/// first part that it lacks. The memory that it takes is room for one picture, whatever the length of the trace.
+/// first part that it lacks. The profile that the trace names plays no part. The memory that it takes is room for one
+/// picture, whatever the length of the trace.
 pub fn check(alloc: Global, script: &Script, trace: &TraceList) -> Result<Verdict, NoMemory>
-    ensures exact { IfOk result (λ verdict. IsVerdict script.now trace.now verdict) }
+    ensures exact { IfOk result (λ verdict. IsVerdict script.now trace.now.entries verdict) }
     // A complete legal run keeps the laws.
-    ensures lawful { IfOk result (λ verdict. verdict ≡ Verdict.Legal → KeepsLaws script.now (reverse trace.now)) }
+    ensures lawful { IfOk result (λ verdict. verdict ≡ Verdict.Legal → KeepsLaws script.now (reverse trace.now.entries)) }
 {
     a_complete_run_keeps_the_laws();
     let canvas = Canvas::new(alloc)?;
@@ -28,7 +29,7 @@ pub fn check(alloc: Global, script: &Script, trace: &TraceList) -> Result<Verdic
 
 /// Judges entry by entry, each over those before it.
 fn judge_each(script: &Script, trace: &TraceList, canvas: Canvas) -> Verdict
-    ensures { IsVerdict script.now trace.now result }
+    ensures { IsVerdict script.now trace.now.entries result }
 {
     let entries = trace.as_slice();
     let mut canvas = canvas;

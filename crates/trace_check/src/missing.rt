@@ -8,12 +8,12 @@ ghost use Rattle.trace_check.specs.Verdict.{first_missing};
 
 use crate::verdict::MissingPart;
 use cam_types::Script;
-use trace_calls::over::is_queue_empty;
-use trace_filters::fence::is_signalled;
-use trace_filters::number::call_count;
-use trace_filters::open::is_quiet;
+use judge_calls::over::is_queue_empty;
+use judge_entries::number::call_count;
+use judge_filters::fence::is_signalled;
+use judge_filters::open::is_quiet;
+use judge_pool::pool::all_in_pool;
 use trace_model::Entry;
-use trace_pool::pool::all_in_pool;
 
 /// Whether every command of the script was called.
 fn is_all_called(script: &Script, entries: &[Entry]) -> bool

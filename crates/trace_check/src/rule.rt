@@ -14,7 +14,7 @@ pub fn rule_of(entry: &Entry) -> RuleName
         Entry::Dropped { .. } => RuleName::D10,
         Entry::Shutter { .. } => RuleName::D11,
         Entry::Partial { .. } => RuleName::D12,
-        Entry::Filled { .. } => RuleName::D13,
+        Entry::Filled { .. } | Entry::Early { .. } | Entry::Late { .. } => RuleName::D13,
         Entry::Failed { .. }
         | Entry::ErrorRequest { .. }
         | Entry::ErrorResult { .. }

@@ -9,7 +9,7 @@ pub enum RuleName {
     D11,
     /// A metadata result.
     D12,
-    /// A buffer comes back with its picture.
+    /// A buffer comes back with its picture, or early and its picture later.
     D13,
     /// An error, or a buffer that comes back in error.
     D14,

@@ -22,13 +22,15 @@ use Rattle.meta_rules.specs.Parts.{part_entries, part_in}
 use Rattle.meta_rules.proofs.Parts.{part_packed, part_numbers, part_again}
 use Rattle.trace_model.specs.Printable.{is_small, is_byte, fence_fits, is_filled, sent_fits, made_fits, reply_fits, part_fits, is_digest, is_printable}
 use Rattle.trace_model.specs.declared.entry.Entry.{Entry}
-use Rattle.trace_model.specs.declared.entry.Entry.TheVariants.{Begin, Call, Send, Dropped, Shutter, Partial, Filled, Failed, ErrorRequest, ErrorResult, ErrorBuffer, ErrorDevice, Release, Signal}
+use Rattle.trace_model.specs.declared.entry.Entry.TheVariants.{Begin, Call, Send, Dropped, Shutter, Partial, Filled, Failed, ErrorRequest, ErrorResult, ErrorBuffer, ErrorDevice, Release, Signal, Early, Late}
 use Rattle.trace_model.specs.declared.entry.Sent.{Sent}
-use Rattle.trace_text.specs.Spelling.{word_text, sent_text, made_words, reply_words, part_text, entry_words}
+use Rattle.trace_text.specs.Spelling.{sent_text, made_words, reply_words, part_text, entry_words}
+use Rattle.command_words.specs.Words.{word_text}
 use Rattle.trace_reader.specs.declared.cause.Cause.{Cause}
 use Rattle.trace_reader.specs.Values.{sent, made, part_number as part_number_word}
-use Rattle.trace_reader.specs.Lines.{each, up_to_four, reply_of, call_of, send_of, buffer_of, error_of, partial_of, kind_of, entry_in, entry_with}
-use Rattle.trace_reader.proofs.AgainValues.{byte-again, small-again, large-again, fence-again, item-again, sent-again, made-again, mark-again, word-again, hex-again, digest-again, all-bytes}
+use Rattle.trace_reader.specs.Lines.{each, up_to_four, reply_of, call_of, send_of, buffer_of, early_of, error_of, partial_of, kind_of, entry_in, entry_with}
+use Rattle.trace_reader.proofs.AgainValues.{byte-again, small-again, large-again, fence-again, item-again, sent-again, made-again, mark-again, hex-again, digest-again, all-bytes}
+use Rattle.command_words.proofs.Texts.{word-again}
 use Rattle.trace_reader.proofs.PartBytes.{part-all}
 
 -- ---- up to four words
@@ -231,7 +233,7 @@ abbrev IsAgain : Entry → Type 0
 IsAgain e = entry_with (first (entry_words e)) (behind (entry_words e)) ≡ Ok e
 
 pub entry-again : (e : Entry) → is_printable e ≡ true → IsAgain e
-unfolding kind_of entry_in call_of send_of buffer_of error_of
+unfolding kind_of entry_in call_of send_of buffer_of early_of error_of
 entry-again (Begin word) h = begin-again word h
 entry-again (Call i word r) h =
     let p = and_parts (is_small i) (reply_fits word r) h in
@@ -275,3 +277,11 @@ entry-again (Release b f) h =
     let p = and_parts (is_small b.0) (is_small f.0) h in
     rw (small-again b.0 p.0, small-again f.0 p.1) refl
 entry-again (Signal f) h = rw (small-again f.0 h) refl
+entry-again (Early n s b f) h =
+    let p = and_parts (is_small n.0 && (is_byte s.0 && is_small b.0)) (is_small f.0) h in
+    let q = and_parts (is_small n.0) (is_byte s.0 && is_small b.0) p.0 in
+    let r = and_parts (is_byte s.0) (is_small b.0) q.1 in
+    rw (small-again n.0 q.0, byte-again s.0 r.0, small-again b.0 r.1, small-again f.0 p.1) refl
+entry-again (Late f digest) h =
+    let p = and_parts (is_small f.0) (is_digest digest) h in
+    rw (small-again f.0 p.0, digest-again digest p.1) refl

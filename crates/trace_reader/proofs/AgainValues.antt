@@ -1,22 +1,23 @@
 -- Words that are spelled are read again.
-use Rattle.std.proofs.Common.{◌≡◌, ℕ, zero, suc, ◌/◌, ◌%◌, ◌<◌, ◌^◌, Bool, true, false, ◌&&◌, eqb, ltb, List, [], ◌∷◌, ◌++◌, length, Option, None, Some, Result, Ok, refl, ap, ◌∙◌, inl, inr, arith}
+use Rattle.std.proofs.Common.{◌≡◌, ℕ, zero, suc, ◌/◌, ◌%◌, ◌<◌, ◌≤◌, ◌^◌, Bool, true, false, ◌&&◌, eqb, ltb, leb, List, [], ◌∷◌, ◌++◌, length, Option, None, Some, Result, Ok, refl, ap, ◌∙◌, inl, inr, arith}
 use Rattle.std.specs.Prelude.{decimal, bytes_eq, slice_index}
 use Rattle.std.specs.List.{list_all}
-use Rattle.std.proofs.lemmas.Bool.{cases_lt, and_parts, and_from, eq-eqb, ltb-true, eqb-true}
+use Rattle.std.proofs.lemmas.Bool.{cases_lt, and_parts, and_from, eq-eqb, ltb-true, leb-true, eqb-true}
 use Rattle.std.proofs.lemmas.Slice.Eq.{bytes_eq-Decides}
+use Rattle.cam_types.specs.Profile.{is_profile_number}
 use Rattle.cam_types.specs.declared.number.FenceNo.{FenceNo}
 use Rattle.cam_types.specs.declared.reply.Made.{Made}
-use Rattle.cam_types.specs.declared.script.Word.{Word}
-use Rattle.cam_types.specs.declared.script.Word.TheVariants.{Configure, Once, Burst, Repeat, Stop, Wait, Await, Flush, Close, Disconnect}
 use Rattle.hex.specs.Hex.{IsBytes, encode_lower, encode_with, lower_digits}
 use Rattle.hex.proofs.HexLemmas.{decode_of-encode_lower, length-encode_with}
 use Rattle.trace_model.specs.Printable.{is_small, is_byte, fence_fits, sent_fits, made_fits, is_digest}
 use Rattle.trace_model.specs.declared.entry.Sent.{Sent}
-use Rattle.trace_text.specs.Spelling.{word_text, buffer_text, fence_number as fence_word, fence_text, request_text, item_text, mark_text, sent_text, made_text}
+use Rattle.trace_text.specs.Spelling.{buffer_text, fence_number as fence_word, device_fence as device_word, fence_text, request_text, item_text, mark_text, sent_text, made_text}
 use Rattle.trace_reader.specs.declared.cause.Cause.{Cause}
-use Rattle.trace_reader.specs.Words.{cut_at}
-use Rattle.trace_reader.specs.Values.{both, byte, small, large, buffer, fence_number, request, fence, cut_in, item, fenced_buffer, sent, stream_number, buffers, made, mark, is_lower_digit, hex_bytes, digest, command_word}
-use Rattle.trace_reader.proofs.AgainWords.{avoids, cut-again, number-again, number-avoids}
+use Rattle.text_parts.specs.Cuts.{cut_at}
+use Rattle.trace_reader.specs.Values.{both, byte, small, large, profile_number, buffer, fence_number, device_fence, request, fence, cut_in, item, fenced_buffer, sent, stream_number, buffers, made, mark, is_lower_digit, hex_bytes, digest}
+use Rattle.text_parts.proofs.Joined.{avoids, cut-again}
+use Rattle.text_parts.proofs.Spelled.{number-again, number-avoids}
+use Rattle.trace_reader.proofs.General.{number-within-again}
 
 pub both-of : {A B : Type 0} (r : Result A Cause) (s : Result B Cause) (x : A) (y : B) → r ≡ Ok x → s ≡ Ok y → both r s ≡ Ok (x, y)
 both-of r s x y h k = rw (h, k) refl
@@ -47,6 +48,15 @@ buffer-again b h = small-again b h
 
 pub fence_number-again : (k : ℕ) → is_small k ≡ true → fence_number (fence_word k) ≡ Ok k
 fence_number-again k h = small-again k h
+
+pub device_fence-again : (k : ℕ) → is_small k ≡ true → device_fence (device_word k) ≡ Ok k
+device_fence-again k h = small-again k h
+
+pub profile-number-again : (n : ℕ) → is_profile_number n ≡ true → profile_number (decimal n) ≡ Ok n
+profile-number-again n h =
+    let p = and_parts (ltb 0 n) (leb n 16) h in
+    let least : 1 ≤ n = omega (arith, ltb-true 0 n p.0) in
+    rw (number-within-again 1 16 n least (leb-true n 16 p.1) (omega arith)) refl
 
 pub request-again : (r : ℕ) → is_small r ≡ true → request (request_text r) ≡ Ok r
 request-again r h = small-again r h
@@ -86,19 +96,6 @@ made-again s m l h =
 pub mark-again : (same : Bool) → mark (mark_text same) ≡ Ok same
 mark-again true = refl
 mark-again false = refl
-
-pub word-again : (w : Word) → command_word (word_text w) ≡ Some w
-unfolding command_word
-word-again Configure = refl
-word-again Once = refl
-word-again Burst = refl
-word-again Repeat = refl
-word-again Stop = refl
-word-again Wait = refl
-word-again Await = refl
-word-again Flush = refl
-word-again Close = refl
-word-again Disconnect = refl
 
 -- ---- hexadecimal text
 

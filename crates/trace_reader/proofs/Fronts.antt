@@ -1,18 +1,21 @@
 -- Entries behind those that stand already.
-use Rattle.std.proofs.Common.{◌≡◌, ℕ, ◌+◌, ◌<◌, Bool, true, false, cond, eqb, List, [], ◌∷◌, ◌++◌, length, Result, Ok, Err, refl, ap, sym, ◌∙◌, arith, append_assoc}
+use Rattle.std.proofs.Common.{◌≡◌, ℕ, ◌+◌, ◌<◌, Bool, true, false, cond, eqb, List, [], ◌∷◌, ◌++◌, length, Option, Result, Ok, Err, refl, ap, sym, ◌∙◌, arith, append_assoc}
 use Rattle.std.specs.Prelude.{codes, bytes_eq}
 use Rattle.std.specs.List.{onto_first}
+use Rattle.cam_types.specs.declared.profile.Profile.{Profile}
 use Rattle.trace_model.specs.declared.entry.Entry.{Entry}
+use Rattle.trace_model.specs.declared.list.TraceList.{TraceList}
+use Rattle.trace_reader.specs.declared.cause.Cause.{Cause}
 use Rattle.trace_reader.specs.declared.cause.Cause.TheVariants.{BadLine}
 use Rattle.trace_reader.specs.declared.cause.LineRefused.{LineRefused}
 use Rattle.trace_reader.specs.declared.cause.LineRefused.TheVariants as line
 use Rattle.trace_reader.specs.declared.cause.TraceRefused.{TraceRefused}
 use Rattle.trace_reader.specs.declared.cause.TraceRefused.TheVariants.{Bad, NoMemory}
-use Rattle.trace_reader.specs.Words.{parts_at}
-use Rattle.trace_reader.specs.Lines.{entry_of}
-use Rattle.trace_reader.specs.Grammar.{at_line, with_entry, after_end, entries_from, trace_from, trace_of}
-use Rattle.trace_reader.specs.Reader.{Refuses, Answers, refused}
-use Rattle.trace_reader.proofs.Cuts.{parts_some}
+use Rattle.text_parts.specs.Cuts.{parts_at}
+use Rattle.trace_reader.specs.Lines.{entry_of, named_profile}
+use Rattle.trace_reader.specs.Grammar.{at_line, with_entry, with_profile, after_end, entries_from, trace_from, trace_of}
+use Rattle.trace_reader.specs.Reader.{Refuses, AnswersTrace, refused}
+use Rattle.text_parts.proofs.Cuts.{parts_some}
 
 abbrev pub with_front : List Entry → Result (List Entry) TraceRefused → Result (List Entry) TraceRefused
 with_front front (Ok entries) = Ok (front ++ entries)
@@ -43,7 +46,7 @@ past_end n (b ∷ bs) more = let some = parts_some 10 bs in rw some.2 (more_than
 pub front_end : (front : List Entry) (whole : Result (List Entry) TraceRefused) (n : ℕ) (text behind rest : List ℕ) → parts_at 10 rest ≡ text ∷ parts_at 10 behind → bytes_eq text (codes "end") ≡ true → 0 < length behind → with_front front (entries_from n (parts_at 10 rest)) ≡ whole → whole ≡ Err (Bad (n + 1) BadLine)
 front_end front whole n text behind rest cut end more same = sym same ∙ rw (front_line n text behind rest cut, end, past_end (n + 1) behind more) refl
 
-pub front_refused : (front : List Entry) (whole : Result (List Entry) TraceRefused) (n : ℕ) (text behind rest : List ℕ) (why : LineRefused) → parts_at 10 rest ≡ text ∷ parts_at 10 behind → bytes_eq text (codes "end") ≡ false → Refuses why (entry_of text) → with_front front (entries_from n (parts_at 10 rest)) ≡ whole → Answers (Err (refused n why)) whole
+pub front_refused : (front : List Entry) (whole : Result (List Entry) TraceRefused) (n : ℕ) (text behind rest : List ℕ) (why : LineRefused) → parts_at 10 rest ≡ text ∷ parts_at 10 behind → bytes_eq text (codes "end") ≡ false → Refuses why (entry_of text) → with_front front (entries_from n (parts_at 10 rest)) ≡ whole → AnswersTrace (Err (refused n why)) whole
 front_refused front whole n text behind rest (line.Bad cause) cut goes_on why same = sym same ∙ rw (front_line n text behind rest cut, goes_on, why) refl
 front_refused front whole n text behind rest line.NoMemory cut goes_on why same = tt
 
@@ -53,17 +56,17 @@ front_read front after whole n text behind rest entry cut goes_on read grown sam
 
 -- ---- the first line
 
-first_line : (n : ℕ) (text behind whole : List ℕ) → parts_at 10 whole ≡ text ∷ parts_at 10 behind → trace_of n whole ≡ cond (bytes_eq text (codes "trace 1")) (entries_from (n + 1) (parts_at 10 behind)) (Err (Bad n BadLine))
+first_line : (n : ℕ) (text behind whole : List ℕ) → parts_at 10 whole ≡ text ∷ parts_at 10 behind → trace_of n whole ≡ at_line n (named_profile text) (λ profile. with_profile profile (entries_from (n + 1) (parts_at 10 behind)))
 unfolding trace_of trace_from
 first_line n text behind whole cut = let some = parts_some 10 behind in rw (cut, some.2) refl
 
-pub good_first : (n : ℕ) (text behind whole : List ℕ) → parts_at 10 whole ≡ text ∷ parts_at 10 behind → bytes_eq text (codes "trace 1") ≡ true → trace_of n whole ≡ entries_from (n + 1) (parts_at 10 behind)
-good_first n text behind whole cut same = first_line n text behind whole cut ∙ rw same refl
+pub good_first : (n : ℕ) (text behind whole : List ℕ) (profile : Option Profile) → parts_at 10 whole ≡ text ∷ parts_at 10 behind → named_profile text ≡ Ok profile → trace_of n whole ≡ with_profile profile (entries_from (n + 1) (parts_at 10 behind))
+good_first n text behind whole profile cut named = first_line n text behind whole cut ∙ rw named refl
 
-pub other_first : (n : ℕ) (text behind whole : List ℕ) → parts_at 10 whole ≡ text ∷ parts_at 10 behind → bytes_eq text (codes "trace 1") ≡ false → trace_of n whole ≡ Err (Bad n BadLine)
-other_first n text behind whole cut other = first_line n text behind whole cut ∙ rw other refl
+pub bad_first : (n : ℕ) (text behind whole : List ℕ) (cause : Cause) → parts_at 10 whole ≡ text ∷ parts_at 10 behind → named_profile text ≡ Err cause → trace_of n whole ≡ Err (Bad n cause)
+bad_first n text behind whole cause cut named = first_line n text behind whole cut ∙ rw named refl
 
-pub answers_same : (answer meaning same : Result (List Entry) TraceRefused) → same ≡ meaning → Answers answer meaning → Answers answer same
-answers_same (Ok trace) meaning same e h = e ∙ h
-answers_same (Err (Bad n cause)) meaning same e h = e ∙ h
-answers_same (Err NoMemory) meaning same e h = tt
+-- a refusal behind a good first line
+pub refused_behind : (why : TraceRefused) (profile : Option Profile) (meaning : Result (List Entry) TraceRefused) (same : Result TraceList TraceRefused) → same ≡ with_profile profile meaning → AnswersTrace (Err why) meaning → AnswersTrace (Err why) same
+refused_behind (Bad n cause) profile meaning same e h = e ∙ ap (with_profile profile) h
+refused_behind NoMemory profile meaning same e h = tt

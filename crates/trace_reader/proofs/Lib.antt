@@ -1,9 +1,7 @@
-pub mod Cuts
-pub mod Digits
 pub mod Digests
+pub mod General
 pub mod Fours
 pub mod Fronts
-pub mod AgainWords
 pub mod AgainValues
 pub mod PartBytes
 pub mod AgainLines

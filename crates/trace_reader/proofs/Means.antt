@@ -1,27 +1,27 @@
 -- A word that is read is the spelling of what it is read as.
-use Rattle.std.proofs.Common.{◌≡◌, ℕ, suc, ◌<◌, ◌≤◌, ◌^◌, Bool, true, false, ◌&&◌, not, cond, eqb, ltb, List, [], ◌∷◌, ◌++◌, length, get_or, Option, None, Some, Result, Ok, Err, refl, sym, ap, ◌∙◌, inl, inr, arith}
-use Rattle.std.specs.Prelude.{◌⊎◌, codes, decimal, bytes_eq}
+use Rattle.std.proofs.Common.{◌≡◌, ℕ, suc, ◌^◌, Bool, true, false, ◌&&◌, cond, eqb, ltb, List, [], ◌∷◌, ◌++◌, length, Option, None, Some, Result, Ok, Err, refl, sym, ap, ◌∙◌, inl, inr, arith}
+use Rattle.std.specs.Prelude.{codes, decimal, bytes_eq}
 use Rattle.std.specs.List.{list_all}
-use Rattle.std.specs.Option.{option_map}
-use Rattle.std.specs.Str.{all_ascii_digits}
-use Rattle.std.specs.Str.Parse.{digits_value}
-use Rattle.std.proofs.lemmas.Bool.{cases_Bool, and_parts, and_from, eq-eqb, eqb-true, lt-ltb, ltb-true, false≢true}
-use Rattle.std.proofs.lemmas.Fmt.{decimal_digit, decimal-digits_value}
-use Rattle.std.proofs.lemmas.Str.Parse.{IsNumeralModel, numerals_by_value, tells_all_ascii_digits}
+use Rattle.std.proofs.lemmas.Bool.{and_from, eq-eqb, eqb-true, lt-ltb, le-leb}
+use Rattle.std.proofs.lemmas.Fmt.{decimal_digit}
 use Rattle.std.proofs.lemmas.Slice.Eq.{bytes_eq-Decides}
 use Rattle.cam_types.specs.declared.number.FenceNo.{FenceNo}
 use Rattle.cam_types.specs.declared.reply.Made.{Made}
-use Rattle.cam_types.specs.declared.script.Word.{Word}
-use Rattle.cam_types.specs.declared.script.Word.TheVariants.{Configure, Once, Burst, Repeat, Stop, Wait, Await, Flush, Close, Disconnect}
 use Rattle.hex.specs.Hex.{IsBytes, decode_of, encode_lower, lower_digits}
 use Rattle.hex.proofs.HexLemmas.{length-encode_with}
 use Rattle.trace_model.specs.Printable.{is_small, is_byte, fence_fits, sent_fits, made_fits, is_digest}
 use Rattle.trace_model.specs.declared.entry.Sent.{Sent}
-use Rattle.trace_text.specs.Spelling.{word_text, fence_text, item_text, mark_text, sent_text, made_text}
+use Rattle.trace_text.specs.Spelling.{fence_text, item_text, mark_text, sent_text, made_text}
 use Rattle.trace_reader.specs.declared.cause.Cause.{Cause}
 use Rattle.trace_reader.specs.declared.cause.Cause.TheVariants.{BadLine, BadNumber}
-use Rattle.trace_reader.specs.Words.{cut_at, is_number, number_below}
-use Rattle.trace_reader.specs.Values.{◌>>=◌, both, good, byte, small, large, numbered, buffer, fence_number, request, fence, cut_in, item, fenced_buffer, sent, stream_number, buffers, made, mark, is_lower_digit, decoded, hex_bytes, digest, part_number, command_word}
+use Rattle.text_parts.specs.Cuts.{cut_at}
+use Rattle.text_parts.specs.Numbers.{is_number, number_below, number_within}
+use Rattle.trace_reader.specs.Values.{◌>>=◌, both, good, byte, small, large, profile_number, numbered, buffer, fence_number, request, fence, cut_in, item, fenced_buffer, sent, stream_number, buffers, made, mark, is_lower_digit, decoded, hex_bytes, digest, part_number}
+use Rattle.basic_lemmas.proofs.Tests.{chosen}
+use Rattle.text_parts.proofs.Joined.{cut-is}
+use Rattle.text_parts.proofs.Spelled.{number-is}
+use Rattle.cam_types.specs.Profile.{is_profile_number}
+use Rattle.trace_reader.proofs.General.{number-within-is}
 use Rattle.trace_reader.proofs.HexMeans.{hex-are}
 
 -- ---- steps that gave a value
@@ -36,10 +36,6 @@ both-ok (Ok x) (Err c) a b h = absurd (cc)
 both-ok (Err c) (Ok y) a b h = absurd (cc)
 both-ok (Err c) (Err d) a b h = absurd (cc)
 
-pub chosen : {A : Type 0} (b : Bool) (x y z : A) → cond b x y ≡ z → ((b ≡ true) × (x ≡ z)) ⊎ ((b ≡ false) × (y ≡ z))
-chosen true x y z h = inl (refl, h)
-chosen false x y z h = inr (refl, h)
-
 pub if-ok : {A : Type 0} (b : Bool) (x : Result A Cause) (c : Cause) (y : A) → cond b x (Err c) ≡ Ok y → (b ≡ true) × (x ≡ Ok y)
 if-ok true x c y h = (refl, h)
 if-ok false x c y h = absurd (cc)
@@ -49,42 +45,23 @@ text-is w v h = (bytes_eq-Decides w v).0 h
 
 -- ---- numbers
 
-own : IsNumeralModel (λ ds. all_ascii_digits ds ≡ true) (digits_value 10)
-own = numerals_by_value (λ ds. all_ascii_digits ds ≡ true) tells_all_ascii_digits
-
-numeral-is : (w : List ℕ) → is_number w ≡ true → (all_ascii_digits w ≡ true) × (0 < length w) × (get_or w 0 0 ≡ 48 → length w ≡ 1)
-numeral-is [] h = absurd (false≢true h)
-numeral-is (d ∷ []) h = (rw h refl, omega arith, λ z. refl)
-numeral-is (d ∷ e ∷ ds) h =
-    let p = and_parts (not (eqb d 48)) (all_ascii_digits (d ∷ e ∷ ds)) h in
-    (p.1, omega arith, λ z. absurd (let q = p.0 in let r = rw z at q in false≢true r))
-
-number_below-is : (limit n : ℕ) (w : List ℕ) → limit ≤ 2 ^ 64 → number_below limit w ≡ Some n → (w ≡ decimal n) × (ltb n limit ≡ true)
-unfolding number_below
-number_below-is limit n w l h = elim (cases_Bool (is_number w && ltb (digits_value 10 w) limit)) [
-  | inl t ↦
-      let p = and_parts (is_number w) (ltb (digits_value 10 w) limit) t in
-      let k = rw t at h in
-      let e : digits_value 10 w ≡ n = cc in
-      let d = numeral-is w p.0 in
-      let v = ltb-true (digits_value 10 w) limit p.1 in
-      let s = decimal-digits_value own w d.0 d.1 d.2 (omega arith) in
-      (sym s ∙ ap decimal e, rw (← e) p.1)
-  | inr f ↦ absurd (let k = rw f at h in cc)
-]
-
 good-ok : (o : Option ℕ) (n : ℕ) → good o ≡ Ok n → o ≡ Some n
 good-ok None n h = absurd (cc)
 good-ok (Some x) n h = let e : x ≡ n = cc in ap Some e
 
 pub byte-is : (w : List ℕ) (n : ℕ) → byte w ≡ Ok n → (w ≡ decimal n) × (is_byte n ≡ true)
-byte-is w n h = number_below-is (2 ^ 8) n w (omega arith) (good-ok (number_below (2 ^ 8) w) n h)
+byte-is w n h = number-is (2 ^ 8) n w (omega arith) (good-ok (number_below (2 ^ 8) w) n h)
 
 pub small-is : (w : List ℕ) (n : ℕ) → small w ≡ Ok n → (w ≡ decimal n) × (is_small n ≡ true)
-small-is w n h = number_below-is (2 ^ 32) n w (omega arith) (good-ok (number_below (2 ^ 32) w) n h)
+small-is w n h = number-is (2 ^ 32) n w (omega arith) (good-ok (number_below (2 ^ 32) w) n h)
 
 pub large-is : (w : List ℕ) (n : ℕ) → large w ≡ Ok n → (w ≡ decimal n) × (ltb n (2 ^ 64) ≡ true)
-large-is w n h = number_below-is (2 ^ 64) n w (omega arith) (good-ok (number_below (2 ^ 64) w) n h)
+large-is w n h = number-is (2 ^ 64) n w (omega arith) (good-ok (number_below (2 ^ 64) w) n h)
+
+pub profile-number-is : (w : List ℕ) (n : ℕ) → profile_number w ≡ Ok n → (w ≡ decimal n) × (is_profile_number n ≡ true)
+profile-number-is w n h =
+    let k = number-within-is 1 16 n w (omega arith) (good-ok (number_within 1 16 w) n h) in
+    (k.0, and_from _ _ (lt-ltb 0 n (omega (arith, k.1))) (le-leb n 16 k.2))
 
 pub numbered-is : (letter : ℕ) (w : List ℕ) (n : ℕ) → numbered letter w ≡ Ok n → (w ≡ letter ∷ decimal n) × (is_small n ≡ true)
 numbered-is letter [] n h = absurd (cc)
@@ -108,19 +85,6 @@ fence-is w f h = elim (chosen (bytes_eq w (codes "-")) (Ok None) (fence_number w
 ]
 
 -- ---- words of several parts
-
-map-some : {A B : Type 0} (f : A → B) (o : Option A) (y : B) → option_map f o ≡ Some y → (x : A) × (o ≡ Some x) × (f x ≡ y)
-map-some f None y h = absurd (cc)
-map-some f (Some x) y h = (x, refl, cc)
-
-pub cut-is : (c : ℕ) (w : List ℕ) (p : List ℕ × List ℕ) → cut_at c w ≡ Some p → w ≡ p.0 ++ c ∷ p.1
-cut-is c [] p h = absurd (cc)
-cut-is c (b ∷ bs) p h = elim (chosen (eqb b c) (Some ([], bs)) (option_map (λ (q : List ℕ × List ℕ). (b ∷ q.0, q.1)) (cut_at c bs)) (Some p) h) [
-  | inl t ↦ (let e : ([], bs) ≡ p = cc in rw (eqb-true b c t.0, ← e) refl)
-  | inr f ↦
-      let q = map-some (λ (q : List ℕ × List ℕ). (b ∷ q.0, q.1)) (cut_at c bs) p f.1 in
-      ap (λ (x : List ℕ). b ∷ x) (cut-is c bs q.0 q.1) ∙ ap (λ (x : List ℕ × List ℕ). x.0 ++ c ∷ x.1) q.2
-]
 
 same-cut : (c : ℕ) (a b x y : List ℕ) → a ≡ x → b ≡ y → a ++ c ∷ b ≡ x ++ c ∷ y
 same-cut c a b x y h k = rw (h, k) refl
@@ -181,20 +145,6 @@ mark-is w same h = elim (chosen (bytes_eq w (codes "same")) (Ok true) (cond (byt
       let e : false ≡ same = cc in
       rw (← e) (text-is w (codes "new") q.0)
 ]
-
--- ---- the words of commands
-
-word-step : (w : List ℕ) (v : Word) (more : Option Word) (word : Word) → cond (bytes_eq w (word_text v)) (Some v) more ≡ Some word → (more ≡ Some word → w ≡ word_text word) → w ≡ word_text word
-word-step w v more word h k = elim (chosen (bytes_eq w (word_text v)) (Some v) more (Some word) h) [
-  | inl p ↦ (let e : v ≡ word = cc in text-is w (word_text v) p.0 ∙ ap word_text e)
-  | inr p ↦ k p.1
-]
-
-pub word-is : (w : List ℕ) (word : Word) → command_word w ≡ Some word → w ≡ word_text word
-unfolding command_word
-word-is w word h =
-    word-step w Configure _ word h (λ a. word-step w Once _ word a (λ b. word-step w Burst _ word b (λ c. word-step w Repeat _ word c (λ d. word-step w Stop _ word d
-    (λ e. word-step w Wait _ word e (λ f. word-step w Await _ word f (λ g. word-step w Flush _ word g (λ i. word-step w Close _ word i (λ j. word-step w Disconnect None word j (λ k. absurd (cc)))))))))))
 
 -- ---- hexadecimal text
 

@@ -10,12 +10,16 @@ use Rattle.cam_types.specs.declared.script.Word.{Word}
 use Rattle.cam_types.specs.declared.script.Word.TheVariants.{Configure, Once, Burst, Repeat, Stop, Wait, Await, Flush, Close, Disconnect}
 use Rattle.trace_model.specs.Printable.{is_small, is_byte, reply_fits, is_printable}
 use Rattle.trace_model.specs.declared.entry.Entry.{Entry}
-use Rattle.trace_model.specs.declared.entry.Entry.TheVariants.{Call, Send, Filled, Failed, ErrorRequest, ErrorResult, ErrorBuffer, ErrorDevice}
+use Rattle.trace_model.specs.declared.entry.Entry.TheVariants.{Call, Send, Filled, Failed, ErrorRequest, ErrorResult, ErrorBuffer, ErrorDevice, Early}
 use Rattle.trace_text.specs.Spelling.{buffer_text, reply_words, entry_words}
 use Rattle.trace_reader.specs.declared.cause.Cause.TheVariants.{BadLine}
-use Rattle.trace_reader.specs.Values.{◌>>=◌, both, byte, small, buffer, request, fence, item, sent, made, mark, digest, command_word}
-use Rattle.trace_reader.specs.Lines.{nothing, shape, one_of, two_of, one, two, up_to_four, refusal, submission, acceptance, reply_of, call_with, call_of, send_of, no_fence, returned_buffer, filled_behind, failed_behind, buffer_of, one_frame, error_buffer, error_of}
-use Rattle.trace_reader.proofs.Means.{bind-ok, both-ok, chosen, if-ok, text-is, byte-is, small-is, numbered-is, fence-is, item-is, mark-is, word-is, digest-is}
+use Rattle.trace_reader.specs.Values.{◌>>=◌, both, byte, small, buffer, device_fence, request, fence, item, sent, made, mark, digest}
+use Rattle.command_words.specs.Words.{command_word}
+use Rattle.text_parts.specs.Words.{one_of, two_of}
+use Rattle.trace_reader.specs.Lines.{nothing, shape, one, two, up_to_four, refusal, submission, acceptance, reply_of, call_with, call_of, send_of, no_fence, returned_buffer, filled_behind, failed_behind, buffer_of, early_behind, early_of, one_frame, error_buffer, error_of}
+use Rattle.basic_lemmas.proofs.Tests.{chosen}
+use Rattle.trace_reader.proofs.Means.{bind-ok, both-ok, if-ok, text-is, byte-is, small-is, numbered-is, fence-is, item-is, mark-is, digest-is}
+use Rattle.command_words.proofs.Texts.{word-is}
 use Rattle.trace_reader.proofs.MeansLines.{shape-ok, one-is, two-is, one-ok, two-ok, finish, words-1, words-2, same-cons, targets-are, streams-are}
 
 -- ---- sends
@@ -193,6 +197,25 @@ buffer-is (n ∷ s ∷ b ∷ how ∷ ws) e h = elim (chosen (bytes_eq how (codes
       let k = failed-is n s b ws e q.1 in
       (ap (λ (x : List ℕ). codes "buffer" ∷ n ∷ s ∷ b ∷ x ∷ ws) (text-is how (codes "error") q.0) ∙ k.0, k.1)
 ]
+
+early-behind : (n s b : List ℕ) (ws : List (List ℕ)) (e : Entry) → early_behind (returned_buffer n s b) ws ≡ Ok e → (codes "early" ∷ n ∷ s ∷ b ∷ ws ≡ entry_words e) × (is_printable e ≡ true)
+early-behind n s b ws e h =
+    let k = bind-ok (shape (one_of ws)) _ e h in
+    let m = bind-ok (both (returned_buffer n s b) (device_fence k.0)) _ e k.2 in
+    let p = both-ok (returned_buffer n s b) (device_fence k.0) m.0.0 m.0.1 m.1 in
+    let place = place-is n s b m.0.0.0 m.0.0.1 m.0.0.2 ws p.0 in
+    let f = numbered-is 100 k.0 m.0.1 p.1 in
+    let one = one-is ws k.0 (shape-ok (one_of ws) k.0 k.1) in
+    finish (codes "early" ∷ n ∷ s ∷ b ∷ ws) (Early (record { 0 = m.0.0.0 }) (record { 0 = m.0.0.1 }) (record { 0 = m.0.0.2 }) (record { 0 = m.0.1 })) e (cc)
+    (ap (λ (x : List (List ℕ)). codes "early" ∷ x) (place.0 ∙ ap (place_words m.0.0.0 m.0.0.1 m.0.0.2) (one ∙ ap (λ (x : List ℕ). x ∷ []) f.0)))
+    (and_from _ _ place.1 f.1)
+
+pub early-is : (ws : List (List ℕ)) (e : Entry) → early_of ws ≡ Ok e → (codes "early" ∷ ws ≡ entry_words e) × (is_printable e ≡ true)
+unfolding early_of
+early-is [] e h = absurd (cc)
+early-is (n ∷ []) e h = absurd (cc)
+early-is (n ∷ s ∷ []) e h = absurd (cc)
+early-is (n ∷ s ∷ b ∷ ws) e h = early-behind n s b ws e h
 
 -- ---- errors
 

@@ -9,14 +9,17 @@ use Rattle.cam_types.specs.declared.reply.Made.{Made}
 use Rattle.cam_types.specs.declared.script.Word.{Word}
 use Rattle.trace_model.specs.Printable.{is_filled, sent_fits, made_fits, is_waiting_word, is_printable}
 use Rattle.trace_model.specs.declared.entry.Entry.{Entry}
-use Rattle.trace_model.specs.declared.entry.Entry.TheVariants.{Begin, Dropped, Shutter, Release, Signal}
+use Rattle.trace_model.specs.declared.entry.Entry.TheVariants.{Begin, Dropped, Shutter, Release, Signal, Late}
 use Rattle.trace_model.specs.declared.entry.Sent.{Sent}
 use Rattle.trace_text.specs.Spelling.{sent_text, made_text, made_words, entry_words}
 use Rattle.trace_reader.specs.declared.cause.Cause.{Cause}
 use Rattle.trace_reader.specs.declared.cause.Cause.TheVariants.{BadLine}
-use Rattle.trace_reader.specs.Values.{both, small, large, buffer, fence_number, item, sent, made, command_word}
-use Rattle.trace_reader.specs.Lines.{shape, one_of, two_of, one, two, each, up_to_four, waiting_word, begin_of, drop_of, shutter_of, release_of, signal_of}
-use Rattle.trace_reader.proofs.Means.{bind-ok, both-ok, if-ok, small-is, large-is, numbered-is, item-is, sent-is, made-is, word-is}
+use Rattle.trace_reader.specs.Values.{both, small, large, buffer, fence_number, device_fence, digest, item, sent, made}
+use Rattle.command_words.specs.Words.{command_word}
+use Rattle.text_parts.specs.Words.{one_of, two_of}
+use Rattle.trace_reader.specs.Lines.{shape, one, two, each, up_to_four, waiting_word, begin_of, drop_of, shutter_of, release_of, signal_of, late_of}
+use Rattle.trace_reader.proofs.Means.{bind-ok, both-ok, if-ok, small-is, large-is, numbered-is, digest-is, item-is, sent-is, made-is}
+use Rattle.command_words.proofs.Texts.{word-is}
 
 -- ---- so many words
 
@@ -90,6 +93,14 @@ signal-is ws e h =
     let p = one-ok fence_number ws s.0 s.1 in
     let f = numbered-is 102 p.0 s.0 p.2 in
     finish (codes "signal" ∷ ws) (Signal (record { 0 = s.0 })) e (cc) (words-1 (codes "signal") ws p.0 _ p.1 f.0) f.1
+
+pub late-is : (ws : List (List ℕ)) (e : Entry) → late_of ws ≡ Ok e → (codes "filled" ∷ ws ≡ entry_words e) × (is_printable e ≡ true)
+late-is ws e h =
+    let s = bind-ok (two device_fence digest ws) _ e h in
+    let p = two-ok device_fence digest ws s.0.0 s.0.1 s.1 in
+    let f = numbered-is 100 p.0.0 s.0.0 p.2 in
+    let d = digest-is p.0.1 s.0.1 p.3 in
+    finish (codes "filled" ∷ ws) (Late (record { 0 = s.0.0 }) s.0.1) e (cc) (words-2 (codes "filled") ws p.0.0 p.0.1 _ _ p.1 f.0 d.0) (and_from _ _ f.1 d.1)
 
 waiting-is : (o : Option Word) (word : Word) → waiting_word o ≡ Ok word → (o ≡ Some word) × (is_waiting_word word ≡ true)
 waiting-is None word h = absurd (cc)

@@ -1,5 +1,5 @@
 -- A part that is read is the one whose packed form was read.
-use Rattle.std.proofs.Common.{◌≡◌, ℕ, ◌^◌, Bool, true, false, cond, eqb, List, [], ◌∷◌, length, Option, None, Some, Result, Ok, Err, refl, sym, ap, subst, ◌∙◌, inl, inr, arith}
+use Rattle.std.proofs.Common.{◌≡◌, ℕ, ◌^◌, true, cond, eqb, List, [], ◌∷◌, length, Option, None, Some, Result, Ok, Err, refl, sym, ap, subst, ◌∙◌, inl, inr, arith}
 use Rattle.std.specs.Prelude.{pos}
 use Rattle.std.proofs.lemmas.Bool.{and_from, eqb-true, lt-ltb}
 use Rattle.cam_types.specs.Metadata.{pattern_tag, level_tag, exposure_tag, sensitivity_tag, timestamp_tag}
@@ -18,15 +18,11 @@ use Rattle.meta_rules.specs.Parts.{◌>>=◌, part_entries, part_in, look_in, li
 use Rattle.meta_rules.proofs.Parts.{byte_is, int32_is, int64_is, one_entry, two_entries}
 use Rattle.trace_model.specs.Printable.{part_fits}
 use Rattle.trace_reader.specs.Lines.{part_from, metadata_is, metadata}
-use Rattle.trace_reader.proofs.Means.{chosen}
+use Rattle.basic_lemmas.proofs.Tests.{chosen, given-where}
 
 bind-some : {A B : Type 0} (o : Option A) (f : A → Option B) (y : B) → (o >>= f) ≡ Some y → (x : A) × (o ≡ Some x) × (f x ≡ Some y)
 bind-some (Some x) f y h = (x, refl, h)
 bind-some None f y h = absurd (cc)
-
-if-some : {A : Type 0} (b : Bool) (x y : A) → cond b (Some x) None ≡ Some y → (b ≡ true) × (x ≡ y)
-if-some true x y h = (refl, cc)
-if-some false x y h = absurd (cc)
 
 abbrev IsPart : ℕ → List Entry → Part → Type 0
 IsPart k es part = (es ≡ part_entries part) × (part_fits k part ≡ true)
@@ -38,7 +34,7 @@ look-is : (es : List Entry) (part : Part) → IsPacked es → NumbersFit es → 
 look-is es part packed fit h =
     let a = bind-some (one_byte (values_at pattern_tag es)) _ part h in
     let b = bind-some (one_int32 (values_at level_tag es)) _ part a.2 in
-    let c = if-some (eqb (length es) 2) (Look a.0 b.0) part b.2 in
+    let c = given-where (eqb (length es) 2) (Look a.0 b.0) part b.2 in
     let e : es ≡ part_entries (Look a.0 b.0) = two_entries es pattern_tag level_tag (Bytes (a.0 ∷ [])) (Int32 (pos b.0 ∷ [])) (omega arith) packed.ascending (eqb-true (length es) 2 c.0) (byte_is (values_at pattern_tag es) a.0 a.1) (int32_is (values_at level_tag es) b.0 b.1) in
     let n : NumbersFit (part_entries (Look a.0 b.0)) = subst NumbersFit e fit in
     moved 1 es (Look a.0 b.0) part c.1 e (and_from _ _ refl (and_from _ _ (lt-ltb a.0 (2 ^ 8) n.0.0) (lt-ltb b.0 (2 ^ 31) n.1.0.0.sfits)))
@@ -47,7 +43,7 @@ light-is : (es : List Entry) (part : Part) → IsPacked es → NumbersFit es →
 light-is es part packed fit h =
     let a = bind-some (one_int64 (values_at exposure_tag es)) _ part h in
     let b = bind-some (one_int32 (values_at sensitivity_tag es)) _ part a.2 in
-    let c = if-some (eqb (length es) 2) (Light a.0 b.0) part b.2 in
+    let c = given-where (eqb (length es) 2) (Light a.0 b.0) part b.2 in
     let e : es ≡ part_entries (Light a.0 b.0) = two_entries es exposure_tag sensitivity_tag (Int64 (pos a.0 ∷ [])) (Int32 (pos b.0 ∷ [])) (omega arith) packed.ascending (eqb-true (length es) 2 c.0) (int64_is (values_at exposure_tag es) a.0 a.1) (int32_is (values_at sensitivity_tag es) b.0 b.1) in
     let n : NumbersFit (part_entries (Light a.0 b.0)) = subst NumbersFit e fit in
     moved 2 es (Light a.0 b.0) part c.1 e (and_from _ _ refl (and_from _ _ (lt-ltb a.0 (2 ^ 63) n.0.0.sfits) (lt-ltb b.0 (2 ^ 31) n.1.0.0.sfits)))
@@ -55,7 +51,7 @@ light-is es part packed fit h =
 time-is : (es : List Entry) (part : Part) → IsPacked es → NumbersFit es → time_in es ≡ Some part → IsPart 3 es part
 time-is es part packed fit h =
     let a = bind-some (one_int64 (values_at timestamp_tag es)) _ part h in
-    let c = if-some (eqb (length es) 1) (Time a.0) part a.2 in
+    let c = given-where (eqb (length es) 1) (Time a.0) part a.2 in
     let e : es ≡ part_entries (Time a.0) = one_entry es timestamp_tag (Int64 (pos a.0 ∷ [])) (eqb-true (length es) 1 c.0) (int64_is (values_at timestamp_tag es) a.0 a.1) in
     let n : NumbersFit (part_entries (Time a.0)) = subst NumbersFit e fit in
     moved 3 es (Time a.0) part c.1 e (and_from _ _ refl (lt-ltb a.0 (2 ^ 63) n.0.0.sfits))

@@ -1,27 +1,32 @@
 -- A text that is read is the spelling of its trace.
-use Rattle.std.proofs.Common.{◌≡◌, ℕ, ◌+◌, true, ◌&&◌, cond, eqb, List, [], ◌∷◌, ◌++◌, Option, None, Some, Result, Ok, Err, refl, sym, ap, ◌∙◌, inl, inr, append_assoc}
+use Rattle.std.proofs.Common.{◌≡◌, ℕ, ◌+◌, true, ◌&&◌, cond, List, [], ◌∷◌, ◌++◌, Option, None, Some, Result, Ok, Err, refl, sym, ap, subst, ◌∙◌, inl, inr, append_assoc}
 use Rattle.std.specs.Prelude.{codes, bytes_eq}
-use Rattle.std.specs.List.{flat_map, join_by, list_all, onto_first}
-use Rattle.std.proofs.lemmas.Bool.{cases_Bool, and_from, eqb-true}
+use Rattle.std.specs.List.{flat_map, join_by, list_all}
+use Rattle.std.proofs.lemmas.Bool.{cases_Bool, and_from}
 use Rattle.hex.specs.Hex.{encode_lower}
 use Rattle.trace_model.specs.Printable.{is_printable}
 use Rattle.trace_model.specs.declared.entry.Entry.{Entry}
 use Rattle.trace_model.specs.declared.entry.Entry.TheVariants.{Partial}
-use Rattle.trace_text.specs.Spelling.{line_text, entry_words, line_of, spelling}
+use Rattle.trace_model.specs.declared.list.TraceList.{TraceList}
+use Rattle.cam_types.specs.declared.profile.Profile.{Profile}
+use Rattle.text_parts.specs.Lines.{line_text}
+use Rattle.trace_text.specs.Spelling.{entry_words, line_of, first_words, first_line_fits, first_line_of, spelling}
 use Rattle.trace_reader.specs.declared.cause.Cause.{Cause}
 use Rattle.trace_reader.specs.declared.cause.Cause.TheVariants.{BadLine}
 use Rattle.trace_reader.specs.declared.cause.TraceRefused.{TraceRefused}
 use Rattle.trace_reader.specs.declared.line.Kind.{Kind}
 use Rattle.trace_reader.specs.declared.line.Kind.TheVariants as kind
-use Rattle.trace_reader.specs.Words.{parts_at, words_of}
-use Rattle.trace_reader.specs.Values.{◌>>=◌, small, part_number, hex_bytes}
-use Rattle.trace_reader.specs.Lines.{shape, three_of, metadata, partial_of, kind_of, entry_in, entry_with, entry_by, is_plain, entry_of}
-use Rattle.trace_reader.specs.Grammar.{at_line, with_entry, after_end, entries_from, trace_from, trace_of}
-use Rattle.trace_reader.specs.declared.cause.TraceRefused.TheVariants.{Bad}
-use Rattle.trace_reader.proofs.Cuts.{parts_some}
-use Rattle.trace_reader.proofs.Means.{bind-ok, chosen, if-ok, text-is, small-is, part_number-is, hex-is}
-use Rattle.trace_reader.proofs.MeansLines.{shape-ok, finish, same-cons, drop-is, shutter-is, release-is, signal-is, begin-is}
-use Rattle.trace_reader.proofs.MeansEntries.{send-is, call-is, buffer-is, error-is}
+use Rattle.text_parts.specs.Cuts.{parts_at}
+use Rattle.text_parts.specs.Words.{strict_words}
+use Rattle.trace_reader.specs.Values.{◌>>=◌, both, profile_number, small, part_number, hex_bytes}
+use Rattle.text_parts.specs.Words.{three_of}
+use Rattle.trace_reader.specs.Lines.{shape, no_profile, profile_of, version_of, first_by, named_profile, metadata, partial_of, kind_of, entry_in, entry_with, entry_by, is_plain_line, entry_of}
+use Rattle.trace_reader.specs.Grammar.{at_line, with_entry, with_profile, after_end, entries_from, trace_from, trace_of}
+use Rattle.text_parts.proofs.Joined.{join-cut}
+use Rattle.basic_lemmas.proofs.Tests.{chosen}
+use Rattle.trace_reader.proofs.Means.{bind-ok, both-ok, profile-number-is, if-ok, text-is, small-is, part_number-is, hex-is}
+use Rattle.trace_reader.proofs.MeansLines.{shape-ok, finish, same-cons, drop-is, shutter-is, release-is, signal-is, late-is, begin-is}
+use Rattle.trace_reader.proofs.MeansEntries.{send-is, call-is, buffer-is, early-is, error-is}
 use Rattle.trace_reader.proofs.MeansParts.{metadata-means}
 
 three-is : (ws : List (List ℕ)) (p : List ℕ × List ℕ × List ℕ) → three_of ws ≡ Some p → ws ≡ p.0 ∷ p.1 ∷ p.2 ∷ []
@@ -71,42 +76,21 @@ entry_with-is w ws e h =
     kind-step w (codes "buffer") ws e kind.Buffer _ h6 (buffer-is ws e) (λ h7.
     kind-step w (codes "error") ws e kind.Error _ h7 (error-is ws e) (λ h8.
     kind-step w (codes "release") ws e kind.Release _ h8 (release-is ws e) (λ h9.
-    kind-step w (codes "signal") ws e kind.Signal None h9 (signal-is ws e) (λ h10. absurd (cc)))))))))))
+    kind-step w (codes "signal") ws e kind.Signal _ h9 (signal-is ws e) (λ h10.
+    kind-step w (codes "early") ws e kind.Early _ h10 (early-is ws e) (λ h11.
+    kind-step w (codes "filled") ws e kind.Late None h11 (late-is ws e) (λ h12. absurd (cc)))))))))))))
 
 entry_by-is : (ws : List (List ℕ)) (e : Entry) → entry_by ws ≡ Ok e → IsLine ws e
 entry_by-is [] e h = absurd (cc)
 entry_by-is (w ∷ ws) e h = entry_with-is w ws e h
-
--- ---- what was cut, joined again
-
-join-onto : (c x : ℕ) (ps : List (List ℕ)) → join_by (λ (w : List ℕ). w) (c ∷ []) (onto_first x ps) ≡ x ∷ join_by (λ (w : List ℕ). w) (c ∷ []) ps
-join-onto c x [] = refl
-join-onto c x (p ∷ ps) = refl
-
--- some part and the rest
-join-empty : (c : ℕ) (p : List ℕ) (ps : List (List ℕ)) → join_by (λ (w : List ℕ). w) (c ∷ []) ([] ∷ p ∷ ps) ≡ c ∷ join_by (λ (w : List ℕ). w) (c ∷ []) (p ∷ ps)
-join-empty c p ps = refl
-
-join-first : (c x : ℕ) (xs : List ℕ) → eqb x c ≡ true → join_by (λ (w : List ℕ). w) (c ∷ []) (parts_at c xs) ≡ xs → join_by (λ (w : List ℕ). w) (c ∷ []) ([] ∷ parts_at c xs) ≡ x ∷ xs
-join-first c x xs t ih =
-    let s = parts_some c xs in
-    let ih' = rw s.2 at ih in
-    rw s.2 (rw (eqb-true x c t) (ap (λ (ys : List ℕ). c ∷ ys) ih'))
-
-join-cut : (c : ℕ) (xs : List ℕ) → join_by (λ (w : List ℕ). w) (c ∷ []) (parts_at c xs) ≡ xs
-join-cut c [] = refl
-join-cut c (x ∷ xs) = elim (cases_Bool (eqb x c)) [
-  | inl t ↦ rw t (join-first c x xs t (join-cut c xs))
-  | inr f ↦ rw f (join-onto c x (parts_at c xs) ∙ ap (λ (ys : List ℕ). x ∷ ys) (join-cut c xs))
-]
 
 -- ---- lines and texts
 
 line-is : (line : List ℕ) (e : Entry) → entry_of line ≡ Ok e → (line ++ 10 ∷ [] ≡ line_of e) × (is_printable e ≡ true)
 unfolding entry_of line_of
 line-is line e h =
-    let p = if-ok (is_plain line) (entry_by (words_of line)) BadLine e h in
-    let k = entry_by-is (words_of line) e p.1 in
+    let p = if-ok (is_plain_line line) (entry_by (strict_words line)) BadLine e h in
+    let k = entry_by-is (strict_words line) e p.1 in
     (ap (λ (x : List ℕ). x ++ 10 ∷ []) (sym (join-cut 32 line)) ∙ ap line_text k.0, k.1)
 
 abbrev lines : List (List ℕ) → List ℕ
@@ -123,9 +107,9 @@ with-is : (r : Result (List Entry) TraceRefused) (e : Entry) (entries : List Ent
 with-is (Ok es) e entries h = (es, refl, cc)
 with-is (Err c) e entries h = absurd (cc)
 
-at-is : (n : ℕ) (r : Result Entry Cause) (f : Entry → Result (List Entry) TraceRefused) (entries : List Entry) → at_line n r f ≡ Ok entries → (e : Entry) × (r ≡ Ok e) × (f e ≡ Ok entries)
-at-is n (Ok e) f entries h = (e, refl, h)
-at-is n (Err c) f entries h = absurd (cc)
+at-is : {A B : Type 0} (n : ℕ) (r : Result A Cause) (f : A → Result B TraceRefused) (y : B) → at_line n r f ≡ Ok y → (x : A) × (r ≡ Ok x) × (f x ≡ Ok y)
+at-is n (Ok x) f y h = (x, refl, h)
+at-is n (Err c) f y h = absurd (cc)
 
 abbrev last_line : List ℕ
 last_line = line_text (codes "end" ∷ [])
@@ -153,20 +137,81 @@ entries-are n (line ∷ part ∷ parts) entries h = elim (chosen (bytes_eq line 
       (text ∙ ap (λ (x : List Entry). flat_map line_of x ++ last_line) b.2, sym (ap (list_all is_printable) b.2) ∙ fits)
 ]
 
-from-is : (n : ℕ) (parts : List (List ℕ)) (entries : List Entry) → trace_from n parts ≡ Ok entries → (lines parts ≡ line_text (codes "trace" ∷ codes "1" ∷ []) ++ (flat_map line_of entries ++ last_line)) × (list_all is_printable entries ≡ true)
-unfolding trace_from
-from-is n [] entries h = absurd (cc)
-from-is n (line ∷ []) entries h = absurd (cc)
-from-is n (line ∷ part ∷ parts) entries h = elim (chosen (bytes_eq line (codes "trace 1")) (entries_from (n + 1) (part ∷ parts)) (Err (Bad n BadLine)) (Ok entries) h) [
-  | inl p ↦
-      let k = entries-are (n + 1) (part ∷ parts) entries p.1 in
-      (ap (λ (x : List ℕ). lines (x ∷ part ∷ parts)) (text-is line (codes "trace 1") p.0) ∙ ap (λ (x : List ℕ). line_text (codes "trace" ∷ codes "1" ∷ []) ++ x) k.0, k.1)
-  | inr p ↦ absurd (let bad = p.1 in cc)
+-- ---- the first line
+
+profile-is : (ws : List (List ℕ)) (profile : Option Profile) → profile_of ws ≡ Ok profile → (codes "trace" ∷ codes "2" ∷ ws ≡ first_words profile) × (first_line_fits profile ≡ true)
+profile-is ws profile h =
+    let w = bind-ok (shape (three_of ws)) _ profile h in
+    let m = bind-ok (both (profile_number w.0.0) (both (profile_number w.0.1) (profile_number w.0.2))) _ profile w.2 in
+    let p = both-ok (profile_number w.0.0) (both (profile_number w.0.1) (profile_number w.0.2)) m.0.0 m.0.1 m.1 in
+    let q = both-ok (profile_number w.0.1) (profile_number w.0.2) m.0.1.0 m.0.1.1 p.1 in
+    let depth = profile-number-is w.0.0 m.0.0 p.0 in
+    let raw = profile-number-is w.0.1 m.0.1.0 q.0 in
+    let yuv = profile-number-is w.0.2 m.0.1.1 q.1 in
+    let e : Some (record { depth = m.0.0; raw = m.0.1.0; yuv = m.0.1.1 }) ≡ profile = cc in
+    let text : codes "trace" ∷ codes "2" ∷ ws ≡ first_words (Some (record { depth = m.0.0; raw = m.0.1.0; yuv = m.0.1.1 })) =
+    ap (λ (x : List (List ℕ)). codes "trace" ∷ codes "2" ∷ x) (three-is ws w.0 (shape-ok (three_of ws) w.0 w.1) ∙ same-cons w.0.0 _ (w.0.1 ∷ w.0.2 ∷ []) _ depth.0 (same-cons w.0.1 _ (w.0.2 ∷ []) _ raw.0 (ap (λ (x : List ℕ). x ∷ []) yuv.0))) in
+    let fits : first_line_fits (Some (record { depth = m.0.0; raw = m.0.1.0; yuv = m.0.1.1 })) ≡ true = and_from _ _ depth.1 (and_from _ _ raw.1 yuv.1) in
+    (text ∙ ap first_words e, sym (ap first_line_fits e) ∙ fits)
+
+none-is : (ws : List (List ℕ)) (profile : Option Profile) → no_profile ws ≡ Ok profile → (codes "trace" ∷ codes "1" ∷ ws ≡ first_words profile) × (first_line_fits profile ≡ true)
+none-is [] profile h = let e : None ≡ profile = cc in (ap first_words e, sym (ap first_line_fits e))
+none-is (w ∷ ws) profile h = absurd (cc)
+
+version-is : (ws : List (List ℕ)) (profile : Option Profile) → version_of ws ≡ Ok profile → (codes "trace" ∷ ws ≡ first_words profile) × (first_line_fits profile ≡ true)
+unfolding version_of
+version-is [] profile h = absurd (cc)
+version-is (v ∷ ws) profile h = elim (chosen (bytes_eq v (codes "1")) (no_profile ws) (cond (bytes_eq v (codes "2")) (profile_of ws) (Err BadLine)) (Ok profile) h) [
+  | inl p ↦ (let k = none-is ws profile p.1 in (ap (λ (x : List ℕ). codes "trace" ∷ x ∷ ws) (text-is v (codes "1") p.0) ∙ k.0, k.1))
+  | inr p ↦
+      let q = if-ok (bytes_eq v (codes "2")) (profile_of ws) BadLine profile p.1 in
+      let k = profile-is ws profile q.1 in
+      (ap (λ (x : List ℕ). codes "trace" ∷ x ∷ ws) (text-is v (codes "2") q.0) ∙ k.0, k.1)
 ]
 
+first-is : (ws : List (List ℕ)) (profile : Option Profile) → first_by ws ≡ Ok profile → (ws ≡ first_words profile) × (first_line_fits profile ≡ true)
+first-is [] profile h = absurd (cc)
+first-is (w ∷ ws) profile h =
+    let p = if-ok (bytes_eq w (codes "trace")) (version_of ws) BadLine profile h in
+    let k = version-is ws profile p.1 in
+    (ap (λ (x : List ℕ). x ∷ ws) (text-is w (codes "trace") p.0) ∙ k.0, k.1)
+
+named-is : (line : List ℕ) (profile : Option Profile) → named_profile line ≡ Ok profile → (line ++ 10 ∷ [] ≡ first_line_of profile) × (first_line_fits profile ≡ true)
+unfolding named_profile first_line_of
+named-is line profile h =
+    let p = if-ok (is_plain_line line) (first_by (strict_words line)) BadLine profile h in
+    let k = first-is (strict_words line) profile p.1 in
+    (ap (λ (x : List ℕ). x ++ 10 ∷ []) (sym (join-cut 32 line)) ∙ ap line_text k.0, k.1)
+
+-- ---- a whole text
+
+abbrev trace_with : Option Profile → List Entry → TraceList
+trace_with profile entries = record { profile = profile; entries = entries }
+
+profiled-is : (profile : Option Profile) (r : Result (List Entry) TraceRefused) (trace : TraceList) → with_profile profile r ≡ Ok trace → (es : List Entry) × (r ≡ Ok es) × (trace_with profile es ≡ trace)
+profiled-is profile (Ok es) trace h = (es, refl, cc)
+profiled-is profile (Err c) trace h = absurd (cc)
+
+abbrev IsSpelled : List ℕ → TraceList → Type 0
+IsSpelled text trace = (text ≡ first_line_of trace.profile ++ (flat_map line_of trace.entries ++ last_line)) × (first_line_fits trace.profile ≡ true) × (list_all is_printable trace.entries ≡ true)
+
+from-is : (n : ℕ) (parts : List (List ℕ)) (trace : TraceList) → trace_from n parts ≡ Ok trace → IsSpelled (lines parts) trace
+unfolding trace_from
+from-is n [] trace h = absurd (cc)
+from-is n (line ∷ []) trace h = absurd (cc)
+from-is n (line ∷ part ∷ parts) trace h =
+    let a = at-is n (named_profile line) (λ profile. with_profile profile (entries_from (n + 1) (part ∷ parts))) trace h in
+    let b = profiled-is a.0 (entries_from (n + 1) (part ∷ parts)) trace a.2 in
+    let l = named-is line a.0 a.1 in
+    let k = entries-are (n + 1) (part ∷ parts) b.0 b.1 in
+    let text : lines (line ∷ part ∷ parts) ≡ first_line_of a.0 ++ (flat_map line_of b.0 ++ last_line) =
+    sym (append_assoc line (10 ∷ []) (lines (part ∷ parts))) ∙ (ap (λ (x : List ℕ). x ++ lines (part ∷ parts)) l.0 ∙ ap (λ (x : List ℕ). first_line_of a.0 ++ x) k.0) in
+    let whole : IsSpelled (lines (line ∷ part ∷ parts)) (trace_with a.0 b.0) = (text, l.1, k.1) in
+    subst (IsSpelled (lines (line ∷ part ∷ parts))) b.2 whole
+
 -- a text means a trace only where it is that trace's spelling
-pub trace-is : (n : ℕ) (text : List ℕ) (trace : List Entry) → trace_of n text ≡ Ok trace → (text ≡ spelling trace) × (list_all is_printable trace ≡ true)
+pub trace-is : (n : ℕ) (text : List ℕ) (trace : TraceList) → trace_of n text ≡ Ok trace → (text ≡ spelling trace.profile trace.entries) × (first_line_fits trace.profile ≡ true) × (list_all is_printable trace.entries ≡ true)
 unfolding trace_of spelling
 trace-is n text trace h =
     let k = from-is n (parts_at 10 text) trace h in
-    (sym (join-cut 10 text) ∙ k.0, k.1)
+    (sym (join-cut 10 text) ∙ k.0, k.1, k.2)

@@ -1,13 +1,16 @@
 -- The words of an entry's line are words: they aren't empty and have no space.
-use Rattle.std.proofs.Common.{◌≡◌, ℕ, ◌+◌, ◌<◌, ◌≤◌, ◌^◌, Bool, true, false, ◌&&◌, not, eqb, ltb, List, [], ◌∷◌, ◌++◌, length, map, Option, None, Some, refl, arith}
+use Rattle.command_words.proofs.Texts.{a-word}
+use Rattle.std.proofs.Common.{◌≡◌, ℕ, ◌+◌, ◌<◌, ◌≤◌, ◌^◌, Bool, true, false, ◌&&◌, not, eqb, ltb, leb, List, [], ◌∷◌, ◌++◌, length, map, Option, None, Some, refl, arith}
 use Rattle.std.specs.Prelude.{codes, decimal, is_some}
 use Rattle.std.specs.List.{list_all}
-use Rattle.std.proofs.lemmas.Bool.{and_parts, and_from, eqb-true, ltb-true, false≢true}
+use Rattle.std.proofs.lemmas.Bool.{and_parts, and_from, eqb-true, ltb-true, leb-true, false≢true}
 use Rattle.std.proofs.lemmas.Bool.Decides.{nat_tests}
 use Rattle.std.proofs.lemmas.List.{length-append}
 use Rattle.cam_types.specs.Four.{four_list}
 use Rattle.cam_types.specs.declared.four.Four.{Four}
 use Rattle.cam_types.specs.declared.number.FenceNo.{FenceNo}
+use Rattle.cam_types.specs.Profile.{is_profile_number}
+use Rattle.cam_types.specs.declared.profile.Profile.{Profile}
 use Rattle.cam_types.specs.declared.part.Part.{Part}
 use Rattle.cam_types.specs.declared.part.Part.TheVariants.{Look, Light, Time}
 use Rattle.cam_types.specs.declared.reply.Made.{Made}
@@ -21,20 +24,20 @@ use Rattle.metadata.specs.Spelling.{bytes_of}
 use Rattle.meta_rules.specs.Parts.{part_entries}
 use Rattle.trace_model.specs.Printable.{is_small, is_byte, fence_fits, number_fits, is_filled, sent_fits, made_fits, reply_fits, part_fits, is_digest, is_printable}
 use Rattle.trace_model.specs.declared.entry.Entry.{Entry}
-use Rattle.trace_model.specs.declared.entry.Entry.TheVariants.{Begin, Call, Send, Dropped, Shutter, Partial, Filled, Failed, ErrorRequest, ErrorResult, ErrorBuffer, ErrorDevice, Release, Signal}
+use Rattle.trace_model.specs.declared.entry.Entry.TheVariants.{Begin, Call, Send, Dropped, Shutter, Partial, Filled, Failed, ErrorRequest, ErrorResult, ErrorBuffer, ErrorDevice, Release, Signal, Early, Late}
 use Rattle.trace_model.specs.declared.entry.Sent.{Sent}
-use Rattle.trace_text.specs.Spelling.{word_text, buffer_text, fence_text, request_text, item_text, mark_text, sent_text, made_text, made_words, reply_words, entry_words}
+use Rattle.trace_text.specs.Spelling.{buffer_text, device_fence, fence_text, request_text, item_text, mark_text, sent_text, made_text, made_words, reply_words, entry_words, first_words, first_line_fits}
 use Rattle.trace_reader.specs.Values.{is_lower_digit}
-use Rattle.trace_reader.proofs.AgainWords.{is_plain, is_word, all-weaker, number-plain, number-word, plain-append}
+use Rattle.text_parts.specs.Words.{is_plain, is_word}
+use Rattle.text_parts.proofs.Joined.{plain-append, word-from}
+use Rattle.text_parts.proofs.Spelled.{number-plain, number-word}
+use Rattle.basic_lemmas.proofs.Lists.{all-where}
 use Rattle.trace_reader.proofs.AgainValues.{small-64, byte-64, hex-lower, all-bytes}
 use Rattle.trace_reader.proofs.AgainLines.{part-bytes, four-few}
 use Rattle.trace_reader.proofs.PartBytes.{part-some}
 
-from-plain : (w : List ℕ) → list_all is_plain w ≡ true → 0 < length w → is_word w ≡ true
-from-plain w h l = and_from _ _ h (grind (arith, nat_tests))
-
 letter-word : (c n : ℕ) → is_plain c ≡ true → is_small n ≡ true → is_word (c ∷ decimal n) ≡ true
-letter-word c n h k = from-plain (c ∷ decimal n) (and_from _ _ h (number-plain n (small-64 n k))) (omega arith)
+letter-word c n h k = word-from (c ∷ decimal n) (and_from _ _ h (number-plain n (small-64 n k))) (omega arith)
 
 fence-plain : (f : Option FenceNo) → fence_fits f ≡ true → list_all is_plain (fence_text f) ≡ true
 fence-plain None h = refl
@@ -45,34 +48,22 @@ fence-is-word None h = refl
 fence-is-word (Some f) h = letter-word 102 f.0 refl h
 
 item-is-word : (r i : ℕ) → is_small r ≡ true → is_small i ≡ true → is_word (item_text r i) ≡ true
-item-is-word r i h k = from-plain (item_text r i) (plain-append (request_text r) (46 ∷ decimal i) (number-plain r (small-64 r h)) (number-plain i (small-64 i k))) (omega arith)
+item-is-word r i h k = word-from (item_text r i) (plain-append (request_text r) (46 ∷ decimal i) (number-plain r (small-64 r h)) (number-plain i (small-64 i k))) (omega arith)
 
 sent-is-word : (t : Sent) → sent_fits t ≡ true → is_word (sent_text t) ≡ true
 sent-is-word t h =
     let p = and_parts (is_byte t.stream.0) _ h in
     let q = and_parts (is_small t.buffer.0) (fence_fits t.fence) p.1 in
     let back : list_all is_plain (buffer_text t.buffer.0 ++ 58 ∷ fence_text t.fence) ≡ true = plain-append (buffer_text t.buffer.0) (58 ∷ fence_text t.fence) (number-plain t.buffer.0 (small-64 t.buffer.0 q.0)) (fence-plain t.fence q.1) in
-    from-plain (sent_text t) (plain-append (decimal t.stream.0) (58 ∷ (buffer_text t.buffer.0 ++ 58 ∷ fence_text t.fence)) (number-plain t.stream.0 (byte-64 t.stream.0 p.0)) back)
+    word-from (sent_text t) (plain-append (decimal t.stream.0) (58 ∷ (buffer_text t.buffer.0 ++ 58 ∷ fence_text t.fence)) (number-plain t.stream.0 (byte-64 t.stream.0 p.0)) back)
     (omega (arith, length-append (decimal t.stream.0) (58 ∷ (buffer_text t.buffer.0 ++ 58 ∷ fence_text t.fence))))
 
 made-is-word : (s : ℕ) (m : Made) → s < 2 ^ 64 → made_fits m ≡ true → is_word (made_text s m) ≡ true
 made-is-word s m l h =
     let q = and_parts (is_small m.first.0) (is_small m.count) h in
     let back : list_all is_plain (buffer_text m.first.0 ++ 43 ∷ decimal m.count) ≡ true = plain-append (buffer_text m.first.0) (43 ∷ decimal m.count) (number-plain m.first.0 (small-64 m.first.0 q.0)) (number-plain m.count (small-64 m.count q.1)) in
-    from-plain (made_text s m) (plain-append (decimal s) (58 ∷ (buffer_text m.first.0 ++ 43 ∷ decimal m.count)) (number-plain s l) back)
+    word-from (made_text s m) (plain-append (decimal s) (58 ∷ (buffer_text m.first.0 ++ 43 ∷ decimal m.count)) (number-plain s l) back)
     (omega (arith, length-append (decimal s) (58 ∷ (buffer_text m.first.0 ++ 43 ∷ decimal m.count))))
-
-word-is-word : (w : Word) → is_word (word_text w) ≡ true
-word-is-word Configure = refl
-word-is-word Once = refl
-word-is-word Burst = refl
-word-is-word Repeat = refl
-word-is-word Stop = refl
-word-is-word Wait = refl
-word-is-word Await = refl
-word-is-word Flush = refl
-word-is-word Close = refl
-word-is-word Disconnect = refl
 
 mark-is-word : (same : Bool) → is_word (mark_text same) ≡ true
 mark-is-word true = refl
@@ -144,7 +135,7 @@ lower-plain b h = grind (arith, nat_tests)
 
 hex-word : (bytes : List ℕ) → IsBytes bytes → 0 < length bytes → is_word (encode_lower bytes) ≡ true
 hex-word bytes h l =
-    from-plain (encode_lower bytes) (all-weaker is_lower_digit is_plain lower-plain (encode_lower bytes) (hex-lower bytes h)) (omega (arith, length-encode_with lower_digits bytes))
+    word-from (encode_lower bytes) (all-where is_lower_digit is_plain (encode_lower bytes) lower-plain (hex-lower bytes h)) (omega (arith, length-encode_with lower_digits bytes))
 
 digest-word : (d : List ℕ) → is_digest d ≡ true → is_word (encode_lower d) ≡ true
 digest-word d h =
@@ -164,10 +155,10 @@ returned-words n s b ws h k =
     and_from _ _ (small-word n q.0) (and_from _ _ (byte-word s t.0) (and_from _ _ (letter-word 98 b refl t.1) k))
 
 pub entry-plain : (e : Entry) → is_printable e ≡ true → list_all is_word (entry_words e) ≡ true
-entry-plain (Begin word) h = and_from _ _ (word-is-word word) refl
+entry-plain (Begin word) h = and_from _ _ (a-word word) refl
 entry-plain (Call i word r) h =
     let p = and_parts (is_small i) (reply_fits word r) h in
-    and_from _ _ (small-word i p.0) (and_from _ _ (word-is-word word) (reply-are-words word r p.1))
+    and_from _ _ (small-word i p.0) (and_from _ _ (a-word word) (reply-are-words word r p.1))
 entry-plain (Send n r i same targets) h =
     let p = and_parts (is_small n.0 && (is_small r.0 && is_small i)) (is_filled targets && list_all sent_fits (four_list targets)) h in
     let q = and_parts (is_small n.0) (is_small r.0 && is_small i) p.0 in
@@ -201,3 +192,22 @@ entry-plain (Release b f) h =
     let p = and_parts (is_small b.0) (is_small f.0) h in
     and_from _ _ (letter-word 98 b.0 refl p.0) (and_from _ _ (letter-word 102 f.0 refl p.1) refl)
 entry-plain (Signal f) h = and_from _ _ (letter-word 102 f.0 refl h) refl
+entry-plain (Early n s b f) h =
+    let p = and_parts (is_small n.0 && (is_byte s.0 && is_small b.0)) (is_small f.0) h in
+    returned-words n.0 s.0 b.0 (device_fence f.0 ∷ []) p.0 (and_from _ _ (letter-word 100 f.0 refl p.1) refl)
+entry-plain (Late f digest) h =
+    let p = and_parts (is_small f.0) (is_digest digest) h in
+    and_from _ _ (letter-word 100 f.0 refl p.0) (and_from _ _ (digest-word digest p.1) refl)
+
+profile-word : (n : ℕ) → is_profile_number n ≡ true → is_word (decimal n) ≡ true
+profile-word n h =
+    let p = and_parts (ltb 0 n) (leb n 16) h in
+    let l = leb-true n 16 p.1 in
+    number-word n (omega arith)
+
+pub first-plain : (profile : Option Profile) → first_line_fits profile ≡ true → list_all is_word (first_words profile) ≡ true
+first-plain None h = refl
+first-plain (Some p) h =
+    let q = and_parts (is_profile_number p.depth) (is_profile_number p.raw && is_profile_number p.yuv) h in
+    let r = and_parts (is_profile_number p.raw) (is_profile_number p.yuv) q.1 in
+    and_from _ _ (profile-word p.depth q.0) (and_from _ _ (profile-word p.raw r.0) (and_from _ _ (profile-word p.yuv r.1) refl))

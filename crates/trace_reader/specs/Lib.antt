@@ -1,5 +1,4 @@
 pub mod Causes
-pub mod Words
 pub mod Values
 pub mod Lines
 pub mod Grammar

@@ -5,6 +5,7 @@ use Rattle.cam_types.specs.declared.four.Four.{Four}
 use Rattle.cam_types.specs.declared.number.FenceNo.{FenceNo}
 use Rattle.cam_types.specs.declared.number.FrameNo.{FrameNo}
 use Rattle.cam_types.specs.declared.part.Part.{Part}
+use Rattle.cam_types.specs.declared.profile.Profile.{Profile}
 use Rattle.cam_types.specs.declared.reply.Reply.{Reply}
 use Rattle.cam_types.specs.declared.reply.Reply.TheVariants as reply
 use Rattle.cam_types.specs.declared.script.Word.{Word}
@@ -15,13 +16,14 @@ use Rattle.metadata.specs.declared.refused.PackedRefused.{PackedRefused}
 use Rattle.trace_model.specs.Printable.{is_waiting_word, is_configure_word, is_submitting_word}
 use Rattle.cam_types.specs.Four.{four_of}
 use Rattle.trace_model.specs.declared.entry.Entry.{Entry}
-use Rattle.trace_model.specs.declared.entry.Entry.TheVariants.{Begin, Call, Send, Dropped, Shutter, Partial, Filled, Failed, ErrorRequest, ErrorResult, ErrorBuffer, ErrorDevice, Release, Signal}
+use Rattle.trace_model.specs.declared.entry.Entry.TheVariants.{Begin, Call, Send, Dropped, Shutter, Partial, Filled, Failed, ErrorRequest, ErrorResult, ErrorBuffer, ErrorDevice, Release, Signal, Early, Late}
 use Rattle.trace_reader.specs.declared.cause.Cause.{Cause}
 use Rattle.trace_reader.specs.declared.cause.Cause.TheVariants.{BadLine, BadMetadata}
 use Rattle.trace_reader.specs.declared.line.Kind.{Kind}
 use Rattle.trace_reader.specs.declared.line.Kind.TheVariants as kind
-use Rattle.trace_reader.specs.Values.{◌>>=◌, both, byte, small, large, buffer, fence_number, request, fence, item, sent, made, mark, part_number, hex_bytes, digest, command_word}
-use Rattle.trace_reader.specs.Words.{words_of}
+use Rattle.trace_reader.specs.Values.{◌>>=◌, both, byte, small, large, profile_number, buffer, fence_number, device_fence, request, fence, item, sent, made, mark, part_number, hex_bytes, digest}
+use Rattle.command_words.specs.Words.{command_word}
+use Rattle.text_parts.specs.Words.{strict_words, one_of, two_of, three_of}
 
 -- ---- so many words
 
@@ -32,18 +34,6 @@ nothing x _ = Err BadLine
 abbrev pub shape : {A : Type 0} → Option A → Result A Cause
 shape None = Err BadLine
 shape (Some x) = Ok x
-
-abbrev pub one_of : List (List ℕ) → Option (List ℕ)
-one_of (w ∷ []) = Some w
-one_of _ = None
-
-abbrev pub two_of : List (List ℕ) → Option (List ℕ × List ℕ)
-two_of (v ∷ w ∷ []) = Some (v, w)
-two_of _ = None
-
-abbrev pub three_of : List (List ℕ) → Option (List ℕ × List ℕ × List ℕ)
-three_of (u ∷ v ∷ w ∷ []) = Some (u, v, w)
-three_of _ = None
 
 abbrev pub one : {A : Type 0} → (List ℕ → Result A Cause) → List (List ℕ) → Result A Cause
 one read words = shape (one_of words) >>= read
@@ -203,6 +193,23 @@ release_of words = two buffer fence_number words >>= λ p. Ok (Release (record {
 abbrev pub signal_of : List (List ℕ) → Result Entry Cause
 signal_of words = one fence_number words >>= λ k. Ok (Signal (record { 0 = k }))
 
+-- ---- buffers that come back before they are filled
+
+-- `dK`
+abbrev pub early_behind : Result (ℕ × ℕ × ℕ) Cause → List (List ℕ) → Result Entry Cause
+early_behind place words =
+    shape (one_of words) >>= λ w. both place (device_fence w)
+    >>= λ p. Ok (Early (record { 0 = p.0.0 }) (record { 0 = p.0.1 }) (record { 0 = p.0.2 }) (record { 0 = p.1 }))
+
+-- `N S bB dK`
+unfoldable pub early_of : List (List ℕ) → Result Entry Cause
+early_of (n ∷ s ∷ b ∷ words) = early_behind (returned_buffer n s b) words
+early_of _ = Err BadLine
+
+-- `dK HEX`
+abbrev pub late_of : List (List ℕ) → Result Entry Cause
+late_of words = two device_fence digest words >>= λ p. Ok (Late (record { 0 = p.0 }) p.1)
+
 -- ---- a line
 
 -- the kind of a line, by its first word
@@ -218,7 +225,9 @@ kind_of word =
     else (if bytes_eq word (codes "error") then Some kind.Error
     else (if bytes_eq word (codes "release") then Some kind.Release
     else (if bytes_eq word (codes "signal") then Some kind.Signal
-    else None)))))))))
+    else (if bytes_eq word (codes "early") then Some kind.Early
+    else (if bytes_eq word (codes "filled") then Some kind.Late
+    else None)))))))))))
 
 -- a line by its kind and the words behind the first
 unfoldable pub entry_in : Kind → List (List ℕ) → Result Entry Cause
@@ -232,6 +241,8 @@ entry_in kind.Buffer words = buffer_of words
 entry_in kind.Error words = error_of words
 entry_in kind.Release words = release_of words
 entry_in kind.Signal words = signal_of words
+entry_in kind.Early words = early_of words
+entry_in kind.Late words = late_of words
 
 -- a line by its first word and the words behind it
 abbrev pub entry_with : List ℕ → List (List ℕ) → Result Entry Cause
@@ -242,8 +253,38 @@ entry_by [] = Err BadLine
 entry_by (word ∷ words) = entry_with word words
 
 -- ASCII alone, and no word is empty
-abbrev pub is_plain : List ℕ → Bool
-is_plain line = list_all (λ b. nat_lt b 128) line && list_all (λ word. not (length word == 0)) (words_of line)
+abbrev pub is_plain_line : List ℕ → Bool
+is_plain_line line = list_all (λ b. nat_lt b 128) line && list_all (λ word. not (length word == 0)) (strict_words line)
 
 unfoldable pub entry_of : List ℕ → Result Entry Cause
-entry_of line = if is_plain line then entry_by (words_of line) else Err BadLine
+entry_of line = if is_plain_line line then entry_by (strict_words line) else Err BadLine
+
+-- ---- the first line
+
+abbrev pub no_profile : List (List ℕ) → Result (Option Profile) Cause
+no_profile words = nothing None words
+
+-- `DEPTH RAW YUV`
+abbrev pub profile_of : List (List ℕ) → Result (Option Profile) Cause
+profile_of words =
+    shape (three_of words) >>= λ w. both (profile_number w.0) (both (profile_number w.1) (profile_number w.2))
+    >>= λ p. Ok (Some (record { depth = p.0; raw = p.1.0; yuv = p.1.1 }))
+
+-- the version, and the profile that the second one has
+unfoldable pub version_of : List (List ℕ) → Result (Option Profile) Cause
+version_of [] = Err BadLine
+version_of (version ∷ words) =
+    if bytes_eq version (codes "1") then no_profile words
+    else (if bytes_eq version (codes "2") then profile_of words
+    else Err BadLine)
+
+abbrev pub first_with : List ℕ → List (List ℕ) → Result (Option Profile) Cause
+first_with word words = if bytes_eq word (codes "trace") then version_of words else Err BadLine
+
+abbrev pub first_by : List (List ℕ) → Result (Option Profile) Cause
+first_by [] = Err BadLine
+first_by (word ∷ words) = first_with word words
+
+-- the profile that a first line names, if it names one
+unfoldable pub named_profile : List ℕ → Result (Option Profile) Cause
+named_profile line = if is_plain_line line then first_by (strict_words line) else Err BadLine

@@ -1,6 +1,5 @@
 -- What the readers answer.
-use Rattle.std.specs.Prelude.{ℕ, List, Result, Ok, Err, ◌≡◌}
-use Rattle.trace_model.specs.declared.entry.Entry.{Entry}
+use Rattle.std.specs.Prelude.{ℕ, Result, Ok, Err, ◌≡◌}
 use Rattle.trace_reader.specs.declared.cause.Cause.{Cause}
 use Rattle.trace_reader.specs.declared.cause.LineRefused.{LineRefused}
 use Rattle.trace_reader.specs.declared.cause.LineRefused.TheVariants as line
@@ -18,10 +17,10 @@ Gives (Ok x) read = read ≡ Ok x
 Gives (Err refused) read = Refuses refused read
 
 -- the answer is what the text means, or that memory ran out
-abbrev pub Answers : Result (List Entry) TraceRefused → Result (List Entry) TraceRefused → Type 0
-Answers (Ok trace) meaning = meaning ≡ Ok trace
-Answers (Err (Bad line cause)) meaning = meaning ≡ Err (Bad line cause)
-Answers (Err NoMemory) meaning = Unit {0}
+abbrev pub AnswersTrace : {A : Type 0} → Result A TraceRefused → Result A TraceRefused → Type 0
+AnswersTrace (Ok x) meaning = meaning ≡ Ok x
+AnswersTrace (Err (Bad line cause)) meaning = meaning ≡ Err (Bad line cause)
+AnswersTrace (Err NoMemory) meaning = Unit {0}
 
 -- a line's refusal with its number
 abbrev pub refused : ℕ → LineRefused → TraceRefused

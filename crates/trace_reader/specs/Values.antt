@@ -1,15 +1,15 @@
 -- What the words of a line stand for. (docs/FORMATS.md, trace text)
 use Rattle.std.specs.Prelude.{ℕ, ◌==◌, ◌^◌, Bool, true, false, ◌&&◌, ◌||◌, nat_le, List, [], ◌∷◌, length, Option, Some, None, Result, Ok, Err, if◌then◌else◌, codes, bytes_eq, decimal}
 use Rattle.std.specs.List.{list_all}
+use Rattle.cam_types.specs.Limits.{profile_limit}
 use Rattle.cam_types.specs.declared.number.FenceNo.{FenceNo}
 use Rattle.cam_types.specs.declared.reply.Made.{Made}
-use Rattle.cam_types.specs.declared.script.Word.{Word}
-use Rattle.cam_types.specs.declared.script.Word.TheVariants.{Configure, Once, Burst, Repeat, Stop, Wait, Await, Flush, Close, Disconnect}
 use Rattle.hex.specs.Hex.{decode_of}
 use Rattle.trace_model.specs.declared.entry.Sent.{Sent}
 use Rattle.trace_reader.specs.declared.cause.Cause.{Cause}
 use Rattle.trace_reader.specs.declared.cause.Cause.TheVariants.{Truncated, BadNumber, BadLine, BadMetadata}
-use Rattle.trace_reader.specs.Words.{cut_at, is_number, number_below}
+use Rattle.text_parts.specs.Cuts.{cut_at}
+use Rattle.text_parts.specs.Numbers.{is_number, number_below, number_within}
 
 -- Words have their causes by themselves, and the cause of a line is the first of its words' causes in the order
 -- BadLine, BadNumber, BadMetadata: a line's shape comes before its numbers. A word's shape is its signs, each the first
@@ -57,17 +57,25 @@ small word = number (2 ^ 32) word
 abbrev pub large : List ℕ → Result ℕ Cause
 large word = number (2 ^ 64) word
 
+-- a number of a profile
+abbrev pub profile_number : List ℕ → Result ℕ Cause
+profile_number word = good (number_within 1 profile_limit word)
+
 -- a number of 32 bits behind a letter
 abbrev pub numbered : ℕ → List ℕ → Result ℕ Cause
 numbered letter [] = Err BadLine
 numbered letter (b ∷ bs) = if b == letter then small bs else Err BadLine
 
--- 98 is `b`, 102 `f` and 114 `r`
+-- 98 is `b`, 100 `d`, 102 `f` and 114 `r`
 abbrev pub buffer : List ℕ → Result ℕ Cause
 buffer word = numbered 98 word
 
 abbrev pub fence_number : List ℕ → Result ℕ Cause
 fence_number word = numbered 102 word
+
+-- a fence that the device signals
+abbrev pub device_fence : List ℕ → Result ℕ Cause
+device_fence word = numbered 100 word
 
 abbrev pub request : List ℕ → Result ℕ Cause
 request word = numbered 114 word
@@ -131,19 +139,3 @@ hex_bytes word = if list_all is_lower_digit word then decoded (decode_of word) e
 -- the 32 bytes of a digest
 unfoldable pub digest : List ℕ → Result (List ℕ) Cause
 digest word = if length word == 64 then hex_bytes word else Err BadNumber
-
--- ---- the words of commands
-
-unfoldable pub command_word : List ℕ → Option Word
-command_word word =
-    if bytes_eq word (codes "configure") then Some Configure
-    else (if bytes_eq word (codes "once") then Some Once
-    else (if bytes_eq word (codes "burst") then Some Burst
-    else (if bytes_eq word (codes "repeat") then Some Repeat
-    else (if bytes_eq word (codes "stop") then Some Stop
-    else (if bytes_eq word (codes "wait") then Some Wait
-    else (if bytes_eq word (codes "await") then Some Await
-    else (if bytes_eq word (codes "flush") then Some Flush
-    else (if bytes_eq word (codes "close") then Some Close
-    else (if bytes_eq word (codes "disconnect") then Some Disconnect
-    else None)))))))))

@@ -1,36 +1,18 @@
 //! The lines of the client's commands.
 
 ghost use Rattle.std.specs.Prelude.{◌≡◌, ◌<◌};
-ghost use Rattle.trace_reader.specs.Words.{words_behind};
-ghost use Rattle.trace_reader.specs.Values.{command_word, made};
+ghost use Rattle.text_parts.specs.Words.{strict_words_behind};
+ghost use Rattle.trace_reader.specs.Values.{made};
+ghost use Rattle.command_words.specs.Words.{command_word};
 ghost use Rattle.trace_reader.specs.Lines.{up_to_four, nothing, submission, next_value, rest_of, waiting_word, begin_of, refusal, acceptance, reply_of, call_with, call_of};
 
 use crate::cause::Cause;
 use crate::number::{byte, small};
-use crate::text::{next_word, one_word};
 use crate::word::{both, made, request};
 use cam_types::{Four, Made, Reply, RequestId, Word};
+use command_words::command_word;
+use text_parts::{next_strict_word, one_strict_word};
 use trace_model::Entry;
-
-/// The command that has this word.
-#[tactic(auto, unfolding(crate::specs::Values::command_word))]
-fn command_word(word: &[u8]) -> Option<Word>
-    ensures { result ≡ command_word word.now }
-{
-    match word {
-        b"configure" => Some(Word::Configure),
-        b"once" => Some(Word::Once),
-        b"burst" => Some(Word::Burst),
-        b"repeat" => Some(Word::Repeat),
-        b"stop" => Some(Word::Stop),
-        b"wait" => Some(Word::Wait),
-        b"await" => Some(Word::Await),
-        b"flush" => Some(Word::Flush),
-        b"close" => Some(Word::Close),
-        b"disconnect" => Some(Word::Disconnect),
-        _ => None,
-    }
-}
 
 /// The word of a waiting command.
 fn waiting_word(word: &[u8]) -> Result<Word, Cause>
@@ -44,19 +26,19 @@ fn waiting_word(word: &[u8]) -> Result<Word, Cause>
 
 /// `W` of a command that begins.
 pub fn begin_of(rest: &[u8]) -> Result<Entry, Cause>
-    ensures { result ≡ begin_of (words_behind rest.now) }
+    ensures { result ≡ begin_of (strict_words_behind rest.now) }
 {
-    let word = one_word(rest).ok_or(Cause::BadLine)?;
+    let word = one_strict_word(rest).ok_or(Cause::BadLine)?;
     let word = waiting_word(word)?;
     Ok(Entry::Begin { word })
 }
 
 /// The code of a refusal and its numbers.
 fn refusal(rest: &[u8]) -> Result<Reply, Cause>
-    ensures { result ≡ refusal (words_behind rest.now) }
+    ensures { result ≡ refusal (strict_words_behind rest.now) }
 {
-    let (code, rest) = next_word(rest).ok_or(Cause::BadLine)?;
-    let Some((first, rest)) = next_word(rest) else {
+    let (code, rest) = next_strict_word(rest).ok_or(Cause::BadLine)?;
+    let Some((first, rest)) = next_strict_word(rest) else {
         let (code, first, second) = (byte(code)?, None, None);
         return Ok(Reply::Refused {
             code,
@@ -64,7 +46,7 @@ fn refusal(rest: &[u8]) -> Result<Reply, Cause>
             second,
         });
     };
-    let Some((second, rest)) = next_word(rest) else {
+    let Some((second, rest)) = next_strict_word(rest) else {
         let (code, first) = both(byte(code), small(first))?;
         let (first, second) = (Some(first), None);
         return Ok(Reply::Refused {
@@ -73,7 +55,7 @@ fn refusal(rest: &[u8]) -> Result<Reply, Cause>
             second,
         });
     };
-    if next_word(rest).is_some() {
+    if next_strict_word(rest).is_some() {
         return Err(Cause::BadLine);
     }
     let (code, (first, second)) = both(byte(code), both(small(first), small(second)))?;
@@ -88,10 +70,10 @@ fn refusal(rest: &[u8]) -> Result<Reply, Cause>
 /// The buffers of a stream, where there is one more word, and what stands behind it.
 fn next_made(stream: u8, rest: &[u8]) -> (Result<Option<Made>, Cause>, &[u8])
     requires { stream < 10 }
-    ensures value { result.0 ≡ next_value (made stream) (words_behind rest.now) }
-    ensures rest { words_behind result.1.now ≡ rest_of (words_behind rest.now) }
+    ensures value { result.0 ≡ next_value (made stream) (strict_words_behind rest.now) }
+    ensures rest { strict_words_behind result.1.now ≡ rest_of (strict_words_behind rest.now) }
 {
-    match next_word(rest) {
+    match next_strict_word(rest) {
         None => (Ok(None), rest),
         Some((word, rest)) => match made(stream, word) {
             Ok(made) => (Ok(Some(made)), rest),
@@ -102,13 +84,13 @@ fn next_made(stream: u8, rest: &[u8]) -> (Result<Option<Made>, Cause>, &[u8])
 
 /// The buffers of up to four streams.
 fn configured(rest: &[u8]) -> Result<Four<Made>, Cause>
-    ensures { result ≡ up_to_four made (words_behind rest.now) }
+    ensures { result ≡ up_to_four made (strict_words_behind rest.now) }
 {
     let (a, rest) = next_made(0, rest);
     let (b, rest) = next_made(1, rest);
     let (c, rest) = next_made(2, rest);
     let (d, rest) = next_made(3, rest);
-    if next_word(rest).is_some() {
+    if next_strict_word(rest).is_some() {
         return Err(Cause::BadLine);
     }
     let (a, (b, (c, d))) = both(a, both(b, both(c, d)))?;
@@ -117,9 +99,9 @@ fn configured(rest: &[u8]) -> Result<Four<Made>, Cause>
 
 /// A reply without further words.
 fn plain_ok(rest: &[u8]) -> Result<Reply, Cause>
-    ensures { result ≡ nothing Reply.Ok (words_behind rest.now) }
+    ensures { result ≡ nothing Reply.Ok (strict_words_behind rest.now) }
 {
-    match next_word(rest) {
+    match next_strict_word(rest) {
         None => Ok(Reply::Ok),
         Some(_) => Err(Cause::BadLine),
     }
@@ -127,15 +109,15 @@ fn plain_ok(rest: &[u8]) -> Result<Reply, Cause>
 
 /// A reply with the number of the request.
 fn submitted(rest: &[u8]) -> Result<Reply, Cause>
-    ensures { result ≡ submission (words_behind rest.now) }
+    ensures { result ≡ submission (strict_words_behind rest.now) }
 {
-    let word = one_word(rest).ok_or(Cause::BadLine)?;
+    let word = one_strict_word(rest).ok_or(Cause::BadLine)?;
     Ok(Reply::Submitted(RequestId(request(word)?)))
 }
 
 /// What stands behind the `ok` of a command.
 fn acceptance(word: Word, rest: &[u8]) -> Result<Reply, Cause>
-    ensures { result ≡ acceptance word (words_behind rest.now) }
+    ensures { result ≡ acceptance word (strict_words_behind rest.now) }
 {
     match word {
         Word::Configure => Ok(Reply::Configured(configured(rest)?)),
@@ -154,9 +136,9 @@ fn acceptance(word: Word, rest: &[u8]) -> Result<Reply, Cause>
 /// The reply to a command.
 #[tactic(auto, unfolding(crate::specs::Lines::reply_of))]
 fn reply_of(word: Word, rest: &[u8]) -> Result<Reply, Cause>
-    ensures { result ≡ reply_of word (words_behind rest.now) }
+    ensures { result ≡ reply_of word (strict_words_behind rest.now) }
 {
-    let (how, rest) = next_word(rest).ok_or(Cause::BadLine)?;
+    let (how, rest) = next_strict_word(rest).ok_or(Cause::BadLine)?;
     match how {
         b"ok" => acceptance(word, rest),
         b"refused" => refusal(rest),
@@ -166,7 +148,7 @@ fn reply_of(word: Word, rest: &[u8]) -> Result<Reply, Cause>
 
 /// An answered command, by its number, its word and its reply.
 fn call_with(index: &[u8], word: &[u8], rest: &[u8]) -> Result<Entry, Cause>
-    ensures { result ≡ call_with index.now (command_word word.now) (words_behind rest.now) }
+    ensures { result ≡ call_with index.now (command_word word.now) (strict_words_behind rest.now) }
 {
     let word = command_word(word).ok_or(Cause::BadLine)?;
     let (index, reply) = both(small(index), reply_of(word, rest))?;
@@ -176,11 +158,11 @@ fn call_with(index: &[u8], word: &[u8], rest: &[u8]) -> Result<Entry, Cause>
 /// `I W = ..` of a command that is answered.
 #[tactic(auto, unfolding(crate::specs::Lines::call_of))]
 pub fn call_of(rest: &[u8]) -> Result<Entry, Cause>
-    ensures { result ≡ call_of (words_behind rest.now) }
+    ensures { result ≡ call_of (strict_words_behind rest.now) }
 {
-    let (index, rest) = next_word(rest).ok_or(Cause::BadLine)?;
-    let (word, rest) = next_word(rest).ok_or(Cause::BadLine)?;
-    let (sign, rest) = next_word(rest).ok_or(Cause::BadLine)?;
+    let (index, rest) = next_strict_word(rest).ok_or(Cause::BadLine)?;
+    let (word, rest) = next_strict_word(rest).ok_or(Cause::BadLine)?;
+    let (sign, rest) = next_strict_word(rest).ok_or(Cause::BadLine)?;
     match sign {
         b"=" => call_with(index, word, rest),
         _ => Err(Cause::BadLine),

@@ -13,7 +13,8 @@ pub enum Cause {
     Truncated = 41,
     /// A number or a hexadecimal text isn't one in its one spelling, or is out of its range.
     BadNumber = 42,
-    /// The line has the shape of no entry, isn't ASCII or stands behind `end`; or the first line isn't `trace 1`.
+    /// The line has the shape of no entry, isn't ASCII or stands behind `end`; or the first line is neither
+    /// `trace 1` nor `trace 2` with three numbers.
     BadLine = 43,
     /// The text of a `partial` line isn't the packed form of a part with its number.
     BadMetadata = 44,

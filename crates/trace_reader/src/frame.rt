@@ -1,24 +1,24 @@
 //! The lines of a frame's events, and those of fences.
 
 ghost use Rattle.std.specs.Prelude.{◌≡◌};
-ghost use Rattle.trace_reader.specs.Words.{words_behind};
+ghost use Rattle.text_parts.specs.Words.{strict_words_behind};
 ghost use Rattle.trace_reader.specs.Values.{sent};
-ghost use Rattle.trace_reader.specs.Lines.{up_to_four, nothing, next_value, rest_of, send_of, drop_of, shutter_of, buffer_of, returned_buffer, no_fence, one_frame, error_buffer, filled_behind, failed_behind, error_of, release_of, signal_of};
+ghost use Rattle.trace_reader.specs.Lines.{up_to_four, nothing, next_value, rest_of, send_of, drop_of, shutter_of, buffer_of, returned_buffer, no_fence, one_frame, error_buffer, filled_behind, failed_behind, error_of, release_of, signal_of, early_behind, early_of, late_of};
 
 use crate::cause::Cause;
 use crate::digest::digest;
 use crate::number::{byte, large, small};
-use crate::text::{next_word, one_word, two_words};
-use crate::word::{both, buffer, fence, fence_number, item, mark, sent};
+use crate::word::{both, buffer, device_fence, fence, fence_number, item, mark, sent};
 use cam_types::{BufferId, FenceNo, Four, FrameNo, RequestId, StreamIx};
+use text_parts::{next_strict_word, one_strict_word, two_strict_words};
 use trace_model::{Entry, Sent};
 
 /// A target, where there is one more word, and what stands behind it.
 fn next_sent(rest: &[u8]) -> (Result<Option<Sent>, Cause>, &[u8])
-    ensures value { result.0 ≡ next_value sent (words_behind rest.now) }
-    ensures rest { words_behind result.1.now ≡ rest_of (words_behind rest.now) }
+    ensures value { result.0 ≡ next_value sent (strict_words_behind rest.now) }
+    ensures rest { strict_words_behind result.1.now ≡ rest_of (strict_words_behind rest.now) }
 {
-    match next_word(rest) {
+    match next_strict_word(rest) {
         None => (Ok(None), rest),
         Some((word, rest)) => match sent(word) {
             Ok(sent) => (Ok(Some(sent)), rest),
@@ -29,13 +29,13 @@ fn next_sent(rest: &[u8]) -> (Result<Option<Sent>, Cause>, &[u8])
 
 /// Up to four targets.
 fn targets(rest: &[u8]) -> Result<Four<Sent>, Cause>
-    ensures { result ≡ up_to_four (λ s. sent) (words_behind rest.now) }
+    ensures { result ≡ up_to_four (λ s. sent) (strict_words_behind rest.now) }
 {
     let (a, rest) = next_sent(rest);
     let (b, rest) = next_sent(rest);
     let (c, rest) = next_sent(rest);
     let (d, rest) = next_sent(rest);
-    if next_word(rest).is_some() {
+    if next_strict_word(rest).is_some() {
         return Err(Cause::BadLine);
     }
     let (a, (b, (c, d))) = both(a, both(b, both(c, d)))?;
@@ -45,11 +45,11 @@ fn targets(rest: &[u8]) -> Result<Four<Sent>, Cause>
 /// `N rR.I MARK ..` of a send.
 #[tactic(auto, unfolding(crate::specs::Lines::send_of))]
 pub fn send_of(rest: &[u8]) -> Result<Entry, Cause>
-    ensures { result ≡ send_of (words_behind rest.now) }
+    ensures { result ≡ send_of (strict_words_behind rest.now) }
 {
-    let (number, rest) = next_word(rest).ok_or(Cause::BadLine)?;
-    let (name, rest) = next_word(rest).ok_or(Cause::BadLine)?;
-    let (sign, rest) = next_word(rest).ok_or(Cause::BadLine)?;
+    let (number, rest) = next_strict_word(rest).ok_or(Cause::BadLine)?;
+    let (name, rest) = next_strict_word(rest).ok_or(Cause::BadLine)?;
+    let (sign, rest) = next_strict_word(rest).ok_or(Cause::BadLine)?;
     let (frame, ((request, item), (same, targets))) = both(
         small(number),
         both(item(name), both(mark(sign), targets(rest))),
@@ -65,9 +65,9 @@ pub fn send_of(rest: &[u8]) -> Result<Entry, Cause>
 
 /// `N rR.I` of a drop.
 pub fn drop_of(rest: &[u8]) -> Result<Entry, Cause>
-    ensures { result ≡ drop_of (words_behind rest.now) }
+    ensures { result ≡ drop_of (strict_words_behind rest.now) }
 {
-    let (frame, name) = two_words(rest).ok_or(Cause::BadLine)?;
+    let (frame, name) = two_strict_words(rest).ok_or(Cause::BadLine)?;
     let (frame, (request, item)) = both(small(frame), item(name))?;
     Ok(Entry::Dropped {
         frame: FrameNo(frame),
@@ -78,9 +78,9 @@ pub fn drop_of(rest: &[u8]) -> Result<Entry, Cause>
 
 /// `N T` of a shutter.
 pub fn shutter_of(rest: &[u8]) -> Result<Entry, Cause>
-    ensures { result ≡ shutter_of (words_behind rest.now) }
+    ensures { result ≡ shutter_of (strict_words_behind rest.now) }
 {
-    let (frame, time) = two_words(rest).ok_or(Cause::BadLine)?;
+    let (frame, time) = two_strict_words(rest).ok_or(Cause::BadLine)?;
     let (frame, time) = both(small(frame), large(time))?;
     Ok(Entry::Shutter {
         frame: FrameNo(frame),
@@ -108,9 +108,9 @@ fn returned_buffer(frame: &[u8], stream: &[u8], name: &[u8]) -> Result<(u32, u8,
 
 /// `- HEX` of a buffer that comes back with its picture.
 fn filled_behind(place: Result<(u32, u8, u32), Cause>, rest: &[u8]) -> Result<Entry, Cause>
-    ensures { result ≡ filled_behind place (words_behind rest.now) }
+    ensures { result ≡ filled_behind place (strict_words_behind rest.now) }
 {
-    let (sign, hex) = two_words(rest).ok_or(Cause::BadLine)?;
+    let (sign, hex) = two_strict_words(rest).ok_or(Cause::BadLine)?;
     let ((frame, stream, buffer), (fence, digest)) = both(
         place,
         both(no_fence(sign), digest(hex)),
@@ -126,9 +126,9 @@ fn filled_behind(place: Result<(u32, u8, u32), Cause>, rest: &[u8]) -> Result<En
 
 /// `F` of a buffer that comes back in error.
 fn failed_behind(place: Result<(u32, u8, u32), Cause>, rest: &[u8]) -> Result<Entry, Cause>
-    ensures { result ≡ failed_behind place (words_behind rest.now) }
+    ensures { result ≡ failed_behind place (strict_words_behind rest.now) }
 {
-    let word = one_word(rest).ok_or(Cause::BadLine)?;
+    let word = one_strict_word(rest).ok_or(Cause::BadLine)?;
     let ((frame, stream, buffer), fence) = both(place, fence(word))?;
     Ok(Entry::Failed {
         frame: FrameNo(frame),
@@ -141,12 +141,12 @@ fn failed_behind(place: Result<(u32, u8, u32), Cause>, rest: &[u8]) -> Result<En
 /// `N S bB ..` of a buffer that comes back.
 #[tactic(auto, unfolding(crate::specs::Lines::buffer_of))]
 pub fn buffer_of(rest: &[u8]) -> Result<Entry, Cause>
-    ensures { result ≡ buffer_of (words_behind rest.now) }
+    ensures { result ≡ buffer_of (strict_words_behind rest.now) }
 {
-    let (frame, rest) = next_word(rest).ok_or(Cause::BadLine)?;
-    let (stream, rest) = next_word(rest).ok_or(Cause::BadLine)?;
-    let (name, rest) = next_word(rest).ok_or(Cause::BadLine)?;
-    let (how, rest) = next_word(rest).ok_or(Cause::BadLine)?;
+    let (frame, rest) = next_strict_word(rest).ok_or(Cause::BadLine)?;
+    let (stream, rest) = next_strict_word(rest).ok_or(Cause::BadLine)?;
+    let (name, rest) = next_strict_word(rest).ok_or(Cause::BadLine)?;
+    let (how, rest) = next_strict_word(rest).ok_or(Cause::BadLine)?;
     let place = returned_buffer(frame, stream, name);
     match how {
         b"ok" => filled_behind(place, rest),
@@ -157,17 +157,17 @@ pub fn buffer_of(rest: &[u8]) -> Result<Entry, Cause>
 
 /// The number of a frame alone.
 fn one_frame(rest: &[u8]) -> Result<FrameNo, Cause>
-    ensures { result ≡ one_frame (words_behind rest.now) }
+    ensures { result ≡ one_frame (strict_words_behind rest.now) }
 {
-    let word = one_word(rest).ok_or(Cause::BadLine)?;
+    let word = one_strict_word(rest).ok_or(Cause::BadLine)?;
     Ok(FrameNo(small(word)?))
 }
 
 /// `N S` of an error of a buffer.
 fn error_buffer(rest: &[u8]) -> Result<Entry, Cause>
-    ensures { result ≡ error_buffer (words_behind rest.now) }
+    ensures { result ≡ error_buffer (strict_words_behind rest.now) }
 {
-    let (frame, stream) = two_words(rest).ok_or(Cause::BadLine)?;
+    let (frame, stream) = two_strict_words(rest).ok_or(Cause::BadLine)?;
     let (frame, stream) = both(small(frame), byte(stream))?;
     Ok(Entry::ErrorBuffer {
         frame: FrameNo(frame),
@@ -177,9 +177,9 @@ fn error_buffer(rest: &[u8]) -> Result<Entry, Cause>
 
 /// An error of the device, which has no further words.
 fn error_device(rest: &[u8]) -> Result<Entry, Cause>
-    ensures { result ≡ nothing Entry.ErrorDevice (words_behind rest.now) }
+    ensures { result ≡ nothing Entry.ErrorDevice (strict_words_behind rest.now) }
 {
-    match next_word(rest) {
+    match next_strict_word(rest) {
         None => Ok(Entry::ErrorDevice),
         Some(_) => Err(Cause::BadLine),
     }
@@ -188,9 +188,9 @@ fn error_device(rest: &[u8]) -> Result<Entry, Cause>
 /// An error, by its kind.
 #[tactic(auto, unfolding(crate::specs::Lines::error_of))]
 pub fn error_of(rest: &[u8]) -> Result<Entry, Cause>
-    ensures { result ≡ error_of (words_behind rest.now) }
+    ensures { result ≡ error_of (strict_words_behind rest.now) }
 {
-    let (kind, rest) = next_word(rest).ok_or(Cause::BadLine)?;
+    let (kind, rest) = next_strict_word(rest).ok_or(Cause::BadLine)?;
     match kind {
         b"request" => {
             let frame = one_frame(rest)?;
@@ -208,9 +208,9 @@ pub fn error_of(rest: &[u8]) -> Result<Entry, Cause>
 
 /// `bB fK` of a release.
 pub fn release_of(rest: &[u8]) -> Result<Entry, Cause>
-    ensures { result ≡ release_of (words_behind rest.now) }
+    ensures { result ≡ release_of (strict_words_behind rest.now) }
 {
-    let (name, fence) = two_words(rest).ok_or(Cause::BadLine)?;
+    let (name, fence) = two_strict_words(rest).ok_or(Cause::BadLine)?;
     let (buffer, fence) = both(buffer(name), fence_number(fence))?;
     Ok(Entry::Release {
         buffer: BufferId(buffer),
@@ -220,9 +220,46 @@ pub fn release_of(rest: &[u8]) -> Result<Entry, Cause>
 
 /// `fK` of a signal.
 pub fn signal_of(rest: &[u8]) -> Result<Entry, Cause>
-    ensures { result ≡ signal_of (words_behind rest.now) }
+    ensures { result ≡ signal_of (strict_words_behind rest.now) }
 {
-    let word = one_word(rest).ok_or(Cause::BadLine)?;
+    let word = one_strict_word(rest).ok_or(Cause::BadLine)?;
     let fence = FenceNo(fence_number(word)?);
     Ok(Entry::Signal { fence })
+}
+
+/// `dK` of a buffer that comes back before it is filled.
+fn early_behind(place: Result<(u32, u8, u32), Cause>, rest: &[u8]) -> Result<Entry, Cause>
+    ensures { result ≡ early_behind place (strict_words_behind rest.now) }
+{
+    let word = one_strict_word(rest).ok_or(Cause::BadLine)?;
+    let ((frame, stream, buffer), fence) = both(place, device_fence(word))?;
+    Ok(Entry::Early {
+        frame: FrameNo(frame),
+        stream: StreamIx(stream),
+        buffer: BufferId(buffer),
+        fence: FenceNo(fence),
+    })
+}
+
+/// `N S bB dK` of a buffer that comes back before it is filled.
+#[tactic(auto, unfolding(crate::specs::Lines::early_of))]
+pub fn early_of(rest: &[u8]) -> Result<Entry, Cause>
+    ensures { result ≡ early_of (strict_words_behind rest.now) }
+{
+    let (frame, rest) = next_strict_word(rest).ok_or(Cause::BadLine)?;
+    let (stream, rest) = next_strict_word(rest).ok_or(Cause::BadLine)?;
+    let (name, rest) = next_strict_word(rest).ok_or(Cause::BadLine)?;
+    early_behind(returned_buffer(frame, stream, name), rest)
+}
+
+/// `dK HEX` of a picture that is filled after its buffer came back.
+pub fn late_of(rest: &[u8]) -> Result<Entry, Cause>
+    ensures { result ≡ late_of (strict_words_behind rest.now) }
+{
+    let (fence, hex) = two_strict_words(rest).ok_or(Cause::BadLine)?;
+    let (fence, digest) = both(device_fence(fence), digest(hex))?;
+    Ok(Entry::Late {
+        fence: FenceNo(fence),
+        digest,
+    })
 }

@@ -4,13 +4,13 @@
 mod call;
 mod cause;
 mod digest;
+mod first;
 mod frame;
 mod laws;
 mod line;
 mod number;
 mod partial;
 mod reading;
-mod text;
 mod word;
 
 pub use cause::{Cause, TraceRefused};

@@ -2,16 +2,18 @@
 
 ghost use Rattle.std.specs.Prelude.{◌≡◌, ◌==◌, ◌&&◌, not, length, nat_lt};
 ghost use Rattle.std.specs.List.{list_all};
-ghost use Rattle.trace_reader.specs.Words.{words_of, words_behind};
-ghost use Rattle.trace_reader.specs.Lines.{is_plain, kind_of, entry_in, entry_of};
+ghost use Rattle.text_parts.specs.Words.{strict_words, strict_words_behind};
+ghost use Rattle.trace_reader.specs.Lines.{is_plain_line, kind_of, entry_in, entry_of};
 ghost use Rattle.trace_reader.specs.Reader.{Gives};
 
 use crate::call::{begin_of, call_of};
 use crate::cause::{Cause, LineRefused};
-use crate::frame::{buffer_of, drop_of, error_of, release_of, send_of, shutter_of, signal_of};
+use crate::frame::{
+    buffer_of, drop_of, early_of, error_of, late_of, release_of, send_of, shutter_of, signal_of,
+};
 use crate::partial::partial_of;
-use crate::text::{first_word, next_word};
 use std::alloc::Global;
+use text_parts::{first_strict_word, next_strict_word};
 use trace_model::Entry;
 
 /// Whether a line is ASCII.
@@ -23,19 +25,26 @@ fn is_ascii(line: &[u8]) -> bool
 
 /// Whether no word of a line is empty: a single space stands between each two, and none at its ends.
 fn has_single_spaces(line: &[u8]) -> bool
-    ensures { result ≡ list_all (λ word. not (length word == 0)) (words_of line.now) }
+    ensures { result ≡ list_all (λ word. not (length word == 0)) (strict_words line.now) }
 {
-    let (word, mut rest) = first_word(line);
+    let (word, mut rest) = first_strict_word(line);
     if word.is_empty() {
         return false;
     }
-    while let Some((word, after)) = next_word(rest) {
+    while let Some((word, after)) = next_strict_word(rest) {
         if word.is_empty() {
             return false;
         }
         rest = after;
     }
     true
+}
+
+/// Whether a line is ASCII, with single spaces between its words.
+pub fn is_plain_line(line: &[u8]) -> bool
+    ensures { result ≡ is_plain_line line.now }
+{
+    is_ascii(line) && has_single_spaces(line)
 }
 
 /// The kinds of lines, each with its own first word.
@@ -51,6 +60,8 @@ pub enum Kind {
     Error,
     Release,
     Signal,
+    Early,
+    Late,
 }
 
 /// The kind of a line, by its first word.
@@ -69,6 +80,8 @@ fn kind_of(word: &[u8]) -> Option<Kind>
         b"error" => Some(Kind::Error),
         b"release" => Some(Kind::Release),
         b"signal" => Some(Kind::Signal),
+        b"early" => Some(Kind::Early),
+        b"filled" => Some(Kind::Late),
         _ => None,
     }
 }
@@ -76,7 +89,7 @@ fn kind_of(word: &[u8]) -> Option<Kind>
 /// An entry, by the kind of its line and the words behind the first.
 #[tactic(auto, unfolding(crate::specs::Lines::entry_in))]
 fn entry_in(alloc: Global, kind: Kind, rest: &[u8]) -> Result<Entry, LineRefused>
-    ensures { Gives result (entry_in kind (words_behind rest.now)) }
+    ensures { Gives result (entry_in kind (strict_words_behind rest.now)) }
 {
     match kind {
         Kind::Begin => Ok(begin_of(rest)?),
@@ -89,6 +102,8 @@ fn entry_in(alloc: Global, kind: Kind, rest: &[u8]) -> Result<Entry, LineRefused
         Kind::Error => Ok(error_of(rest)?),
         Kind::Release => Ok(release_of(rest)?),
         Kind::Signal => Ok(signal_of(rest)?),
+        Kind::Early => Ok(early_of(rest)?),
+        Kind::Late => Ok(late_of(rest)?),
     }
 }
 
@@ -97,10 +112,10 @@ fn entry_in(alloc: Global, kind: Kind, rest: &[u8]) -> Result<Entry, LineRefused
 pub fn entry_of(alloc: Global, line: &[u8]) -> Result<Entry, LineRefused>
     ensures { Gives result (entry_of line.now) }
 {
-    if !is_ascii(line) || !has_single_spaces(line) {
+    if !is_plain_line(line) {
         return Err(LineRefused::Bad(Cause::BadLine));
     }
-    let (word, rest) = first_word(line);
+    let (word, rest) = first_strict_word(line);
     match kind_of(word) {
         Some(kind) => entry_in(alloc, kind, rest),
         None => Err(LineRefused::Bad(Cause::BadLine)),

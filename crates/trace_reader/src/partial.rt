@@ -1,19 +1,19 @@
 //! The lines of metadata results.
 
 ghost use Rattle.std.specs.Prelude.{◌≡◌};
-ghost use Rattle.trace_reader.specs.Words.{words_behind};
+ghost use Rattle.text_parts.specs.Words.{strict_words_behind};
 ghost use Rattle.trace_reader.specs.Lines.{metadata, partial_of};
 ghost use Rattle.trace_reader.specs.Reader.{Gives};
 
 use crate::cause::{Cause, LineRefused};
 use crate::digest::hex_bytes;
 use crate::number::small;
-use crate::text::three_words;
 use crate::word::part_number;
 use cam_types::{FrameNo, Part};
 use meta_rules::part_of;
 use metadata::{Packed, PackedRefused};
 use std::alloc::Global;
+use text_parts::three_strict_words;
 use trace_model::Entry;
 
 /// The part with the number that bytes are the packed form of.
@@ -30,9 +30,9 @@ fn metadata(alloc: Global, number: u8, bytes: &[u8]) -> Result<Part, LineRefused
 /// `N K HEX` of a metadata result.
 #[tactic(auto, unfolding(crate::specs::Lines::partial_of))]
 pub fn partial_of(alloc: Global, rest: &[u8]) -> Result<Entry, LineRefused>
-    ensures { Gives result (partial_of (words_behind rest.now)) }
+    ensures { Gives result (partial_of (strict_words_behind rest.now)) }
 {
-    let (frame, number, hex) = three_words(rest).ok_or(Cause::BadLine)?;
+    let (frame, number, hex) = three_strict_words(rest).ok_or(Cause::BadLine)?;
     let frame = FrameNo(small(frame)?);
     let number = part_number(number)?;
     let bytes = hex_bytes(alloc, hex)?;

@@ -1,15 +1,17 @@
 //! A trace read from its text.
 
 ghost use Rattle.std.specs.Prelude.{◌≡◌, ◌<◌, ◌≤◌, ◌+◌, length};
-ghost use Rattle.trace_reader.specs.Words.{parts_at};
+ghost use Rattle.text_parts.specs.Cuts.{parts_at};
 ghost use Rattle.trace_reader.specs.Grammar.{entries_from, trace_of};
-ghost use Rattle.trace_reader.specs.Reader.{Answers, refused};
+ghost use Rattle.trace_reader.specs.Reader.{AnswersTrace, refused};
 
 use crate::cause::{Cause, LineRefused, TraceRefused};
+use crate::first::named_profile;
 use crate::line::entry_of;
-use crate::text::split_at_byte;
+use cam_types::Listing;
 use std::alloc::Global;
-use trace_model::TraceList;
+use text_parts::split_at_byte;
+use trace_model::{Entry, TraceList};
 
 /// The most bytes of a text.
 pub const TRACE_BYTES: usize = 134_217_728;
@@ -33,12 +35,12 @@ fn bad(line: u32, cause: Cause) -> TraceRefused
 
 /// The entries of the lines from a number on, up to `end`.
 #[tactic(auto, unfolding(crate::specs::Grammar::entries_from))]
-fn entries_from(alloc: Global, first: u32, text: &[u8]) -> Result<TraceList, TraceRefused>
+fn entries_from(alloc: Global, first: u32, text: &[u8]) -> Result<Listing<Entry>, TraceRefused>
     requires long { length text.now < TRACE_BYTES }
     requires numbers { first + length text.now ≤ 268435457 }
-    ensures { Answers result (entries_from first (parts_at 10 text.now)) }
+    ensures { AnswersTrace result (entries_from first (parts_at 10 text.now)) }
 {
-    let mut entries = TraceList::new(alloc);
+    let mut entries = Listing::new(alloc);
     let mut number = first;
     let mut rest = text;
     while let Some((line, behind)) = split_at_byte(rest, b'\n') {
@@ -67,16 +69,16 @@ pub fn read(alloc: Global, bytes: &[u8], first_line: u32) -> Result<TraceList, T
     requires some { 1 ≤ first_line }
     requires numbers { first_line ≤ TRACE_BYTES + 1 }
     // What the text means, unless memory ran out.
-    ensures { Answers result (trace_of first_line bytes.now) }
+    ensures { AnswersTrace result (trace_of first_line bytes.now) }
 {
-    match split_at_byte(bytes, b'\n') {
-        Some((line, rest)) => {
-            if line == b"trace 1".as_slice() {
-                entries_from(alloc, first_line + 1, rest)
-            } else {
-                Err(bad(first_line, Cause::BadLine))
-            }
+    let Some((line, rest)) = split_at_byte(bytes, b'\n') else {
+        return Err(bad(first_line, Cause::Truncated));
+    };
+    match named_profile(line) {
+        Ok(profile) => {
+            let entries = entries_from(alloc, first_line + 1, rest)?;
+            Ok(TraceList { profile, entries })
         }
-        None => Err(bad(first_line, Cause::Truncated)),
+        Err(cause) => Err(bad(first_line, cause)),
     }
 }

@@ -1,5 +1,5 @@
 use super::*;
-use cam_types::{BufferId, FenceNo, FrameNo};
+use cam_types::{BufferId, FenceNo, FrameNo, Profile};
 use std::alloc::Global;
 use std::test::Fail;
 use trace_model::Entry;
@@ -25,6 +25,25 @@ const REFUSED: &[(&str, u32, u8)] = &[
     ("trace 1\nend", 2, 41),
     ("trace 1\nsignal f0\n", 3, 41),
     ("trace 2\nend\n", 1, 43),
+    ("trace 3\nend\n", 1, 43),
+    ("trace\nend\n", 1, 43),
+    ("trace 1 6 3 4\nend\n", 1, 43),
+    ("trace 2 6 3\nend\n", 1, 43),
+    ("trace 2 6 3 4 5\nend\n", 1, 43),
+    ("trace 2  6 3 4\nend\n", 1, 43),
+    ("trace 2 6 3 4 \nend\n", 1, 43),
+    ("trace 02 6 3 4\nend\n", 1, 43),
+    ("trace 2 é 3 4\nend\n", 1, 43),
+    ("trace 2 0 3 4\nend\n", 1, 42),
+    ("trace 2 17 3 4\nend\n", 1, 42),
+    ("trace 2 6 17 4\nend\n", 1, 42),
+    ("trace 2 6 3 17\nend\n", 1, 42),
+    ("trace 2 x 3 4\nend\n", 1, 42),
+    ("trace 2 6 03 4\nend\n", 1, 42),
+    ("trace 2 6 3 4\r\nend\n", 1, 42),
+    ("trace 2 6 3 4", 1, 41),
+    ("trace 2 6 3 4\n", 2, 41),
+    ("trace 1\ntrace 2 6 3 4\nend\n", 2, 43),
     ("  trace  1\nend\n", 1, 43),
     ("trace 1\r\nend\n", 1, 43),
     ("end\n", 1, 43),
@@ -114,6 +133,30 @@ const BAD_LINES: &[(&str, u8)] = &[
     ("send 0 r0.x new 0;b0:-", 43),
     ("send 0 r0.0.0 new", 42),
     ("drop 0 q0.0", 43),
+    ("early 0 0 b0 f0", 43),
+    ("early 0 0 b0 -", 43),
+    ("early 0 0 b0", 43),
+    ("early 0 0 b0 d0 d1", 43),
+    ("early 0 0 0 d0", 43),
+    ("early 0 256 b0 d0", 42),
+    ("early x 0 b0 d0", 42),
+    ("early 0 0 b0 d00", 42),
+    ("early 0 0 b0 d4294967296", 42),
+    ("filled d0", 43),
+    ("filled d0 00 00", 43),
+    (
+        "filled f0 491c98e23a1dc04357f39fa7457341ce546f88359ebdda8a69dd70fee6c2314c",
+        43,
+    ),
+    ("filled d0 00", 42),
+    (
+        "filled dx 491c98e23a1dc04357f39fa7457341ce546f88359ebdda8a69dd70fee6c2314c",
+        42,
+    ),
+    (
+        "filled d0 491C98E23A1DC04357F39FA7457341CE546F88359EBDDA8A69DD70FEE6C2314C",
+        42,
+    ),
     ("error lens 0", 43),
     ("error buffer 0", 43),
     ("error device 0", 43),
@@ -142,6 +185,8 @@ const GOOD_LINES: &[&str] = &[
     "error device",
     "release b0 f10",
     "signal f4294967295",
+    "early 4294967295 255 b4294967295 d4294967295",
+    "filled d0 491c98e23a1dc04357f39fa7457341ce546f88359ebdda8a69dd70fee6c2314c",
     "partial 0 1 010000000200000000000000300000000000008001000000ff000000000000000100008001000000ffffff7f01000000",
 ];
 
@@ -207,6 +252,20 @@ fn a_trace_is_read_entry_by_entry(rt: HostRuntime) -> Result<(), Fail> {
     let (buffer, fence) = (BufferId(0), FenceNo(0));
     assert!(rt; trace.get(11) == Some(&Entry::Signal { fence }));
     assert!(rt; trace.get(10) == Some(&Entry::Release { buffer, fence }));
+    Ok(())
+}
+
+#[test]
+fn the_first_line_names_the_profile(rt: HostRuntime) -> Result<(), Fail> {
+    let trace = read(rt.alloc(), b"trace 2 16 1 7\nend\n", 1)
+        .ok()
+        .ok_or("a trace")?;
+    let (depth, raw, yuv) = (16, 1, 7);
+    assert!(rt; trace.profile == Some(Profile { depth, raw, yuv }));
+    let trace = read(rt.alloc(), b"trace 1\nend\n", 1)
+        .ok()
+        .ok_or("a trace")?;
+    assert!(rt; trace.profile == None);
     Ok(())
 }
 

@@ -1,12 +1,12 @@
 //! What the words of a line stand for.
 
 ghost use Rattle.std.specs.Prelude.{◌≡◌, ◌<◌};
-ghost use Rattle.trace_reader.specs.Values.{both, numbered, buffer, fence_number, request, fence, item, fenced_buffer, sent, stream_number, buffers, made, mark, part_number};
+ghost use Rattle.trace_reader.specs.Values.{both, numbered, buffer, fence_number, device_fence, request, fence, item, fenced_buffer, sent, stream_number, buffers, made, mark, part_number};
 
 use crate::cause::Cause;
-use crate::number::{byte, is_number, small};
-use crate::text::split_at_byte;
+use crate::number::{byte, small};
 use cam_types::{BufferId, FenceNo, Made, StreamIx};
+use text_parts::{is_number, split_at_byte};
 use trace_model::Sent;
 
 /// Two values, or the cause that comes first.
@@ -46,6 +46,13 @@ pub fn fence_number(word: &[u8]) -> Result<u32, Cause>
     ensures { result ≡ fence_number word.now }
 {
     numbered(b'f', word)
+}
+
+/// The number of a fence that the device signals.
+pub fn device_fence(word: &[u8]) -> Result<u32, Cause>
+    ensures { result ≡ device_fence word.now }
+{
+    numbered(b'd', word)
 }
 
 /// The number of a request.

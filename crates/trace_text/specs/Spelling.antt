@@ -1,42 +1,28 @@
 -- The one spelling of a trace: our own choice. (docs/FORMATS.md, trace text)
 use Rattle.std.specs.Prelude.{ℕ, ◌+◌, Bool, true, false, List, [], ◌∷◌, ◌++◌, Option, Some, None, map, option_to_list, codes, decimal}
-use Rattle.std.specs.List.{flat_map, join_by}
+use Rattle.std.specs.List.{flat_map}
+use Rattle.command_words.specs.Words.{word_text}
 use Rattle.cam_types.specs.Four.{four_list}
+use Rattle.cam_types.specs.Profile.{is_profile}
 use Rattle.cam_types.specs.declared.number.FenceNo.{FenceNo}
 use Rattle.cam_types.specs.declared.part.Part.{Part}
+use Rattle.cam_types.specs.declared.profile.Profile.{Profile}
 use Rattle.cam_types.specs.declared.reply.Made.{Made}
 use Rattle.cam_types.specs.declared.reply.Reply.{Reply}
 use Rattle.cam_types.specs.declared.reply.Reply.TheVariants.{Ok, Submitted, Configured, Refused}
-use Rattle.cam_types.specs.declared.script.Word.{Word}
-use Rattle.cam_types.specs.declared.script.Word.TheVariants.{Configure, Once, Burst, Repeat, Stop, Wait, Await, Flush, Close, Disconnect}
 use Rattle.hex.specs.Hex.{encode_lower}
 use Rattle.meta_rules.specs.Parts.{part_entries}
 use Rattle.metadata.specs.Spelling.{bytes_of}
+use Rattle.text_parts.specs.Lines.{line_text}
 use Rattle.trace_model.specs.declared.entry.Entry.{Entry}
-use Rattle.trace_model.specs.declared.entry.Entry.TheVariants.{Begin, Call, Send, Dropped, Shutter, Partial, Filled, Failed, ErrorRequest, ErrorResult, ErrorBuffer, ErrorDevice, Release, Signal}
+use Rattle.trace_model.specs.declared.entry.Entry.TheVariants.{Begin, Call, Send, Dropped, Shutter, Partial, Filled, Failed, ErrorRequest, ErrorResult, ErrorBuffer, ErrorDevice, Release, Signal, Early, Late}
 use Rattle.trace_model.specs.declared.entry.Sent.{Sent}
-
--- words with a single space between each two, and LF (10) at the end
-abbrev pub line_text : List (List ℕ) → List ℕ
-line_text words = join_by (λ word. word) (codes " ") words ++ 10 ∷ []
 
 -- words, each behind a space (32)
 abbrev pub behind_spaces : List (List ℕ) → List ℕ
 behind_spaces words = flat_map (λ word. 32 ∷ word) words
 
--- ---- words; 43 is `+`, 46 `.`, 58 `:`, 98 `b`, 102 `f` and 114 `r`
-
-abbrev pub word_text : Word → List ℕ
-word_text Configure = codes "configure"
-word_text Once = codes "once"
-word_text Burst = codes "burst"
-word_text Repeat = codes "repeat"
-word_text Stop = codes "stop"
-word_text Wait = codes "wait"
-word_text Await = codes "await"
-word_text Flush = codes "flush"
-word_text Close = codes "close"
-word_text Disconnect = codes "disconnect"
+-- ---- words; 43 is `+`, 46 `.`, 58 `:`, 98 `b`, 100 `d`, 102 `f` and 114 `r`
 
 -- `bB`
 abbrev pub buffer_text : ℕ → List ℕ
@@ -45,6 +31,10 @@ buffer_text b = 98 ∷ decimal b
 -- `fK`
 abbrev pub fence_number : ℕ → List ℕ
 fence_number k = 102 ∷ decimal k
+
+-- `dK`, a fence that the device signals
+abbrev pub device_fence : ℕ → List ℕ
+device_fence k = 100 ∷ decimal k
 
 -- a fence, or `-` where there is none
 abbrev pub fence_text : Option FenceNo → List ℕ
@@ -88,9 +78,9 @@ reply_words (Refused code first second) = codes "refused" ∷ decimal code ∷ m
 abbrev pub part_text : Part → List ℕ
 part_text part = encode_lower (bytes_of (part_entries part))
 
--- `buffer N S bB`
-abbrev pub returned_text : ℕ → ℕ → ℕ → List ℕ
-returned_text n s b = codes "buffer" ++ behind_spaces (decimal n ∷ decimal s ∷ buffer_text b ∷ [])
+-- ` N S bB`
+abbrev pub place_text : ℕ → ℕ → ℕ → List ℕ
+place_text n s b = behind_spaces (decimal n ∷ decimal s ∷ buffer_text b ∷ [])
 
 -- the words of an entry's line
 abbrev pub entry_words : Entry → List (List ℕ)
@@ -108,11 +98,30 @@ entry_words (ErrorBuffer n s) = codes "error" ∷ codes "buffer" ∷ decimal n.0
 entry_words ErrorDevice = codes "error" ∷ codes "device" ∷ []
 entry_words (Release b f) = codes "release" ∷ buffer_text b.0 ∷ fence_number f.0 ∷ []
 entry_words (Signal f) = codes "signal" ∷ fence_number f.0 ∷ []
+entry_words (Early n s b f) = codes "early" ∷ decimal n.0 ∷ decimal s.0 ∷ buffer_text b.0 ∷ device_fence f.0 ∷ []
+entry_words (Late f digest) = codes "filled" ∷ device_fence f.0 ∷ encode_lower digest ∷ []
 
 -- the line of an entry, with its end
 unfoldable pub line_of : Entry → List ℕ
 line_of entry = line_text (entry_words entry)
 
--- a whole trace: `trace 1`, the lines of the entries in order, the oldest first, and `end`
-unfoldable pub spelling : List Entry → List ℕ
-spelling trace = line_text (codes "trace" ∷ codes "1" ∷ []) ++ (flat_map line_of trace ++ line_text (codes "end" ∷ []))
+-- ---- the first line
+
+-- `trace 1`, or `trace 2 DEPTH RAW YUV` where a profile is named
+abbrev pub first_words : Option Profile → List (List ℕ)
+first_words None = codes "trace" ∷ codes "1" ∷ []
+first_words (Some p) = codes "trace" ∷ codes "2" ∷ decimal p.depth ∷ decimal p.raw ∷ decimal p.yuv ∷ []
+
+-- a trace may have the first line: each number of a profile is from 1 to 16
+abbrev pub first_line_fits : Option Profile → Bool
+first_line_fits None = true
+first_line_fits (Some p) = is_profile p
+
+unfoldable pub first_line_of : Option Profile → List ℕ
+first_line_of profile = line_text (first_words profile)
+
+-- ---- a whole trace
+
+-- the first line, the lines of the entries in order, the oldest first, and `end`
+unfoldable pub spelling : Option Profile → List Entry → List ℕ
+spelling profile trace = first_line_of profile ++ (flat_map line_of trace ++ line_text (codes "end" ∷ []))

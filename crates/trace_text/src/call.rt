@@ -3,7 +3,8 @@
 ghost use Rattle.std.specs.Prelude.{◌≡◌, ◌≤◌, ◌+◌, ◌++◌, length, IsTrue, map, option_to_list, decimal};
 ghost use Rattle.cam_types.specs.Four.{four_list};
 ghost use Rattle.trace_model.specs.Printable.{is_filled, reply_fits};
-ghost use Rattle.trace_text.specs.Spelling.{behind_spaces, made_words, reply_words, line_text, entry_words};
+ghost use Rattle.text_parts.specs.Lines.{line_text};
+ghost use Rattle.trace_text.specs.Spelling.{behind_spaces, made_words, reply_words, entry_words};
 
 use crate::room::{ROOM, Room};
 use crate::word::{put_buffer, put_request, put_word};

@@ -3,10 +3,11 @@
 ghost use Rattle.std.specs.Prelude.{◌≡◌, ◌≤◌, ◌+◌, ◌++◌, ◌∷◌, length, map, option_to_list};
 ghost use Rattle.cam_types.specs.Four.{four_list};
 ghost use Rattle.meta_rules.specs.Parts.{PartFits};
-ghost use Rattle.trace_text.specs.Spelling.{behind_spaces, sent_text, part_text, mark_text, returned_text, line_text, entry_words};
+ghost use Rattle.text_parts.specs.Lines.{line_text};
+ghost use Rattle.trace_text.specs.Spelling.{behind_spaces, sent_text, part_text, mark_text, place_text, entry_words};
 
 use crate::room::{ROOM, Room};
-use crate::word::{put_buffer, put_fence, put_fence_number, put_item};
+use crate::word::{put_buffer, put_device_fence, put_fence, put_fence_number, put_item};
 use cam_types::{BufferId, FenceNo, Four, FrameNo, Part, RequestId, StreamIx};
 use meta_rules::part_bytes;
 use trace_model::{Entry, Sent};
@@ -123,13 +124,13 @@ pub fn put_partial(room: &mut Room, frame: FrameNo, number: u8, part: Part)
     room.put(b"\n");
 }
 
-/// Writes the words that name a buffer which comes back.
-fn put_returned(room: &mut Room, frame: FrameNo, stream: StreamIx, buffer: BufferId)
-    requires { length room.old + 60 ≤ ROOM }
-    ensures text { room.new ≡ room.old ++ returned_text frame.0 stream.0 buffer.0 }
-    ensures len { length room.new ≤ length room.old + 60 }
+/// Writes the frame, the stream and the buffer of a buffer that comes back, each behind a space.
+fn put_place(room: &mut Room, frame: FrameNo, stream: StreamIx, buffer: BufferId)
+    requires { length room.old + 40 ≤ ROOM }
+    ensures text { room.new ≡ room.old ++ place_text frame.0 stream.0 buffer.0 }
+    ensures len { length room.new ≤ length room.old + 40 }
 {
-    room.put(b"buffer ");
+    room.put(b" ");
     room.put_small(frame.0);
     room.put(b" ");
     room.put_small(u32::from(stream.0));
@@ -149,7 +150,8 @@ pub fn put_filled(
     requires { length room.old + 200 ≤ ROOM }
     ensures { room.new ≡ room.old ++ line_text (entry_words (Entry.Filled frame stream buffer fence digest)) }
 {
-    put_returned(room, frame, stream, buffer);
+    room.put(b"buffer");
+    put_place(room, frame, stream, buffer);
     room.put(b" ok - ");
     room.put_hex(&digest);
     room.put(b"\n");
@@ -166,7 +168,8 @@ pub fn put_failed(
     requires { length room.old + 100 ≤ ROOM }
     ensures { room.new ≡ room.old ++ line_text (entry_words (Entry.Failed frame stream buffer fence)) }
 {
-    put_returned(room, frame, stream, buffer);
+    room.put(b"buffer");
+    put_place(room, frame, stream, buffer);
     room.put(b" error ");
     put_fence(room, fence);
     room.put(b"\n");
@@ -223,5 +226,35 @@ pub fn put_signal(room: &mut Room, fence: FenceNo)
 {
     room.put(b"signal ");
     put_fence_number(room, fence);
+    room.put(b"\n");
+}
+
+/// Writes the line of a buffer that comes back before it is filled.
+pub fn put_early(
+    room: &mut Room,
+    frame: FrameNo,
+    stream: StreamIx,
+    buffer: BufferId,
+    fence: FenceNo,
+)
+    requires { length room.old + 100 ≤ ROOM }
+    ensures { room.new ≡ room.old ++ line_text (entry_words (Entry.Early frame stream buffer fence)) }
+{
+    room.put(b"early");
+    put_place(room, frame, stream, buffer);
+    room.put(b" ");
+    put_device_fence(room, fence);
+    room.put(b"\n");
+}
+
+/// Writes the line of a picture that is filled after its buffer came back.
+pub fn put_late(room: &mut Room, fence: FenceNo, digest: [u8; 32])
+    requires { length room.old + 150 ≤ ROOM }
+    ensures { room.new ≡ room.old ++ line_text (entry_words (Entry.Late fence digest)) }
+{
+    room.put(b"filled ");
+    put_device_fence(room, fence);
+    room.put(b" ");
+    room.put_hex(&digest);
     room.put(b"\n");
 }

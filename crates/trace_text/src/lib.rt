@@ -1,10 +1,12 @@
-//! Traces as text: the one spelling of each entry's line.
+//! Traces as text: the one spelling of the first line, of each entry's line, and of the summary.
 #![tactic(auto)]
 
 mod call;
+mod first;
 mod frame;
 mod printer;
 mod room;
+mod summary;
 mod word;
 
 pub use printer::Printer;

@@ -2,7 +2,9 @@ ghost use Rattle.std.specs.Prelude.{◌≡◌, IsTrue};
 ghost use Rattle.trace_model.specs.Printable.{is_printable};
 
 use super::*;
-use cam_types::{BufferId, FenceNo, Four, FrameNo, Made, Part, Reply, RequestId, StreamIx, Word};
+use cam_types::{
+    BufferId, FenceNo, Four, FrameNo, Made, Part, Profile, Reply, RequestId, StreamIx, Word,
+};
 use std::process::Abort;
 use std::test::Fail;
 use trace_model::{Entry, Sent};
@@ -50,7 +52,7 @@ fn refused(code: u8, first: Option<u32>, second: Option<u32>) -> Reply
 
 #[test]
 fn commands_have_their_lines(rt: HostRuntime) -> Result<(), Fail> {
-    let mut printer = Printer::new(rt.alloc())?;
+    let mut printer = Printer::new(rt.alloc(), None)?;
     let word = Word::Flush;
     prints(&rt, &mut printer, Entry::Begin { word }, "begin flush\n");
     let ok = Reply::Ok;
@@ -97,7 +99,7 @@ fn commands_have_their_lines(rt: HostRuntime) -> Result<(), Fail> {
 
 #[test]
 fn frames_have_their_lines(rt: HostRuntime) -> Result<(), Fail> {
-    let mut printer = Printer::new(rt.alloc())?;
+    let mut printer = Printer::new(rt.alloc(), None)?;
     let (frame, stream, buffer) = (FrameNo(0), StreamIx(0), BufferId(0));
     let fence = None;
     let digest = DIGEST;
@@ -175,7 +177,7 @@ fn frames_have_their_lines(rt: HostRuntime) -> Result<(), Fail> {
 
 #[test]
 fn the_greatest_numbers_fit(rt: HostRuntime) -> Result<(), Fail> {
-    let mut printer = Printer::new(rt.alloc())?;
+    let mut printer = Printer::new(rt.alloc(), None)?;
     let frame = LAST;
     let request = RequestId(u32::MAX);
     let item = u32::MAX;
@@ -219,5 +221,86 @@ fn the_greatest_numbers_fit(rt: HostRuntime) -> Result<(), Fail> {
         send,
         "send 4294967295 r4294967295.0 new 255:b4294967295:f4294967295\n",
     );
+    Ok(())
+}
+
+#[test]
+fn early_buffers_have_their_lines(rt: HostRuntime) -> Result<(), Fail> {
+    let mut printer = Printer::new(rt.alloc(), None)?;
+    let (frame, stream, buffer, fence) = (FrameNo(2), StreamIx(1), BufferId(7), FenceNo(10));
+    let early = Entry::Early {
+        frame,
+        stream,
+        buffer,
+        fence,
+    };
+    prints(&rt, &mut printer, early, "early 2 1 b7 d10\n");
+    let digest = DIGEST;
+    let late = Entry::Late { fence, digest };
+    let line = "filled d10 491c98e23a1dc04357f39fa7457341ce546f88359ebdda8a69dd70fee6c2314c\n";
+    prints(&rt, &mut printer, late, line);
+    Ok(())
+}
+
+#[test]
+fn the_first_line_names_the_profile(rt: HostRuntime) -> Result<(), Fail> {
+    let mut printer = Printer::new(rt.alloc(), None)?;
+    assert_eq!(rt; printer.first_line(), b"trace 1\n".as_slice());
+    let (depth, raw, yuv) = (16, 1, 7);
+    let mut printer = Printer::new(rt.alloc(), Some(Profile { depth, raw, yuv }))?;
+    assert_eq!(rt; printer.first_line(), b"trace 2 16 1 7\n".as_slice());
+    Ok(())
+}
+
+/// Entries of which some are counted.
+const SOME: &[Entry] = &[
+    Entry::Begin {
+        word: Word::Configure,
+    },
+    Entry::Call {
+        index: 0,
+        word: Word::Close,
+        reply: Reply::Ok,
+    },
+    Entry::Call {
+        index: 1,
+        word: Word::Close,
+        reply: Reply::Ok,
+    },
+    Entry::Call {
+        index: 2,
+        word: Word::Close,
+        reply: Reply::Ok,
+    },
+    Entry::Dropped {
+        frame: LAST,
+        request: RequestId(0),
+        item: 0,
+    },
+    Entry::Partial {
+        frame: LAST,
+        number: 2,
+        part: Part::Time { timestamp: 0 },
+    },
+    Entry::Partial {
+        frame: LAST,
+        number: 3,
+        part: Part::Time { timestamp: 0 },
+    },
+    Entry::ErrorRequest { frame: LAST },
+    Entry::ErrorResult { frame: LAST },
+    Entry::ErrorResult { frame: LAST },
+    Entry::Late {
+        fence: FenceNo(0),
+        digest: DIGEST,
+    },
+];
+
+#[test]
+fn the_summary_counts_each_kind(rt: HostRuntime) -> Result<(), Fail> {
+    let mut printer = Printer::new(rt.alloc(), None)?;
+    let line =
+        "commands 3 frames 0 dropped 1 results 1 request-errors 1 result-errors 2 buffers-ok 0 buffers-error 0 entries 11\n";
+    assert_eq!(rt; printer.summary(SOME), line.as_bytes());
     Ok(())
 }

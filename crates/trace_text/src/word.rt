@@ -1,29 +1,12 @@
 //! Words of a line.
 
 ghost use Rattle.std.specs.Prelude.{◌≡◌, ◌≤◌, ◌+◌, ◌++◌, length};
-ghost use Rattle.trace_text.specs.Spelling.{word_text, buffer_text, fence_number, fence_text, request_text, item_text};
+ghost use Rattle.trace_text.specs.Spelling.{buffer_text, fence_number, device_fence, fence_text, request_text, item_text};
+ghost use Rattle.command_words.specs.Words.{word_text};
 
 use crate::room::{ROOM, Room};
 use cam_types::{BufferId, FenceNo, RequestId, Word};
-
-/// The text of a command's word.
-fn word_text(word: Word) -> &'static [u8]
-    ensures text { result.now ≡ word_text word }
-    ensures len { length result.now ≤ 10 }
-{
-    match word {
-        Word::Configure => b"configure",
-        Word::Once => b"once",
-        Word::Burst => b"burst",
-        Word::Repeat => b"repeat",
-        Word::Stop => b"stop",
-        Word::Wait => b"wait",
-        Word::Await => b"await",
-        Word::Flush => b"flush",
-        Word::Close => b"close",
-        Word::Disconnect => b"disconnect",
-    }
-}
+use command_words::word_text;
 
 /// Writes a command's word.
 pub fn put_word(room: &mut Room, word: Word)
@@ -31,7 +14,7 @@ pub fn put_word(room: &mut Room, word: Word)
     ensures text { room.new ≡ room.old ++ word_text word }
     ensures len { length room.new ≤ length room.old + 10 }
 {
-    room.put(word_text(word));
+    room.put(word_text(word).as_bytes());
 }
 
 /// Writes a buffer.
@@ -51,6 +34,16 @@ pub fn put_fence_number(room: &mut Room, fence: FenceNo)
     ensures len { length room.new ≤ length room.old + 11 }
 {
     room.put(b"f");
+    room.put_small(fence.0);
+}
+
+/// Writes a fence that the device signals.
+pub fn put_device_fence(room: &mut Room, fence: FenceNo)
+    requires { length room.old + 11 ≤ ROOM }
+    ensures text { room.new ≡ room.old ++ device_fence fence.0 }
+    ensures len { length room.new ≤ length room.old + 11 }
+{
+    room.put(b"d");
     room.put_small(fence.0);
 }
 

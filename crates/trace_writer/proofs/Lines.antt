@@ -4,7 +4,8 @@ use Rattle.std.proofs.lemmas.Grind.{flat_map-append}
 use Rattle.std.proofs.lemmas.List.{flat_map_more, take_more}
 use Rattle.std.specs.List.{flat_map}
 use Rattle.trace_model.specs.declared.entry.Entry.{Entry}
-use Rattle.trace_text.specs.Spelling.{line_of, spelling}
+use Rattle.trace_text.specs.Spelling.{line_of}
+use Rattle.trace_writer.specs.Pieces.{text_behind}
 
 -- one line more
 pub one-more : (text : List ℕ) (trace : List Entry) (i : ℕ) (d : Entry) → i < length trace → (text ++ flat_map line_of (take i trace)) ++ line_of (get_or trace i d) ≡ text ++ flat_map line_of (take (i + 1) trace)
@@ -18,12 +19,9 @@ with-rest text trace i =
     ∙ ap (λ (l : List ℕ). text ++ l) (sym (flat_map-append line_of (take i trace) (drop i trace)) ∙ ap (flat_map line_of) (take-append-drop i trace))
 
 -- the whole text
-pub spelled : (trace : List Entry) → (codes "trace 1\n" ++ flat_map line_of trace) ++ codes "end\n" ≡ spelling trace
-unfolding spelling
-spelled trace = append_assoc (codes "trace 1\n") (flat_map line_of trace) (codes "end\n")
+pub spelled : (first : List ℕ) (trace : List Entry) → (first ++ flat_map line_of trace) ++ codes "end\n" ≡ text_behind first trace
+spelled first trace = append_assoc first (flat_map line_of trace) (codes "end\n")
 
 -- the first line, and what comes after it
-pub opened-spelled : (trace : List Entry) (none : List ℕ) → none ≡ [] → (none ++ codes "trace 1\n") ++ (flat_map line_of trace ++ codes "end\n") ≡ spelling trace
-opened-spelled trace none e =
-    ap (λ (l : List ℕ). (l ++ codes "trace 1\n") ++ (flat_map line_of trace ++ codes "end\n")) e
-    ∙ (sym (append_assoc (codes "trace 1\n") (flat_map line_of trace) (codes "end\n")) ∙ spelled trace)
+pub opened-spelled : (first : List ℕ) (trace : List Entry) (none : List ℕ) → none ≡ [] → (none ++ first) ++ (flat_map line_of trace ++ codes "end\n") ≡ text_behind first trace
+opened-spelled first trace none e = ap (λ (l : List ℕ). (l ++ first) ++ (flat_map line_of trace ++ codes "end\n")) e

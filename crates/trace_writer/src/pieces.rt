@@ -1,9 +1,9 @@
 //! Bytes that are gathered into pieces on their way to a sink.
 
 ghost use Rattle.std.specs.Prelude.{◌≡◌, ◌-◌, ◌<◌, ◌++◌, [], length, take, min, IfOk, OnOk, OnErr};
-ghost use Rattle.std.specs.Io.KnownBytes.{Appends};
 ghost use Rattle.io_edge.specs.Faults.{Counts};
-ghost use Rattle.trace_writer.specs.Pieces.{Breaks, Gathers};
+ghost use Rattle.io_edge.specs.States.{Breaks, Writes};
+ghost use Rattle.trace_writer.specs.Pieces.{Gathers};
 
 use cam_types::NoMemory;
 use io_edge::{Failed, Sink, write_all};
@@ -57,10 +57,10 @@ impl Pieces {
 
     /// Writes what is gathered.
     pub fn flush<K: Sink>(&mut self, sink: &mut K) -> Result<(), Failed>
-        ensures written { OnOk result (Appends (K.written sink.old) (K.written sink.new) self.old) }
+        ensures written { OnOk result (Writes (K.state sink.old) (K.state sink.new) self.old) }
         ensures empty { OnOk result (self.new ≡ []) }
-        ensures failed { OnErr result (Breaks (K.written sink.old) (K.written sink.new) self.old) }
-        ensures faults { Counts result (K.faults sink.old) (K.faults sink.new) }
+        ensures failed { OnErr result (Breaks (K.state sink.old) (K.state sink.new) self.old) }
+        ensures faults { Counts result (K.state sink.old).faults (K.state sink.new).faults }
     {
         write_all(sink, self.gathered.as_slice())?;
         self.clear();
@@ -69,10 +69,10 @@ impl Pieces {
 
     /// Writes the piece where it is full.
     fn make_room<K: Sink>(&mut self, sink: &mut K) -> Result<(), Failed>
-        ensures text { OnOk result (Gathers (K.written sink.old) (K.written sink.new) self.new self.old) }
+        ensures text { OnOk result (Gathers (K.state sink.old) (K.state sink.new) self.new self.old) }
         ensures room { OnOk result (length self.new < PIECE) }
-        ensures failed { OnErr result (Breaks (K.written sink.old) (K.written sink.new) self.old) }
-        ensures faults { Counts result (K.faults sink.old) (K.faults sink.new) }
+        ensures failed { OnErr result (Breaks (K.state sink.old) (K.state sink.new) self.old) }
+        ensures faults { Counts result (K.state sink.old).faults (K.state sink.new).faults }
     {
         if self.gathered.len() == PIECE {
             self.flush(sink)
@@ -83,9 +83,9 @@ impl Pieces {
 
     /// Gathers bytes. Each piece is written once it is full and a byte more comes.
     pub fn put<K: Sink>(&mut self, bytes: &[u8], sink: &mut K) -> Result<(), Failed>
-        ensures text { OnOk result (Gathers (K.written sink.old) (K.written sink.new) self.new (self.old ++ bytes.now)) }
-        ensures failed { OnErr result (Breaks (K.written sink.old) (K.written sink.new) (self.old ++ bytes.now)) }
-        ensures faults { Counts result (K.faults sink.old) (K.faults sink.new) }
+        ensures text { OnOk result (Gathers (K.state sink.old) (K.state sink.new) self.new (self.old ++ bytes.now)) }
+        ensures failed { OnErr result (Breaks (K.state sink.old) (K.state sink.new) (self.old ++ bytes.now)) }
+        ensures faults { Counts result (K.state sink.old).faults (K.state sink.new).faults }
     {
         let mut done = 0;
         while done < bytes.len() {

@@ -1,6 +1,6 @@
 //! Traces written to a sink in memory, of which some calls are to fail.
 use super::*;
-use cam_types::Word;
+use cam_types::{Profile, Word};
 use io_edge::MemSink;
 use std::alloc::{AllocError, Global};
 use std::test::Fail;
@@ -41,7 +41,7 @@ const CASES: &[Case] = &[
 fn a_trace_is_written_in_pieces(rt: HostRuntime) -> Result<(), Fail> {
     let alloc = rt.alloc();
     let text = text_of(alloc, TRACE.len())?;
-    let mut writer = TraceWriter::new(alloc)?;
+    let mut writer = TraceWriter::new(alloc, None)?;
     for (room, piece, failing, is_ok, written) in CASES {
         assert!(rt; *piece > 0);
         let mut sink = MemSink::new(alloc, *room, *piece, failing.to_vec(alloc)?)?;
@@ -55,7 +55,7 @@ fn a_trace_is_written_in_pieces(rt: HostRuntime) -> Result<(), Fail> {
 #[test]
 fn a_writer_writes_again(rt: HostRuntime) -> Result<(), Fail> {
     let alloc = rt.alloc();
-    let mut writer = TraceWriter::new(alloc)?;
+    let mut writer = TraceWriter::new(alloc, None)?;
     for count in [0, 1, 2] {
         let mut sink = MemSink::new(alloc, 100, 100, Vec::new(alloc))?;
         let entries: &[Entry] = match count {
@@ -66,5 +66,16 @@ fn a_writer_writes_again(rt: HostRuntime) -> Result<(), Fail> {
         assert!(rt; writer.write(entries, &mut sink).is_ok());
         assert_eq!(rt; sink.bytes(), text_of(alloc, count)?.as_slice());
     }
+    Ok(())
+}
+
+#[test]
+fn the_first_line_names_the_profile(rt: HostRuntime) -> Result<(), Fail> {
+    let alloc = rt.alloc();
+    let (depth, raw, yuv) = (8, 3, 7);
+    let mut writer = TraceWriter::new(alloc, Some(Profile { depth, raw, yuv }))?;
+    let mut sink = MemSink::new(alloc, 100, 100, Vec::new(alloc))?;
+    assert!(rt; writer.write(&[], &mut sink).is_ok());
+    assert_eq!(rt; sink.bytes(), b"trace 2 8 3 7\nend\n".as_slice());
     Ok(())
 }

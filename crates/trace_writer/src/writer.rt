@@ -1,25 +1,40 @@
 //! A whole trace, written line by line.
 
 ghost use Rattle.std.specs.Prelude.{◌≡◌, ◌++◌, OnOk, OnErr, IfOk, IsTrue, [], true};
-ghost use Rattle.std.specs.Io.KnownBytes.{Appends};
 ghost use Rattle.std.specs.List.{flat_map, list_all};
 ghost use Rattle.io_edge.specs.Faults.{Counts};
+ghost use Rattle.io_edge.specs.States.{Breaks, Writes};
 ghost use Rattle.trace_model.specs.Printable.{is_printable};
 ghost use Rattle.trace_text.specs.Spelling.{line_of, spelling};
-ghost use Rattle.trace_writer.specs.Pieces.{Breaks, Gathers};
+ghost use Rattle.trace_writer.specs.Pieces.{Gathers, text_behind};
 
 use crate::pieces::Pieces;
-use cam_types::NoMemory;
+use cam_types::{NoMemory, Profile};
 use io_edge::{Failed, Sink};
 use std::alloc::Global;
+use std::marker::Model;
 use trace_model::Entry;
 use trace_text::Printer;
 
-/// Writes traces. All its memory is taken when it is made.
+/// Writes traces. All its memory is taken when it is made. A contract sees the profile that the first line names.
 #[derive(Drop)]
 pub struct TraceWriter {
+    named: Option<Profile>,
+    first: Vec<u8>,
     printer: Printer,
     pieces: Pieces,
+}
+
+impl Model for TraceWriter {
+    ghost use Rattle.std.specs.Prelude.{◌≡◌, Option};
+    ghost use Rattle.cam_types.specs.declared.profile.Profile.{Profile as AProfile};
+    ghost use Rattle.trace_text.specs.Spelling.{first_line_of};
+
+    ghost Value = { Option AProfile };
+
+    ghost view = { λ w. w.named };
+
+    ghost invariant = { λ w. w.first.items ≡ first_line_of w.named };
 }
 
 /// Gathers the lines of entries, in order.
@@ -30,9 +45,9 @@ fn put_lines<K: Sink>(
     sink: &mut K,
 ) -> Result<(), Failed>
     requires { list_all is_printable trace.now ≡ true }
-    ensures text { OnOk result (Gathers (K.written sink.old) (K.written sink.new) pieces.new (pieces.old ++ flat_map line_of trace.now)) }
-    ensures failed { OnErr result (Breaks (K.written sink.old) (K.written sink.new) (pieces.old ++ flat_map line_of trace.now)) }
-    ensures faults { Counts result (K.faults sink.old) (K.faults sink.new) }
+    ensures text { OnOk result (Gathers (K.state sink.old) (K.state sink.new) pieces.new (pieces.old ++ flat_map line_of trace.now)) }
+    ensures failed { OnErr result (Breaks (K.state sink.old) (K.state sink.new) (pieces.old ++ flat_map line_of trace.now)) }
+    ensures faults { Counts result (K.state sink.old).faults (K.state sink.new).faults }
 {
     for entry in trace {
         pieces.put(printer.line(*entry), sink)?;
@@ -40,25 +55,57 @@ fn put_lines<K: Sink>(
     Ok(())
 }
 
+/// Writes a whole trace with this first line.
+fn write_pieces<K: Sink>(
+    first: &[u8],
+    printer: &mut Printer,
+    pieces: &mut Pieces,
+    trace: &[Entry],
+    sink: &mut K,
+) -> Result<(), Failed>
+    requires { list_all is_printable trace.now ≡ true }
+    ensures written { OnOk result (Writes (K.state sink.old) (K.state sink.new) (text_behind first.now trace.now)) }
+    ensures failed { OnErr result (Breaks (K.state sink.old) (K.state sink.new) (text_behind first.now trace.now)) }
+    ensures faults { Counts result (K.state sink.old).faults (K.state sink.new).faults }
+{
+    pieces.clear();
+    pieces.put(first, sink)?;
+    put_lines(printer, pieces, trace, sink)?;
+    pieces.put(b"end\n", sink)?;
+    pieces.flush(sink)
+}
+
 impl TraceWriter {
-    /// A writer with its room.
-    pub fn new(alloc: Global) -> Result<TraceWriter, NoMemory> {
-        let printer = Printer::new(alloc)?;
+    /// A writer with its room, for traces of the first version, or of the second where a profile is named.
+    pub fn new(alloc: Global, profile: Option<Profile>) -> Result<TraceWriter, NoMemory>
+        ensures { IfOk result (λ writer. writer ≡ profile) }
+    {
+        let mut printer = Printer::new(alloc, profile)?;
+        let first = printer.first_line().to_vec(alloc)?;
         let pieces = Pieces::new(alloc)?;
-        Ok(TraceWriter { printer, pieces })
+        Ok(TraceWriter {
+            named: profile,
+            first,
+            printer,
+            pieces,
+        })
     }
 
     /// Writes a whole trace, in pieces of `PIECE` bytes as they fill, and the rest at the end. It takes no memory.
+    #[tactic(auto, unfolding(trace_text::specs::Spelling::spelling))]
     pub fn write<K: Sink>(&mut self, trace: &[Entry], sink: &mut K) -> Result<(), Failed>
         requires { list_all is_printable trace.now ≡ true }
-        ensures written { OnOk result (Appends (K.written sink.old) (K.written sink.new) (spelling trace.now)) }
-        ensures failed { OnErr result (Breaks (K.written sink.old) (K.written sink.new) (spelling trace.now)) }
-        ensures faults { Counts result (K.faults sink.old) (K.faults sink.new) }
+        ensures same { self.new ≡ self.old }
+        ensures written { OnOk result (Writes (K.state sink.old) (K.state sink.new) (spelling self.old trace.now)) }
+        ensures failed { OnErr result (Breaks (K.state sink.old) (K.state sink.new) (spelling self.old trace.now)) }
+        ensures faults { Counts result (K.state sink.old).faults (K.state sink.new).faults }
     {
-        self.pieces.clear();
-        self.pieces.put(b"trace 1\n", sink)?;
-        put_lines(&mut self.printer, &mut self.pieces, trace, sink)?;
-        self.pieces.put(b"end\n", sink)?;
-        self.pieces.flush(sink)
+        write_pieces(
+            self.first.as_slice(),
+            &mut self.printer,
+            &mut self.pieces,
+            trace,
+            sink,
+        )
     }
 }

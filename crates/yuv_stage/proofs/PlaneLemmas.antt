@@ -1,24 +1,13 @@
 -- Planes that are written row by row, and the pictures that they make.
-use Rattle.std.proofs.Common.{◌≡◌, ℕ, ◌+◌, ◌-◌, ◌*◌, ◌/◌, ◌%◌, ◌<◌, ◌≤◌, List, ◌++◌, length, take, drop, get_or, refl, ap, sym, ◌∙◌, arith, inl, inr}
+use Rattle.std.proofs.Common.{◌≡◌, ℕ, ◌+◌, ◌*◌, ◌/◌, ◌%◌, ◌<◌, ◌≤◌, List, ◌++◌, length, take, drop, get_or, refl, ap, sym, ◌∙◌, arith}
 use Rattle.std.proofs.lemmas.Grind.{common_steps}
-use Rattle.std.proofs.lemmas.Bool.{cases_lt}
-use Rattle.std.proofs.lemmas.List.{places}
-use Rattle.std.proofs.lemmas.List.FromFn.{fill_by_all, length-map-range_with_len, get_or-map-range_with_len}
+use Rattle.std.proofs.lemmas.List.FromFn.{fill_by_all, get_or-map-range_with_len}
 use Rattle.std.proofs.lemmas.Nat.{div-mul-add, mod-mul-add, row_fits_turned}
 use Rattle.std.proofs.Math.Nat.{mul_comm}
 use Rattle.cam_types.specs.Picture.{plane, yuv_picture, of_cell, cell_at, luma, chroma_blue, chroma_red}
 use Rattle.yuv_stage.specs.Cells.{at_cell}
-
--- one more row is written, and all of it has the values of f
-rows-more : (f : ℕ → ℕ) (xs row : List ℕ) (at width : ℕ) → at + width ≤ length xs → length row ≡ width → ((k : ℕ) → k < at → get_or xs k 0 ≡ f k) → ((x : ℕ) → x < width → get_or row x 0 ≡ f (at + x)) → (k : ℕ) → k < at + width → get_or (take at xs ++ (row ++ drop width (drop at xs))) k 0 ≡ f k
-rows-more f xs row at width fits len before here k below =
-    elim (cases_lt k at) [
-      | inl less ↦ (let e : get_or (take at xs ++ (row ++ drop width (drop at xs))) k 0 ≡ get_or xs k 0 = grind (arith, places) in
-          e ∙ before k less)
-      | inr more ↦ (let e : get_or (take at xs ++ (row ++ drop width (drop at xs))) k 0 ≡ get_or row (k - at) 0 = grind (arith, places) in
-          let same : at + (k - at) ≡ k = omega arith in
-          e ∙ (here (k - at) (omega arith) ∙ ap f same))
-    ]
+use Rattle.cam_types.proofs.WrittenLemmas.{rows-more}
+use Rattle.cam_types.proofs.PictureLemmas.{plane-same}
 
 -- one more row of a plane is written
 pub plane-more : (value : ℕ → ℕ → ℕ) (width y wide : ℕ) (xs row : List ℕ) → wide ≡ width → y * width + width ≤ length xs → length row ≡ width → ((k : ℕ) → k < y * width → get_or xs k 0 ≡ value (k % width) (k / width)) → ((x : ℕ) → x < width → get_or row x 0 ≡ value x y) → (k : ℕ) → k < (y + 1) * width → get_or (take (y * width) xs ++ (row ++ drop wide (drop (y * width) xs))) k 0 ≡ value (k % width) (k / width)
@@ -35,15 +24,6 @@ plane-all value width height xs len each = fill_by_all (λ i. value (i % width) 
 value-at : (value : ℕ → ℕ → ℕ) (width height k : ℕ) → k < width * height → get_or (plane value width height) k 0 ≡ value (k % width) (k / width)
 unfolding plane
 value-at value width height k h = get_or-map-range_with_len (λ i. value (i % width) (i / width)) 0 (width * height) k k 0 h (omega arith)
-
-length-plane : (value : ℕ → ℕ → ℕ) (width height : ℕ) → length (plane value width height) ≡ width * height
-unfolding plane
-length-plane value width height = length-map-range_with_len (λ i. value (i % width) (i / width)) 0 (width * height)
-
--- planes with the same values are one
-pub plane-same : (value other : ℕ → ℕ → ℕ) (width height : ℕ) → ((x y : ℕ) → value x y ≡ other x y) → plane value width height ≡ plane other width height
-plane-same value other width height each =
-    plane-all other width height (plane value width height) (length-plane value width height) (λ k h. value-at value width height k h ∙ each (k % width) (k / width))
 
 -- rows of 320 places are pairs of rows of 160, whose cells are the same
 pub pairs-are-rows : (part : ℕ → ℕ → ℕ → ℕ) (values : List ℕ) (k : ℕ) → at_cell part values (k % 320 % 160 / 2 * 2) (k / 320 * 2) ≡ at_cell part values (k % 160 / 2 * 2) (k / 160 / 2 * 2)

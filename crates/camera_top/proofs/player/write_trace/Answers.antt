@@ -1,6 +1,6 @@
-use Rattle.service_core.specs.History.{trace_of}
+use Rattle.run_model.specs.History.{trace_of}
 use Rattle.trace_model.specs.Printable.{is_printable}
-use Rattle.camera_top.proofs.Telling.{all-reverse}
+use Rattle.camera_top.proofs.General.{all-reverse}
 use Rattle.camera_top.proofs.player.write_trace.Goals as goal
 
 pub write-requires : goal.write-requires

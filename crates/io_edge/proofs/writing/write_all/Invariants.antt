@@ -1,13 +1,13 @@
 -- `write_all` has written just the bytes before `done`, and no fault was counted.
 use Rattle.std.proofs.Common.{ℕ, ◌≡◌, ◌-◌, ◌≤◌, length, take}
-use Rattle.std.specs.Io.KnownBytes.{Appends}
+use Rattle.io_edge.specs.States.{Writes}
 use Rattle.io_edge.proofs.writing.write_all.Given as goal
 
 abbrev pub invariant-loop-done : goal.invariant-loop-done
 invariant-loop-done g l = record {
   within : l.done ≤ length l.bytes;
-  written : Appends (g.K.Sink.written l.initial.sink) (g.K.Sink.written l.sink) (take l.done l.bytes);
-  uncounted : g.K.Sink.faults l.sink ≡ g.K.Sink.faults l.initial.sink;
+  written : Writes (g.K.Sink.state l.initial.sink) (g.K.Sink.state l.sink) (take l.done l.bytes);
+  uncounted : (g.K.Sink.state l.sink).faults ≡ (g.K.Sink.state l.initial.sink).faults;
   promised : (total : ℕ) → length l.bytes ≤ total → g.K.Sink.takes l.initial.sink total → g.K.Sink.takes l.sink (total - l.done);
 }
 

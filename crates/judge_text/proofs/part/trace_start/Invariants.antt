@@ -1,6 +1,6 @@
 use Rattle.std.proofs.Common.{◌≡◌, ◌≤◌, ◌+◌, length}
 use Rattle.std.specs.List.{list_any}
-use Rattle.script_text.specs.Words.{parts_at}
+use Rattle.text_parts.specs.Cuts.{parts_at}
 use Rattle.judge_text.specs.Parts.{bytes_before, is_trace_line}
 use Rattle.judge_text.proofs.part.trace_start.Given as goal
 

@@ -1,15 +1,16 @@
 use Rattle.std.proofs.Common.{◌+◌, ◌^◌, sym, arith}
-use Rattle.script_text.specs.Words.{parts_at, number_below}
+use Rattle.text_parts.specs.Cuts.{parts_at}
+use Rattle.text_parts.specs.Numbers.{number_below}
 use Rattle.script_text.specs.Values.{all_of}
 use Rattle.script_text.proofs.Targets.{joined-is, no_targets, too_many, all_targets}
 use Rattle.script_text.proofs.item.joined_targets.Goals as goal
 
-pub returns-in_default-byte_of : goal.returns-in_default-byte_of
-returns-in_default-byte_of c =
+pub returns-in_default-byte_number : goal.returns-in_default-byte_number
+returns-in_default-byte_number c =
     rw joined-is (sym (no_targets (all_of (number_below (2 ^ 8)) (parts_at 43 c.args.word.now)) (grind arith)))
 
-pub returns-in_default-byte_of-2 : goal.returns-in_default-byte_of-2
-returns-in_default-byte_of-2 c =
+pub returns-in_default-byte_number-2 : goal.returns-in_default-byte_number-2
+returns-in_default-byte_number-2 c =
     rw joined-is (sym (no_targets (all_of (number_below (2 ^ 8)) (parts_at 43 c.args.word.now)) (grind arith)))
 
 pub returns-then-count : goal.returns-then-count

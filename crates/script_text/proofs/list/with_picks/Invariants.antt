@@ -1,5 +1,5 @@
 use Rattle.std.proofs.Common.{◌≡◌, true, length}
-use Rattle.script_text.specs.Words.{words_of}
+use Rattle.text_parts.specs.Words.{loose_words}
 use Rattle.script_text.specs.Values.{all_of}
 use Rattle.script_text.specs.Lines.{number}
 use Rattle.script_text.specs.Within.{picks_within}
@@ -8,7 +8,7 @@ use Rattle.script_text.proofs.list.with_picks.Given as goal
 
 abbrev pub invariant-loop-word : goal.invariant-loop-word
 invariant-loop-word l = record {
-  same : with_front l.picks (all_of number (words_of l.rest)) ≡ with_front l.initial.picks (all_of number (words_of l.words));
+  same : with_front l.picks (all_of number (loose_words l.rest)) ≡ with_front l.initial.picks (all_of number (loose_words l.words));
   within : picks_within l.picks ≡ true;
 }
 

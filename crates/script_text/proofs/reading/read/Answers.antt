@@ -1,6 +1,6 @@
 use Rattle.std.proofs.Common.{◌≡◌, Ok, arith}
 use Rattle.script_text.specs.Grammar.{script_from, script_of}
-use Rattle.script_text.proofs.FitsValid.{fits-valid}
+use Rattle.script_spelling.proofs.FitsValid.{fits-valid}
 use Rattle.script_text.proofs.ValidLines.{text-valid}
 use Rattle.script_text.proofs.reading.read.Goals as goal
 

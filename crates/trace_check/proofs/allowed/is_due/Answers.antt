@@ -40,3 +40,6 @@ returns-in-Release c = λ _. judged c.args.script.now (reverse c.args.entries.no
 
 pub returns-in-Signal : goal.returns-in-Signal
 returns-in-Signal c = λ _. judged c.args.script.now (reverse c.args.entries.now) c.is_signal_due.result c.in-Signal.is (c.is_signal_due.ensures c.args.script.now)
+
+pub returns-in-Early : goal.returns-in-Early
+returns-in-Early c = λ _. judged c.args.script.now (reverse c.args.entries.now) c.is_early_due.result c.in-Early.is c.is_early_due.ensures

@@ -6,7 +6,7 @@ use Rattle.trace_model.specs.declared.entry.Sent.{Sent}
 use Rattle.trace_reader.specs.declared.cause.Cause.{Cause}
 use Rattle.trace_reader.specs.Lines.{up_to_four, send_of}
 use Rattle.trace_reader.specs.Values.{both, small, item, mark, sent}
-use Rattle.trace_reader.specs.Words.{words_behind}
+use Rattle.text_parts.specs.Words.{strict_words_behind}
 use Rattle.trace_reader.proofs.frame.send_of.Goals as goal
 
 send_refused : (ws : List (List ℕ)) (n i m : List ℕ) (more : List (List ℕ)) (number : Result ℕ Cause) (name : Result (ℕ × ℕ) Cause) (same : Result Bool Cause) (targets : Result (Four Sent) Cause)
@@ -22,10 +22,10 @@ pub returns-in_err-frame : goal.returns-in_err-frame
 returns-in_err-frame c =
     let p = err_from_is_err_and c.from_residual-in_err-frame.result c.from_residual-in_err-frame.ensures.1 in
     let was : c.both-3.result ≡ Err c.in_err-frame.field-0.0 = c.in_err-frame.was in
-    let e1 : words_behind c.args.rest.now ≡ c.in_ok-number.number.now ∷ words_behind c.in_ok-number.rest.now = first_of (grind arith, search rules, grind (arith, common_steps)) in
-    let e2 : words_behind c.in_ok-number.rest.now ≡ c.in_ok-name.name.now ∷ words_behind c.in_ok-name.rest.now = first_of (grind arith, search rules, grind (arith, common_steps)) in
-    let e3 : words_behind c.in_ok-name.rest.now ≡ c.in_ok-sign.sign.now ∷ words_behind c.in_ok-sign.rest.now = first_of (grind arith, search rules, grind (arith, common_steps)) in
-    let words : words_behind c.args.rest.now ≡ c.in_ok-number.number.now ∷ c.in_ok-name.name.now ∷ c.in_ok-sign.sign.now ∷ words_behind c.in_ok-sign.rest.now = rw (e1, e2, e3) refl in
-    rw (p.1, p.2) (sym (send_refused (words_behind c.args.rest.now) c.in_ok-number.number.now c.in_ok-name.name.now c.in_ok-sign.sign.now (words_behind c.in_ok-sign.rest.now)
+    let e1 : strict_words_behind c.args.rest.now ≡ c.in_ok-number.number.now ∷ strict_words_behind c.in_ok-number.rest.now = first_of (grind arith, search rules, grind (arith, common_steps)) in
+    let e2 : strict_words_behind c.in_ok-number.rest.now ≡ c.in_ok-name.name.now ∷ strict_words_behind c.in_ok-name.rest.now = first_of (grind arith, search rules, grind (arith, common_steps)) in
+    let e3 : strict_words_behind c.in_ok-name.rest.now ≡ c.in_ok-sign.sign.now ∷ strict_words_behind c.in_ok-sign.rest.now = first_of (grind arith, search rules, grind (arith, common_steps)) in
+    let words : strict_words_behind c.args.rest.now ≡ c.in_ok-number.number.now ∷ c.in_ok-name.name.now ∷ c.in_ok-sign.sign.now ∷ strict_words_behind c.in_ok-sign.rest.now = rw (e1, e2, e3) refl in
+    rw (p.1, p.2) (sym (send_refused (strict_words_behind c.args.rest.now) c.in_ok-number.number.now c.in_ok-name.name.now c.in_ok-sign.sign.now (strict_words_behind c.in_ok-sign.rest.now)
     c.small.result c.item.result c.mark.result c.targets.result c.both.result c.both-2.result c.both-3.result c.in_err-frame.field-0.0
     words c.small.ensures c.item.ensures c.mark.ensures c.targets.ensures c.both.ensures c.both-2.ensures c.both-3.ensures was))

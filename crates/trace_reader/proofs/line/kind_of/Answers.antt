@@ -23,3 +23,7 @@ returns-in-partial c = let e : c.args.word.now ≡ codes "partial" = search (rul
 pub returns-in-release : goal.returns-in-release
 unfolding kind_of
 returns-in-release c = let e : c.args.word.now ≡ codes "release" = search (rules, text_from_reads) in rw e refl
+
+pub returns-in-filled : goal.returns-in-filled
+unfolding kind_of
+returns-in-filled c = let e : c.args.word.now ≡ codes "filled" = search (rules, text_from_reads) in rw e refl

@@ -2,7 +2,7 @@ use Rattle.std.proofs.Common.{◌≡◌, ◌<◌, ◌++◌, ◌∷◌, [], true,
 use Rattle.std.specs.Prelude.{codes, bytes_eq}
 use Rattle.std.proofs.lemmas.Grind.{common_steps}
 use Rattle.std.proofs.lemmas.List.{length-append}
-use Rattle.trace_reader.specs.Words.{parts_at}
+use Rattle.text_parts.specs.Cuts.{parts_at}
 use Rattle.trace_reader.specs.Grammar.{entries_from}
 use Rattle.trace_reader.proofs.Fronts.{front_end, front_refused, front_read}
 use Rattle.trace_reader.proofs.reading.entries_from.Goals as goal

@@ -1,5 +1,5 @@
 use Rattle.std.proofs.Common.{◌≡◌, ◌+◌, ◌≤◌, length}
-use Rattle.trace_reader.specs.Words.{parts_at}
+use Rattle.text_parts.specs.Cuts.{parts_at}
 use Rattle.trace_reader.specs.Grammar.{entries_from}
 use Rattle.trace_reader.proofs.Fronts.{with_front}
 use Rattle.trace_reader.proofs.reading.entries_from.Given as goal

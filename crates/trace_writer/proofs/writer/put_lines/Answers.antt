@@ -13,7 +13,7 @@ returns-in_err-put-clause-failed g c =
     let before = old ++ flat_map line_of (take i trace) in
     let rest = flat_map line_of (drop (i + 1) trace) in
     let line : before ++ c.line.result.now ≡ old ++ flat_map line_of (take (i + 1) trace) = ap (λ (l : List ℕ). before ++ l) c.line.ensures ∙ one-more old trace i _ c.loop-entry-test.true in
-    on-err _ _ (put-broken _ _ _ _ before _ c.line.result.now rest c.loop-entry.invariant.so_far c.in_err-put.ensures.failed (ap (λ (l : List ℕ). l ++ rest) line ∙ with-rest old trace (i + 1)))
+    on-err _ _ (put-broken _ _ (g.K.Sink.state c.put.new.sink) _ before _ c.line.result.now rest c.loop-entry.invariant.so_far c.in_err-put.ensures.failed (ap (λ (l : List ℕ). l ++ rest) line ∙ with-rest old trace (i + 1)))
 
 pub loop-entry-preserved : goal.loop-entry-preserved
 loop-entry-preserved g c =

@@ -7,6 +7,6 @@ use Rattle.trace_writer.proofs.writer.put_lines.Given as goal
 
 abbrev pub invariant-loop-entry : goal.invariant-loop-entry
 invariant-loop-entry g l = record {
-  so_far : Gathers (g.K.Sink.written l.initial.sink) (g.K.Sink.written l.sink) l.pieces (l.initial.pieces ++ flat_map line_of (take l.entry-index l.trace));
-  uncounted : g.K.Sink.faults l.sink ≡ g.K.Sink.faults l.initial.sink;
+  so_far : Gathers (g.K.Sink.state l.initial.sink) (g.K.Sink.state l.sink) l.pieces (l.initial.pieces ++ flat_map line_of (take l.entry-index l.trace));
+  uncounted : (g.K.Sink.state l.sink).faults ≡ (g.K.Sink.state l.initial.sink).faults;
 }

@@ -1,7 +1,7 @@
 use Rattle.std.proofs.Common.{◌∙◌, sym, ap}
 use Rattle.cam_types.specs.Picture.{picture_of}
 use Rattle.sha2.specs.Sha256.{sha256}
-use Rattle.picture_digest.proofs.Drawing.{picture-of-readout}
+use Rattle.cam_types.proofs.PictureLemmas.{picture-of-readout}
 use Rattle.picture_digest.proofs.canvas.Canvas.digest.Goals as goal
 
 pub returns : goal.returns

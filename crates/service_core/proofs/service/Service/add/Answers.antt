@@ -1,7 +1,7 @@
 use Rattle.std.proofs.Common.{◌≡◌, ◌∷◌, Some, refl, arith}
+use Rattle.std.proofs.lemmas.Bool.{and_from}
 use Rattle.service_core.specs.Fit.{facts_of}
-use Rattle.service_core.specs.History.{trace_of}
-use Rattle.service_core.proofs.Lists.{and_from}
+use Rattle.run_model.specs.History.{trace_of}
 use Rattle.service_core.proofs.RawLemmas.{raw}
 use Rattle.service_core.specs.First.{entry_of}
 use Rattle.service_core.specs.Fit.{noted}

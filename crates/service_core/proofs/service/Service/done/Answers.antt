@@ -1,6 +1,6 @@
 use Rattle.std.proofs.Common.{arith}
 use Rattle.service_core.specs.Fit.{facts_of}
-use Rattle.service_core.specs.History.{trace_of}
+use Rattle.run_model.specs.History.{trace_of}
 use Rattle.service_core.proofs.RawLemmas.{raw}
 use Rattle.std.proofs.lemmas.Bool.Decides.{nat_tests}
 use Rattle.service_core.proofs.Ending.{decides}

@@ -1,6 +1,6 @@
 use Rattle.std.proofs.Common.{◌∙◌, sym, arith}
 use Rattle.service_core.specs.Fit.{facts_of}
-use Rattle.service_core.specs.History.{trace_of}
+use Rattle.run_model.specs.History.{trace_of}
 use Rattle.service_core.proofs.Drawing.{digest-raw}
 use Rattle.service_core.proofs.RawLemmas.{raw}
 use Rattle.service_core.proofs.Tabled.{deliverable-range, filled-no-is, filled-yes-is}

@@ -1,6 +1,6 @@
 use Rattle.std.proofs.Common.{◌∙◌, sym}
 use Rattle.service_core.specs.Fit.{facts_of}
-use Rattle.service_core.specs.History.{trace_of}
+use Rattle.run_model.specs.History.{trace_of}
 use Rattle.service_core.proofs.RawLemmas.{raw}
 use Rattle.service_core.proofs.Tabled.{partial-is}
 use Rattle.service_core.proofs.service.Service.partial.Goals as goal

@@ -8,8 +8,10 @@ pub returns-in_err-make_room-clause-failed : goal.returns-in_err-make_room-claus
 returns-in_err-make_room-clause-failed g c =
     let all = c.args.bytes.now in
     let done = c.loop-done.done in
-    let fault = broken _ _ _ _ _ c.loop-done.invariant.so_far c.in_err-make_room.ensures.failed in
-    on-err _ _ (shorter _ _ _ _ (drop done all) fault (append_assoc c.args.self.now (take done all) (drop done all) ∙ ap (λ (l : List ℕ). c.args.self.now ++ l) (take-append-drop done all)))
+    let first = g.K.Sink.state c.args.sink.now in
+    let last = g.K.Sink.state c.make_room.new.sink in
+    let fault = broken _ _ last _ _ c.loop-done.invariant.so_far c.in_err-make_room.ensures.failed in
+    on-err _ _ (shorter first last _ _ (drop done all) fault (append_assoc c.args.self.now (take done all) (drop done all) ∙ ap (λ (l : List ℕ). c.args.self.now ++ l) (take-append-drop done all)))
 
 pub loop-done-preserved : goal.loop-done-preserved
 loop-done-preserved g c =

@@ -6,8 +6,8 @@ use Rattle.trace_writer.proofs.pieces.Pieces.put.Given as goal
 abbrev pub invariant-loop-done : goal.invariant-loop-done
 invariant-loop-done g l = record {
   within : l.done ≤ length l.bytes;
-  so_far : Gathers (g.K.Sink.written l.initial.sink) (g.K.Sink.written l.sink) l.self (l.initial.self ++ take l.done l.bytes);
-  uncounted : g.K.Sink.faults l.sink ≡ g.K.Sink.faults l.initial.sink;
+  so_far : Gathers (g.K.Sink.state l.initial.sink) (g.K.Sink.state l.sink) l.self (l.initial.self ++ take l.done l.bytes);
+  uncounted : (g.K.Sink.state l.sink).faults ≡ (g.K.Sink.state l.initial.sink).faults;
 }
 
 abbrev pub decreases-loop-done : goal.decreases-loop-done

@@ -1,0 +1,6 @@
+use Rattle.std.proofs.Common.{◌≡◌, reverse, take}
+use Rattle.trace_model.specs.Numbers.{call_count}
+use Rattle.judge_entries.proofs.number.call_count.Given as goal
+
+abbrev pub invariant-loop-entry : goal.invariant-loop-entry
+invariant-loop-entry l = l.count ≡ call_count (reverse (take l.entry-index l.entries))

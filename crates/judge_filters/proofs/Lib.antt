@@ -1,0 +1,4 @@
+pub mod PastLemmas
+pub mod FrameLemmas
+pub mod QueueLemmas
+pub mod RepeatLemmas

@@ -1,0 +1,2 @@
+pub mod TypedFits
+pub mod FitsValid

@@ -1,0 +1,41 @@
+//! The text of a whole script.
+
+ghost use Rattle.std.specs.Prelude.{◌≡◌, ◌++◌, true, OnOk, IfOk, IsTrue, string_bytes, ◌&&◌};
+ghost use Rattle.std.specs.List.{list_all};
+ghost use Rattle.cam_types.specs.Script.{is_valid};
+ghost use Rattle.script_spelling.specs.Spelling.{text_of};
+ghost use Rattle.script_spelling.specs.Fits.{command_typed, fault_fits, fits, numbers_typed};
+
+use crate::line::{
+    write_commands, write_device, write_early, write_faults, write_picks, write_version,
+};
+use cam_types::{NoMemory, Script};
+use std::alloc::Global;
+
+/// Writes a script.
+#[tactic(auto, unfolding(crate::specs::Spelling::text_of))]
+fn write_script(out: &mut String, script: &Script) -> Result<(), NoMemory>
+    ensures text { OnOk result (string_bytes out.new ≡ string_bytes out.old ++ text_of script.now) }
+    ensures typed { OnOk result (list_all fault_fits script.now.faults && (numbers_typed script.now.picks && list_all command_typed script.now.commands) ≡ true) }
+{
+    write_version(out, script.version)?;
+    write_device(out, script.version, script.profile)?;
+    write_early(out, script.early)?;
+    write_faults(out, script.faults.as_slice())?;
+    write_picks(out, script.picks.as_slice())?;
+    write_commands(out, script.commands.as_slice())
+}
+
+/// The text of a valid script, as `docs/FORMATS.md` has it: the version, the device of a script of the second version,
+/// `early` where it stands, faults, one line of picks, commands; settings as four numbers, single spaces, and the added
+/// `close` like any other.
+pub fn print(alloc: Global, script: &Script) -> Result<Vec<u8>, NoMemory>
+    requires { IsTrue (is_valid script.now) }
+    ensures text { IfOk result (λ text. text.items ≡ text_of script.now) }
+    // Its numbers are within their types, so that what is printed can be read again.
+    ensures fits { IfOk result (λ text. IsTrue (fits script.now)) }
+{
+    let mut out = String::new(alloc);
+    write_script(&mut out, script)?;
+    Ok(out.into_bytes())
+}

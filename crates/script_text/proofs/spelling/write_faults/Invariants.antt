@@ -1,9 +1,0 @@
-use Rattle.std.proofs.Common.{◌≡◌, true, ◌++◌, take, map}
-use Rattle.std.specs.Prelude.{string_bytes}
-use Rattle.std.specs.List.{flat_map, list_all}
-use Rattle.script_text.specs.Fits.{fault_fits}
-use Rattle.script_text.specs.Spelling.{fault_words, line_text}
-use Rattle.script_text.proofs.spelling.write_faults.Given as goal
-
-abbrev pub invariant-loop-fault : goal.invariant-loop-fault
-invariant-loop-fault l = (string_bytes l.out ≡ string_bytes l.fn.out ++ flat_map line_text (map fault_words (take l.fault-index l.faults))) × (list_all fault_fits (take l.fault-index l.faults) ≡ true)

@@ -1,0 +1,20 @@
+//! What is printed is read again.
+
+ghost use Rattle.std.specs.Prelude.{◌≡◌, ◌≤◌, Ok, length, IsTrue, IfOk};
+ghost use Rattle.cam_types.specs.Script.{is_valid};
+ghost use Rattle.script_spelling.specs.Spelling.{text_of};
+ghost use Rattle.script_text.specs.Grammar.{script_of, text_limit};
+
+use cam_types::{NoMemory, Script};
+use std::alloc::Global;
+
+/// The text of a valid script, as `docs/FORMATS.md` has it. `read` turns it back into the script where it has at most
+/// 65,536 bytes.
+pub fn print(alloc: Global, script: &Script) -> Result<Vec<u8>, NoMemory>
+    requires { IsTrue (is_valid script.now) }
+    ensures text { IfOk result (λ text. text.items ≡ text_of script.now) }
+    ensures again { IfOk result (λ text. length text.items ≤ text_limit → script_of text.items ≡ Ok script.now) }
+{
+    let text = script_spelling::print(alloc, script)?;
+    Ok(text)
+}

@@ -1,3 +1,0 @@
-pub mod PastLemmas
-pub mod FrameLemmas
-pub mod QueueLemmas

@@ -1,6 +1,0 @@
-use Rattle.std.proofs.Common.{◌≡◌, reverse, take}
-use Rattle.trace_model.specs.Numbers.{call_count}
-use Rattle.trace_filters.proofs.number.call_count.Given as goal
-
-abbrev pub invariant-loop-entry : goal.invariant-loop-entry
-invariant-loop-entry l = l.count ≡ call_count (reverse (take l.entry-index l.entries))

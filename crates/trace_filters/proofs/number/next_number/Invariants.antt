@@ -1,6 +1,0 @@
-use Rattle.std.proofs.Common.{◌≡◌, reverse, take}
-use Rattle.trace_model.specs.Numbers.{next_number}
-use Rattle.trace_filters.proofs.number.next_number.Given as goal
-
-abbrev pub invariant-loop-entry : goal.invariant-loop-entry
-invariant-loop-entry l = l.count ≡ next_number (reverse (take l.entry-index l.entries))

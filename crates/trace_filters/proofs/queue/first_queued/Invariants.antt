@@ -1,8 +1,0 @@
-use Rattle.std.proofs.Common.{◌≡◌, not, reverse, take, drop, filter}
-use Rattle.std.specs.Option.{option_map}
-use Rattle.trace_model.specs.Queue.{submitted, is_taken, first_in}
-use Rattle.trace_filters.specs.Queued.{as_waiting}
-use Rattle.trace_filters.proofs.queue.first_queued.Given as goal
-
-abbrev pub invariant-loop-entry : goal.invariant-loop-entry
-invariant-loop-entry l = option_map as_waiting l.first ≡ first_in (filter (λ w. not (is_taken (reverse l.entries) w)) (submitted l.script (reverse (take l.entry-index l.entries))))

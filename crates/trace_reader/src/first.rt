@@ -1,0 +1,62 @@
+//! The first line of a trace.
+
+ghost use Rattle.std.specs.Prelude.{◌≡◌};
+ghost use Rattle.text_parts.specs.Words.{strict_words_behind};
+ghost use Rattle.trace_reader.specs.Lines.{no_profile, profile_of, version_of, named_profile};
+
+use crate::cause::Cause;
+use crate::line::is_plain_line;
+use crate::number::profile_number;
+use crate::word::both;
+use cam_types::Profile;
+use text_parts::{first_strict_word, next_strict_word, three_strict_words};
+
+/// A first line of the first version has no further words.
+fn no_profile(rest: &[u8]) -> Result<Option<Profile>, Cause>
+    ensures { result ≡ no_profile (strict_words_behind rest.now) }
+{
+    match next_strict_word(rest) {
+        None => Ok(None),
+        Some(_) => Err(Cause::BadLine),
+    }
+}
+
+/// `DEPTH RAW YUV` of a first line of the second version.
+fn profile_of(rest: &[u8]) -> Result<Option<Profile>, Cause>
+    ensures { result ≡ profile_of (strict_words_behind rest.now) }
+{
+    let (depth, raw, yuv) = three_strict_words(rest).ok_or(Cause::BadLine)?;
+    let (depth, (raw, yuv)) = both(
+        profile_number(depth),
+        both(profile_number(raw), profile_number(yuv)),
+    )?;
+    Ok(Some(Profile { depth, raw, yuv }))
+}
+
+/// The version, and what stands behind it.
+#[tactic(auto, unfolding(crate::specs::Lines::version_of))]
+fn version_of(rest: &[u8]) -> Result<Option<Profile>, Cause>
+    ensures { result ≡ version_of (strict_words_behind rest.now) }
+{
+    let (version, rest) = next_strict_word(rest).ok_or(Cause::BadLine)?;
+    match version {
+        b"1" => no_profile(rest),
+        b"2" => profile_of(rest),
+        _ => Err(Cause::BadLine),
+    }
+}
+
+/// The profile that a first line names, if it names one.
+#[tactic(auto, unfolding(crate::specs::Lines::named_profile))]
+pub fn named_profile(line: &[u8]) -> Result<Option<Profile>, Cause>
+    ensures { result ≡ named_profile line.now }
+{
+    if !is_plain_line(line) {
+        return Err(Cause::BadLine);
+    }
+    let (word, rest) = first_strict_word(line);
+    match word {
+        b"trace" => version_of(rest),
+        _ => Err(Cause::BadLine),
+    }
+}

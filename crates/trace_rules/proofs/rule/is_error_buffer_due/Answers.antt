@@ -1,6 +1,0 @@
-use Rattle.trace_model.specs.declared.entry.Entry.TheVariants.{ErrorBuffer}
-use Rattle.trace_rules.proofs.RuleLaws.{when_some}
-use Rattle.trace_rules.proofs.rule.is_error_buffer_due.Goals as goal
-
-pub returns : goal.returns
-returns c = rw c.may_fail_buffer.ensures (when_some _ (ErrorBuffer c.args.frame c.args.stream))

@@ -1,6 +1,0 @@
-use Rattle.trace_model.specs.declared.entry.Entry.TheVariants.{ErrorDevice}
-use Rattle.trace_rules.proofs.RuleLaws.{when_some}
-use Rattle.trace_rules.proofs.rule.is_error_device_due.Goals as goal
-
-pub returns : goal.returns
-returns c = rw c.may_fail_device.ensures (when_some _ ErrorDevice)

@@ -1,6 +1,0 @@
-use Rattle.trace_model.specs.declared.entry.Entry.TheVariants.{ErrorRequest}
-use Rattle.trace_rules.proofs.RuleLaws.{when_some}
-use Rattle.trace_rules.proofs.rule.is_error_request_due.Goals as goal
-
-pub returns : goal.returns
-returns c = rw c.may_fail_request.ensures (when_some _ (ErrorRequest c.args.frame))

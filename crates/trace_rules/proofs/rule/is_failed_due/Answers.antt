@@ -1,4 +1,0 @@
-use Rattle.trace_rules.proofs.rule.is_failed_due.Goals as goal
-
-pub returns : goal.returns
-returns c script = rw c.failed_due.ensures at c.is_due.ensures
