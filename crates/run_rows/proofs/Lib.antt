@@ -25,3 +25,4 @@ pub mod Ranges
 pub mod Counted
 pub mod Agree
 pub mod Standing
+pub mod Sending

@@ -27,7 +27,8 @@ use Rattle.frame_facts.specs.Readings.{next_exposed, shutter_from}
 use Rattle.frame_facts.specs.Row as plain
 use Rattle.frame_facts.proofs.Last.{last-is, last_where}
 use Rattle.frame_facts.proofs.OpenRows.{IsDone}
-use Rattle.frame_facts.proofs.Sensor.{IsNext, done_passed, frames-fall, last-next, next-from, next-is, no_next, one-next, passed, rows-next, shutter_reads, waits}
+use Rattle.frame_facts.proofs.Sensor.{IsNext, done_passed, last-next, next-from, next-is, no_next, one-next, passed, rows-next, shutter_reads, waits}
+use Rattle.past_facts.proofs.Frames.{frames-fall}
 use Rattle.state_facts.proofs.Dues.{closed-is, timed-is}
 use Rattle.run_rows.specs.Entries.{shutter_entry}
 use Rattle.run_rows.proofs.Frames.{sent-in-order}

@@ -53,7 +53,7 @@ all-open script h legal = by-frames (reverse (frames (trace_of h))) (sent-in-ord
           | inr no' ↦ rw no' (by-frames xs parts.1)
         ]
 
-filter-all : (p : RowView → Bool) (xs : List RowView) → list_all p xs ≡ true → filter p xs ≡ xs
+pub filter-all : (p : RowView → Bool) (xs : List RowView) → list_all p xs ≡ true → filter p xs ≡ xs
 filter-all p [] all = refl
 filter-all p (x ∷ xs) all = let parts = and_parts (p x) (list_all p xs) all in rw (parts.0, filter-all p xs parts.1) refl
 
@@ -75,7 +75,7 @@ all-same c (row ∷ rows) keeps all =
     let parts = and_parts (view.is_open row) (list_all view.is_open rows) all in
     and_from (view.is_open (c row)) (list_all view.is_open (map c rows)) (keeps row parts.0) (all-same c rows keeps parts.1)
 
-all-with : (row : RowView) (rows : List RowView) → view.is_open row ≡ true → list_all view.is_open rows ≡ true → list_all view.is_open (rows ++ row ∷ []) ≡ true
+pub all-with : (row : RowView) (rows : List RowView) → view.is_open row ≡ true → list_all view.is_open rows ≡ true → list_all view.is_open (rows ++ row ∷ []) ≡ true
 all-with row [] open_ all = rw open_ refl
 all-with row (x ∷ rows) open_ all =
     let parts = and_parts (view.is_open x) (list_all view.is_open rows) all in

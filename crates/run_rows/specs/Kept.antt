@@ -1,4 +1,4 @@
-use Rattle.std.specs.Prelude.{ℕ, ◌==◌, Bool, true, false, ◌&&◌, ◌||◌, not, List, [], ◌∷◌, is_none, nat_le, nat_lt, count_by, if◌then◌else◌}
+use Rattle.std.specs.Prelude.{◌≡◌, ℕ, ◌==◌, Bool, true, false, ◌&&◌, ◌||◌, not, List, [], ◌∷◌, is_none, nat_le, nat_lt, count_by, if◌then◌else◌}
 use Rattle.std.specs.List.{list_all, list_any}
 use Rattle.cam_types.specs.Four.{four_list}
 use Rattle.cam_types.specs.Metadata.{range_fault}
@@ -74,3 +74,9 @@ is_read_out _ = false
 -- a buffer has its picture only once the sensor's work is done
 abbrev pub has_pictures_late : RowView → Bool
 has_pictures_late row = list_all (λ target. not (has_picture target.state) || is_read_out row.sensor) (four_list row.targets)
+
+-- the row has a target, its streams are among so many, and its settings are in their ranges
+pub record IsSound (streams : ℕ) (row : RowView) : Type 0 where
+  pub targets : has_some_target row ≡ true
+  pub streams_rise : has_streams streams row ≡ true
+  pub range : is_in_range row ≡ true

@@ -16,7 +16,7 @@ pub use ready::{
 };
 pub use rows::{
     fill_jobs_are_read, frames_are_in_order, open_frames_are_counted, places_agree,
-    rows_are_as_they_were_sent, sensor_jobs_are_read,
+    rows_are_as_they_were_sent, sensor_jobs_are_read, sent_rows_are_fresh,
 };
 pub use steps::each_move_changes_the_rows;
 

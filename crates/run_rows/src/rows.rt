@@ -8,13 +8,18 @@ ghost use Rattle.cam_types.specs.declared.job.JobView.{JobView as SomeJob};
 ghost use Rattle.cam_types.specs.declared.number.FrameNo.{FrameNo as SomeFrame};
 ghost use Rattle.cam_types.specs.declared.number.RequestId.{RequestId as SomeRequest};
 ghost use Rattle.cam_types.specs.declared.script.Script.{Script as SomeScript};
+ghost use Rattle.cam_types.specs.declared.item.Settings.{Settings as SomeSettings};
+ghost use Rattle.device_rows.specs.Kept.{is_fresh};
 ghost use Rattle.device_rows.specs.Jobs.{fill_job_at, sensor_job_at};
 ghost use Rattle.run_model.specs.History.{trace_of};
 ghost use Rattle.run_model.specs.Jobs.{IsFillJob, IsSensorJob, is_fill_out, is_sensor_out};
 ghost use Rattle.run_model.specs.Rows.{rows};
 ghost use Rattle.run_model.specs.Run.{IsRun};
 ghost use Rattle.run_model.specs.declared.step.Move.{Move as SomeMove};
-ghost use Rattle.run_rows.specs.Kept.{are_below, are_stopped_with, frames_rise, has_few_parts, has_its_readout, has_pictures_late, has_some_target, has_streams, is_in_range, is_no_row};
+ghost use Rattle.run_rows.specs.Changes.{fresh_row};
+ghost use Rattle.state_facts.specs.States.{settings_next};
+ghost use Rattle.trace_model.specs.Queue.{next};
+ghost use Rattle.run_rows.specs.Kept.{IsSound, are_below, are_stopped_with, frames_rise, has_few_parts, has_its_readout, has_pictures_late, has_some_target, has_streams, is_in_range, is_no_row};
 ghost use Rattle.trace_model.specs.Configuration.{streams};
 ghost use Rattle.trace_model.specs.Open.{is_quiet, open_count};
 ghost use Rattle.trace_model.specs.Stopping.{is_stopping};
@@ -89,4 +94,15 @@ pub fn places_agree()
         list_all has_its_readout (rows script h) ≡ true }
     ensures pictures { (script : SomeScript) (h : List SomeMove) → IsRun script h →
         list_all has_pictures_late (rows script h) ≡ true }
+{}
+
+/// The row of a frame that is sent is one of which nothing began; it has a target, its streams rise and are the
+/// configuration's, and its settings are in their ranges.
+#[tactic(auto, using(crate::proofs::Sending::fresh_is, crate::proofs::Sending::sent_sound))]
+pub fn sent_rows_are_fresh()
+    ensures fresh { (settings : SomeSettings) (n : SomeFrame) (r : SomeRequest) (targets : SomeFour SomeSent) →
+        is_fresh (fresh_row settings n r targets) ≡ true }
+    ensures sound { (script : SomeScript) (m : SomeMove) (h : List SomeMove) (n : SomeFrame) (r : SomeRequest) (i : ℕ)
+        (same : Bool) (targets : SomeFour SomeSent) → IsRun script (m ∷ h) → m.entry ≡ Some (Send n r i same targets) →
+        IsSound (length (streams script (trace_of h))) (fresh_row (settings_next (next script (trace_of h))) n r targets) }
 {}
