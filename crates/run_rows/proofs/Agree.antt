@@ -1,11 +1,9 @@
 -- The sensor's place and the states of the targets agree: a stage has the readout exactly where it fills one buffer, and a
 -- buffer has its picture only once the sensor's work is done.
-use Rattle.std.proofs.Common.{◌≡◌, ℕ, ◌==◌, ◌+◌, Bool, true, false, ◌&&◌, ◌||◌, not, List, [], ◌∷◌, Option, Some, None, refl, sym, ap, ◌∙◌, arith, inl, inr, map, nat_lt, count_by, if◌then◌else◌}
+use Rattle.std.proofs.Common.{◌≡◌, ℕ, ◌+◌, Bool, true, false, ◌||◌, not, List, [], ◌∷◌, refl, sym, ap, ◌∙◌, arith, inl, inr, map, nat_lt, count_by, if◌then◌else◌}
 use Rattle.std.specs.List.{list_all, list_any}
 use Rattle.std.proofs.lemmas.Bool.{and_parts, cases_Bool, eq-eqb, false≢true}
 use Rattle.std.proofs.lemmas.Bool.Decides.{nat_tests}
-use Rattle.cam_types.specs.Four.{four_list}
-use Rattle.cam_types.specs.declared.row.RowView.{RowView}
 use Rattle.cam_types.specs.declared.row.TargetView.{TargetView}
 use Rattle.cam_types.specs.declared.script.Script.{Script}
 use Rattle.trace_model.specs.declared.entry.Sent.{Sent}
@@ -19,7 +17,7 @@ use Rattle.run_model.specs.Run.{IsRun}
 use Rattle.device_rows.specs.Jobs as device
 use Rattle.device_rows.specs.Kept.{is_with_fill}
 use Rattle.basic_lemmas.proofs.Counts.{count-cons, counts-once}
-use Rattle.basic_lemmas.proofs.Lists.{all-always, all-mapped, any-less, any-never}
+use Rattle.basic_lemmas.proofs.Lists.{all-always, all-mapped}
 use Rattle.basic_lemmas.proofs.Tests.{not-by}
 use Rattle.bounded_runs.proofs.Entries.{open-sent}
 use Rattle.bounded_runs.proofs.Legal.{runs_legally}

@@ -1,38 +1,34 @@
 -- What is due of a frame's buffers is read from the rows.
-use Rattle.std.proofs.Common.{◌≡◌, ℕ, ◌==◌, Bool, true, false, ◌&&◌, ◌||◌, not, List, [], ◌∷◌, Option, Some, None, refl, sym, ap, ◌∙◌, inl, inr, find, is_some, map, if◌then◌else◌}
+use Rattle.std.proofs.Common.{◌≡◌, ℕ, ◌==◌, Bool, true, false, ◌&&◌, ◌||◌, not, List, [], ◌∷◌, Option, Some, None, refl, sym, ap, ◌∙◌, inl, inr, is_some, if◌then◌else◌}
 use Rattle.std.specs.List.{list_all, list_any}
 use Rattle.std.specs.Option.{option_and_then, option_map}
 use Rattle.std.proofs.lemmas.Bool.{and_parts, cases_Bool, eqb-true, false≢true}
 use Rattle.cam_types.specs.Four.{four_list}
 use Rattle.cam_types.specs.Rows.{is_returned as is_back}
 use Rattle.cam_types.specs.declared.number.FenceNo.{FenceNo}
-use Rattle.cam_types.specs.declared.row.RowView.{RowView}
-use Rattle.cam_types.specs.declared.row.TargetState.TheVariants.{Waiting, Filled as IsFilled}
 use Rattle.cam_types.specs.declared.row.TargetView.{TargetView}
 use Rattle.cam_types.specs.declared.script.Script.{Script}
 use Rattle.trace_model.specs.declared.entry.Entry.{Entry}
-use Rattle.trace_model.specs.declared.entry.Entry.TheVariants.{Filled, Failed, Early}
+use Rattle.trace_model.specs.declared.entry.Entry.TheVariants.{Failed}
 use Rattle.trace_model.specs.declared.entry.Sent.{Sent}
 use Rattle.trace_model.specs.Errors.{failed_due, failed_of}
 use Rattle.trace_model.specs.Fence.{is_passed, is_signalled}
 use Rattle.trace_model.specs.Filled.{early_due, early_of, filled_due, filled_of, is_sound, lets_pass, may_deliver as may_come}
 use Rattle.trace_model.specs.Frames.{each_earlier, has_error_request, has_shutter, has_target, is_sent, shutter_time, target_of, targets_of}
-use Rattle.trace_model.specs.Legal.{IsLegal}
 use Rattle.trace_model.specs.Numbers.{next_early}
 use Rattle.trace_model.specs.Open.{has_error_buffer, is_open, is_returned, is_settled}
 use Rattle.trace_model.specs.Picture.{digest_of}
 use Rattle.trace_model.specs.Place.{is_at_device_by}
 use Rattle.run_model.specs.declared.step.Move.{Move}
-use Rattle.run_model.specs.declared.step.StepName.TheVariants.{ReturnFailed, TakeFill, Deliver, Early as EarlyStep}
 use Rattle.run_model.specs.History.{trace_of}
 use Rattle.run_model.specs.Jobs.{is_fill_out, is_filled_in, is_readout_home, is_sensor_out, is_taken_in}
-use Rattle.run_model.specs.Ready.{adding, may_take_fill, move_of, target_is_passed, where_entry}
+use Rattle.run_model.specs.Ready.{may_take_fill, target_is_passed, where_entry}
 use Rattle.run_model.specs.Rows.{row_of, rows, target_view}
 use Rattle.run_model.specs.Run.{IsRun}
 use Rattle.notify_order.specs.Order.{each_below, holds_back, is_held_for}
 use Rattle.device_rows.specs.Ready.{is_delivery_ready, is_early_ready, is_failed_return_ready, is_fill_ready, may_deliver, may_fill, may_go_early, may_return_failed, passes_at, target_passes}
 use Rattle.device_rows.specs.Ready as ready
-use Rattle.device_rows.specs.Rows.{row_at, target_at, target_in}
+use Rattle.device_rows.specs.Rows.{target_at, target_in}
 use Rattle.basic_lemmas.proofs.Lists.{any-mapped}
 use Rattle.bounded_runs.proofs.Legal.{runs_legally}
 use Rattle.past_facts.proofs.Out.{out-reads}
@@ -42,8 +38,8 @@ use Rattle.state_facts.specs.Dues.{early_in, failed_in, filled_in}
 use Rattle.state_facts.specs.States.{state}
 use Rattle.state_facts.proofs.Dues.{closed-is, early_is, failed_is, filled_is, timed-is}
 use Rattle.buffer_laws.proofs.Once.{settled-returned}
-use Rattle.run_rows.specs.Entries.{early_entry, failed_entry, failed_fence, filled_entry}
-use Rattle.run_rows.proofs.Fours.{any-four, by-target, row-targets, some_of, target-at, view_at}
+use Rattle.run_rows.specs.Entries.{early_entry, failed_entry, filled_entry}
+use Rattle.run_rows.proofs.Fours.{any-four, by-target, row-targets, some_of, view_at}
 use Rattle.run_rows.proofs.Frames.{by-row, earlier-is}
 use Rattle.run_rows.proofs.Jobs.{taken-passed}
 use Rattle.run_rows.proofs.Parts.{row-closed}
@@ -75,7 +71,7 @@ held-back script h n s =
     let p : TargetView → Bool = λ t. (t.stream.0 == s) && (not (is_back t.state) && not t.announced) in
     let q : ℕ → Bool = λ i. not (is_returned n i past) && not (has_error_buffer n i past) in
     let first : (is_held_for s row.targets.a || (is_held_for s row.targets.b || (is_held_for s row.targets.c || is_held_for s row.targets.d))) ≡ list_any p (four_list row.targets) =
-        rw (held-any s row.targets.a, held-any s row.targets.b, held-any s row.targets.c, held-any s row.targets.d) (sym (any-four p row.targets))
+    rw (held-any s row.targets.a, held-any s row.targets.b, held-any s row.targets.c, held-any s row.targets.d) (sym (any-four p row.targets))
     in
     first
     ∙ (ap (λ (ts : List TargetView). list_any p ts) (row-targets script h n)

@@ -1,58 +1,40 @@
 -- What each move of a run makes of the device's rows.
-use Rattle.std.proofs.Common.{◌≡◌, ℕ, ◌==◌, Bool, true, false, ◌&&◌, ◌||◌, not, List, [], ◌∷◌, ◌++◌, Option, Some, None, refl, sym, ap, ◌∙◌, inl, inr, filter, map, if◌then◌else◌}
-use Rattle.std.specs.List.{list_any}
+use Rattle.std.proofs.Common.{◌≡◌, ℕ, ◌==◌, true, false, List, ◌∷◌, Some, refl, sym, ap, ◌∙◌, inl, inr, filter, map, if◌then◌else◌}
 use Rattle.std.proofs.lemmas.Bool.{cases_Bool, eq-eqb, eqb-true, false≢true}
 use Rattle.std.proofs.lemmas.List.{map-id}
 use Rattle.cam_types.specs.Four.{four_of}
 use Rattle.cam_types.specs.Rows as view
 use Rattle.cam_types.specs.declared.four.Four.{Four}
-use Rattle.cam_types.specs.declared.item.Settings.{Settings}
-use Rattle.cam_types.specs.declared.number.BufferId.{BufferId}
-use Rattle.cam_types.specs.declared.number.FenceNo.{FenceNo}
 use Rattle.cam_types.specs.declared.number.FrameNo.{FrameNo}
 use Rattle.cam_types.specs.declared.number.StreamIx.{StreamIx}
 use Rattle.cam_types.specs.declared.part.Part.{Part}
 use Rattle.cam_types.specs.declared.row.RowView.{RowView}
-use Rattle.cam_types.specs.declared.row.SensorPlace.{SensorPlace}
 use Rattle.cam_types.specs.declared.row.SensorPlace.TheVariants.{Out as SensorOut}
 use Rattle.cam_types.specs.declared.row.TargetState.{TargetState}
-use Rattle.cam_types.specs.declared.row.TargetState.TheVariants.{Out, ReturnedEarly, ReturnedOk, ReturnedFailed}
 use Rattle.cam_types.specs.declared.row.TargetView.{TargetView}
 use Rattle.cam_types.specs.declared.script.Script.{Script}
-use Rattle.cam_types.specs.declared.script.Word.{Word}
 use Rattle.trace_model.specs.declared.entry.Entry.{Entry}
-use Rattle.trace_model.specs.declared.entry.Entry.TheVariants.{Begin, Call, Send as SendEntry, Dropped, Shutter as ShutterEntry, Partial as PartialEntry, Filled, Failed, ErrorRequest, ErrorResult, ErrorBuffer, ErrorDevice, Release as ReleaseEntry, Signal as SignalEntry, Early as EarlyEntry, Late as LateEntry}
+use Rattle.trace_model.specs.declared.entry.Entry.TheVariants.{Begin, Shutter as ShutterEntry, Partial as PartialEntry, ErrorRequest, ErrorResult, ErrorBuffer, ErrorDevice}
 use Rattle.trace_model.specs.declared.entry.Sent.{Sent}
-use Rattle.trace_model.specs.Entry.{brings, is_early_with, is_error_buffer, is_shutter, is_stop, is_stop_word}
-use Rattle.trace_model.specs.Frames.{frames, has_shutter, is_sent, targets_of}
-use Rattle.trace_model.specs.Legal.{IsLegal}
-use Rattle.trace_model.specs.Open.{early_fences, has_error_buffer, is_open, is_returned, is_settled}
+use Rattle.trace_model.specs.Entry.{is_error_buffer, is_shutter, is_stop}
+use Rattle.trace_model.specs.Frames.{frames, is_sent, targets_of}
+use Rattle.trace_model.specs.Open.{early_fences, is_open}
 use Rattle.run_model.specs.declared.step.Move.{Move}
 use Rattle.run_model.specs.declared.step.StepName.{StepName}
-use Rattle.run_model.specs.declared.step.StepName.TheVariants.{Send, Release, Signal, Client, DropQueued, Fail, ReturnFailed, Shutter, SensorDone, Partial, TakeFill, FillDone, Deliver, Early, Finish}
 use Rattle.run_model.specs.History.{trace_of}
-use Rattle.run_model.specs.Jobs.{is_any_fill_out, is_fill_out, is_filled_in, is_sensor_done_in}
 use Rattle.run_model.specs.Rows.{is_early_return, is_failed_return, is_ok_return, row_of, rows, sensor_place, target_state, target_view}
 use Rattle.run_model.specs.Run.{IsRun}
 use Rattle.inflight_table.specs.Marks.{as_announced, in_state, marked, with_target}
 use Rattle.inflight_table.specs.declared.mark.Mark.TheVariants.{RequestError, ResultError, Announced, Stopped}
-use Rattle.device_rows.specs.Rows.{delivered, exposed, fill_begun, fill_ended, filled_after, gone_early, returned_failed, sensor_home, target_at, with_part, with_row}
+use Rattle.device_rows.specs.Rows.{exposed, with_part, with_row}
 use Rattle.basic_lemmas.proofs.Tests.{and-false, eq-turned}
 use Rattle.bounded_runs.proofs.Entries.{open-sent, same-self}
 use Rattle.bounded_runs.proofs.Legal.{runs_legally}
-use Rattle.buffer_laws.proofs.Early.{given}
-use Rattle.buffer_laws.proofs.Once.{out-not-returned}
-use Rattle.buffer_laws.proofs.Returns.{early-back, failed-back}
 use Rattle.frame_laws.proofs.Shutters.{exposed as were_exposed}
-use Rattle.past_facts.specs.Settled.{has_fence, settles}
-use Rattle.past_facts.proofs.Settled.{fence-frame}
+use Rattle.past_facts.specs.Settled.{settles}
 use Rattle.past_facts.proofs.Told.{tells}
 use Rattle.run_facts.proofs.Unsent.{not-done}
-use Rattle.trace_bounds.proofs.Shapes.{late-is}
-use Rattle.run_rows.proofs.Fills.{fill-own, is-here, sensor-own, take-own}
-use Rattle.run_rows.proofs.Jobs.{Behind, FinishOf}
-use Rattle.run_rows.proofs.Noted.{at_stream, four-changed, place_by, place-noted, row_noted, rows-changed, silent-row, state-noted, state-stays, state-views, target-noted, untouched, view-noted, views-changed, views-stay}
-use Rattle.run_rows.proofs.States.{brought-kinds, returned-kinds, state_by, was_bad, was_early, was_ok}
+use Rattle.run_rows.proofs.Noted.{at_stream, four-changed, place-noted, row_noted, rows-changed, state-stays, target-noted, untouched, view-noted, views-changed, views-stay}
 
 -- ---- the row of one frame changes
 

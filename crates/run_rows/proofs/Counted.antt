@@ -1,28 +1,23 @@
 -- How many rows there are, their order, and what each of them meets.
-use Rattle.std.proofs.Common.{◌≡◌, ◌≤◌, ◌<◌, ℕ, zero, suc, ◌==◌, ◌+◌, Bool, true, false, ◌&&◌, ◌||◌, not, List, [], ◌∷◌, ◌++◌, Option, Some, None, refl, sym, ap, ◌∙◌, arith, inl, inr, filter, is_none, is_some, length, map, nat_le, nat_lt, count_by, reverse, slice_get, if◌then◌else◌}
+use Rattle.std.proofs.Common.{◌≡◌, ◌≤◌, ◌<◌, ℕ, zero, suc, ◌==◌, ◌+◌, Bool, true, ◌&&◌, not, List, [], ◌∷◌, ◌++◌, Option, Some, None, refl, sym, ap, ◌∙◌, arith, inl, inr, filter, is_none, is_some, length, map, nat_le, nat_lt, reverse, slice_get}
 use Rattle.std.specs.List.{list_all, list_any}
-use Rattle.std.proofs.lemmas.Bool.{and_from, and_parts, cases_Bool, eq-eqb, eqb-true, false≢true, lt-ltb, ltb-true}
+use Rattle.std.proofs.lemmas.Bool.{and_from, and_parts, cases_Bool, eqb-true, false≢true, lt-ltb}
 use Rattle.std.proofs.lemmas.Bool.Decides.{nat_tests}
 use Rattle.std.proofs.lemmas.List.{length-append, reverse-append}
 use Rattle.std.proofs.lemmas.List.Elements.{filter-append}
 use Rattle.std.proofs.lemmas.List.Folds.{list_all-append}
-use Rattle.cam_types.specs.Four.{four_list}
-use Rattle.cam_types.specs.Metadata.{range_fault}
 use Rattle.cam_types.specs.declared.four.Four.{Four}
 use Rattle.cam_types.specs.declared.number.FrameNo.{FrameNo}
 use Rattle.cam_types.specs.declared.number.RequestId.{RequestId}
-use Rattle.cam_types.specs.declared.request.Queued.{Queued}
 use Rattle.cam_types.specs.declared.row.RowView.{RowView}
 use Rattle.cam_types.specs.declared.row.TargetView.{TargetView}
 use Rattle.cam_types.specs.declared.script.Script.{Script}
-use Rattle.cam_types.specs.declared.stream.StreamSpec.{StreamSpec}
 use Rattle.trace_model.specs.declared.entry.Entry.{Entry}
 use Rattle.trace_model.specs.declared.entry.Entry.TheVariants.{Send, Partial}
 use Rattle.trace_model.specs.declared.entry.Sent.{Sent}
-use Rattle.trace_model.specs.Calls.{item_at}
 use Rattle.trace_model.specs.Configuration.{streams}
 use Rattle.trace_model.specs.Entry.{is_partial}
-use Rattle.trace_model.specs.Frames.{frames, is_sent, settings_of, targets_of}
+use Rattle.trace_model.specs.Frames.{frames, targets_of}
 use Rattle.trace_model.specs.Legal.{IsLegal}
 use Rattle.trace_model.specs.Open.{is_open, is_quiet, open_count}
 use Rattle.trace_model.specs.Partial.{part_count}
@@ -44,10 +39,9 @@ use Rattle.frame_laws.proofs.Sends.{send-number, sent-below}
 use Rattle.past_facts.proofs.Frames.{falls, frames-fall}
 use Rattle.run_rows.specs.Kept.{are_below, frames_rise, has_few_parts, has_some_target, has_streams, is_in_range, is_no_row}
 use Rattle.run_rows.proofs.Fours.{row-targets}
-use Rattle.run_rows.proofs.Frames.{all-reverse, sent-in-order}
+use Rattle.run_rows.proofs.Frames.{all-reverse}
 use Rattle.run_rows.proofs.Ranges.{sent-range}
 use Rattle.run_rows.proofs.Streams.{is_offered, open-offered}
-use Rattle.run_rows.proofs.Verdicts.{are_rising}
 
 -- ---- each row is of an open frame
 

@@ -1,19 +1,18 @@
 -- The error of a frame that is due is read from the rows, by the verdict on the frame's row.
-use Rattle.std.proofs.Common.{◌≡◌, ℕ, ◌==◌, ◌+◌, Bool, true, false, ◌&&◌, ◌||◌, not, List, [], ◌∷◌, Option, Some, None, refl, sym, ap, ◌∙◌, inl, inr, find, is_some, map, nat_lt, if◌then◌else◌}
+use Rattle.std.proofs.Common.{◌≡◌, ℕ, ◌==◌, Bool, true, false, ◌&&◌, ◌||◌, not, List, [], ◌∷◌, Option, Some, None, refl, sym, ap, ◌∙◌, find, map, nat_lt, if◌then◌else◌}
 use Rattle.std.specs.List.{list_all, list_any}
 use Rattle.std.specs.Option.{option_map}
-use Rattle.std.proofs.lemmas.Bool.{and_parts, cases_Bool, eq-eqb, false≢true, or_right}
+use Rattle.std.proofs.lemmas.Bool.{and_parts, eq-eqb, or_right}
 use Rattle.cam_types.specs.Four.{four_list}
-use Rattle.cam_types.specs.Rows.{awaits_metadata, is_returned as is_back}
-use Rattle.cam_types.specs.declared.row.RowView.{RowView}
+use Rattle.cam_types.specs.Rows.{is_returned as is_back}
 use Rattle.cam_types.specs.declared.row.TargetView.{TargetView}
 use Rattle.cam_types.specs.declared.script.Script.{Script}
 use Rattle.trace_model.specs.declared.entry.Entry.{Entry}
 use Rattle.trace_model.specs.declared.entry.Entry.TheVariants.{ErrorRequest, ErrorResult, ErrorBuffer, ErrorDevice}
 use Rattle.trace_model.specs.declared.entry.Sent.{Sent}
-use Rattle.trace_model.specs.Errors.{error_buffer_due, error_request_due, error_result_due, is_cut_short as cut, may_fail_buffer, may_fail_in_part, may_fail_request, may_fail_result}
+use Rattle.trace_model.specs.Errors.{error_request_due, error_result_due, is_cut_short as cut, may_fail_buffer, may_fail_request, may_fail_result}
 use Rattle.trace_model.specs.Faults.{buffer_fault, request_fault, result_fault}
-use Rattle.trace_model.specs.Frames.{each_earlier, has_error_request, has_shutter, has_target, shutter_time, targets_of}
+use Rattle.trace_model.specs.Frames.{each_earlier, has_error_request, has_shutter, has_target, targets_of}
 use Rattle.trace_model.specs.Legal.{IsLegal}
 use Rattle.trace_model.specs.Open.{has_error_buffer, has_error_result, has_something, is_metadata_ended, is_open, is_returned}
 use Rattle.trace_model.specs.Partial.{part_count}
@@ -30,7 +29,6 @@ use Rattle.device_rows.specs.Faults.{faults_of}
 use Rattle.device_rows.specs.Ready.{error_of, fails_device_at, may_end_metadata, next_error}
 use Rattle.device_rows.specs.Rows.{row_at}
 use Rattle.basic_lemmas.proofs.Lists.{all-mapped, all-where, any-mapped, find-mapped, find-none}
-use Rattle.basic_lemmas.proofs.Tests.{passed-where}
 use Rattle.bounded_runs.proofs.Entries.{open-sent}
 use Rattle.bounded_runs.proofs.Legal.{runs_legally}
 use Rattle.trace_bounds.proofs.Shapes.{found-passes}

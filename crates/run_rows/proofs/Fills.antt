@@ -1,14 +1,11 @@
 -- At most one stage has a frame's readout, and how the state of a target and the sensor's place change with the jobs.
-use Rattle.std.proofs.Common.{◌≡◌, ℕ, ◌==◌, Bool, true, false, ◌&&◌, ◌||◌, not, List, [], ◌∷◌, Option, Some, None, refl, sym, ap, ◌∙◌, inl, inr, find, map, if◌then◌else◌}
+use Rattle.std.proofs.Common.{◌≡◌, ℕ, ◌==◌, Bool, true, false, ◌&&◌, ◌||◌, not, List, [], ◌∷◌, Option, Some, None, refl, sym, ap, ◌∙◌, inl, inr, find, if◌then◌else◌}
 use Rattle.std.specs.List.{list_any}
-use Rattle.std.specs.Option.{option_map}
 use Rattle.std.proofs.lemmas.Bool.{and_parts, cases_Bool, eq-eqb, eqb-true, false≢true, or_left, or_parts}
 use Rattle.cam_types.specs.declared.number.FrameNo.{FrameNo}
 use Rattle.cam_types.specs.declared.number.StreamIx.{StreamIx}
-use Rattle.cam_types.specs.declared.row.SensorPlace.TheVariants.{NotYet, Out as SensorOut, Home, WithFill}
-use Rattle.cam_types.specs.declared.row.TargetState.{TargetState}
-use Rattle.cam_types.specs.declared.row.TargetState.TheVariants.{Waiting, Out, Filled as IsFilled, ReturnedEarly, EarlyFilled, ReturnedOk, ReturnedFailed}
-use Rattle.cam_types.specs.declared.row.TargetView.{TargetView}
+use Rattle.cam_types.specs.declared.row.SensorPlace.TheVariants.{Home, WithFill}
+use Rattle.cam_types.specs.declared.row.TargetState.TheVariants.{Out, Filled as IsFilled, EarlyFilled}
 use Rattle.cam_types.specs.declared.script.Script.{Script}
 use Rattle.trace_model.specs.declared.entry.Entry.{Entry}
 use Rattle.trace_model.specs.declared.entry.Sent.{Sent}
@@ -22,7 +19,7 @@ use Rattle.run_model.specs.declared.step.StepName.TheVariants.{SensorDone, TakeF
 use Rattle.run_model.specs.History.{trace_of, is_fill_done, is_take_fill}
 use Rattle.run_model.specs.Jobs.{is_any_fill_out, is_fill_out, is_filled_in, is_sensor_done_in, is_sensor_out, is_taken_in}
 use Rattle.run_model.specs.Ready.{may_take_fill, target_is_passed}
-use Rattle.run_model.specs.Rows.{row_of, sensor_place, target_state, target_view}
+use Rattle.run_model.specs.Rows.{row_of, sensor_place, target_state}
 use Rattle.run_model.specs.Run.{IsRun}
 use Rattle.device_rows.specs.Rows.{filled_after, filled_from, target_at}
 use Rattle.basic_lemmas.proofs.Lists.{any-never}
@@ -33,8 +30,7 @@ use Rattle.buffer_laws.proofs.Once.{settled-returned}
 use Rattle.run_facts.proofs.Found.{taken-target}
 use Rattle.run_facts.proofs.Home.{settled-home}
 use Rattle.run_facts.proofs.Unsent.{filled-taken, take-parts, take-ready, taken-done}
-use Rattle.run_rows.proofs.Fours.{by-target, target-at}
-use Rattle.run_rows.proofs.Jobs.{ok-filled}
+use Rattle.run_rows.proofs.Fours.{by-target}
 use Rattle.run_rows.proofs.Noted.{place_by}
 use Rattle.run_rows.proofs.States.{brought-kinds, returned-kinds, state_by, was_bad, was_early, was_ok}
 
@@ -167,8 +163,7 @@ take-own script h n s run =
     let own : is_take_fill n.0 s.0 m.step ≡ true = rw (eq-eqb n.0 n.0 refl, eq-eqb s.0 s.0 refl) refl in
     let out : is_fill_out (m ∷ h) n.0 s.0 ≡ true = rw (own, unfilled) refl in
     let done = (and_parts (is_sensor_done_in h n.0) (not (is_any_fill_out h n.0)) may.home).0 in
-    let any : is_any_fill_out (m ∷ h) n.0 ≡ true = any-at-stream (λ u. is_fill_out (m ∷ h) n.0 u) s.0 (targets_of n.0 past) (has-of past n.0 s.0 (target_of n.0 s.0 past) refl may.passed) out in
-    (
+    let any : is_any_fill_out (m ∷ h) n.0 ≡ true = any-at-stream (λ u. is_fill_out (m ∷ h) n.0 u) s.0 (targets_of n.0 past) (has-of past n.0 s.0 (target_of n.0 s.0 past) refl may.passed) out in (
       state-of (was_ok h n.0 s.0) (was_bad h n.0 s.0) (was_early h n.0 s.0) (is_settled n.0 s.0 past) (is_fill_out (m ∷ h) n.0 s.0) (is_filled_in h n.0 s.0) here.ok here.bad here.early out,
       place-of (has_shutter n.0 past) (is_sensor_done_in h n.0) (is_any_fill_out (m ∷ h) n.0) done any,
     )
@@ -233,8 +228,7 @@ fill-own script h n s run =
     let is = is-out script h n.0 s.0 run.1 out in
     let own : is_fill_done n.0 s.0 m.step ≡ true = rw (eq-eqb n.0 n.0 refl, eq-eqb s.0 s.0 refl) refl in
     let home : is_fill_out (m ∷ h) n.0 s.0 ≡ false = rw own (none (is_taken_in h n.0 s.0)) in
-    let filled : is_filled_in (m ∷ h) n.0 s.0 ≡ true = rw own refl in
-    (
+    let filled : is_filled_in (m ∷ h) n.0 s.0 ≡ true = rw own refl in (
       state-of (was_ok h n.0 s.0) (was_bad h n.0 s.0) (was_early h n.0 s.0) (is_settled n.0 s.0 past) (is_fill_out (m ∷ h) n.0 s.0) (is_filled_in (m ∷ h) n.0 s.0) is.ok is.bad is.open_ home filled ∙ sym (filled-state script h n.0 s.0 run.1 out),
       place-of (has_shutter n.0 past) (is_sensor_done_in h n.0) (is_any_fill_out (m ∷ h) n.0) (taken-done script h n.0 s.0 run.1 is.taken) (none-left script h n s run.1 out),
     )

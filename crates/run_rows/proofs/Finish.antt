@@ -13,18 +13,16 @@ use Rattle.cam_types.specs.declared.row.TargetView.{TargetView}
 use Rattle.cam_types.specs.declared.script.Script.{Script}
 use Rattle.trace_model.specs.declared.entry.Entry.{Entry}
 use Rattle.trace_model.specs.declared.entry.Entry.TheVariants.{Early, Late}
-use Rattle.trace_model.specs.declared.entry.Sent.{Sent}
 use Rattle.trace_model.specs.Entry.{brings, is_early_with}
 use Rattle.trace_model.specs.Fence.{is_late}
 use Rattle.trace_model.specs.Filled.{late_due, late_of}
-use Rattle.trace_model.specs.Frames.{target_of}
 use Rattle.trace_model.specs.Legal.{IsLegal}
 use Rattle.trace_model.specs.Open.{early_fences, is_open, is_returned, is_settled}
 use Rattle.trace_model.specs.Picture.{digest_of}
 use Rattle.run_model.specs.declared.step.Move.{Move}
 use Rattle.run_model.specs.declared.step.StepName.TheVariants.{Finish}
 use Rattle.run_model.specs.History.{trace_of}
-use Rattle.run_model.specs.Jobs.{is_fill_out, is_filled_in, is_taken_in}
+use Rattle.run_model.specs.Jobs.{is_filled_in, is_taken_in}
 use Rattle.run_model.specs.Ready.{adding, late_with, move_of, where_entry}
 use Rattle.run_model.specs.Rows.{is_early_return, row_of, rows, target_state}
 use Rattle.run_model.specs.Run.{IsRun}
@@ -36,18 +34,18 @@ use Rattle.buffer_laws.proofs.Early.{found-early, given, settled-late}
 use Rattle.past_facts.specs.Settled.{has_fence}
 use Rattle.past_facts.proofs.Settled.{fence-frame}
 use Rattle.row_facts.specs.Rows as frame
-use Rattle.run_facts.specs.Moves.{finish_in, has_filled_in, find_jobs, move_in}
-use Rattle.run_facts.specs.States.{all_jobs, run_state}
+use Rattle.run_facts.specs.Moves.{finish_in, has_filled_in, find_jobs}
+use Rattle.run_facts.specs.States.{all_jobs}
 use Rattle.run_facts.proofs.Found.{unfilled}
 use Rattle.run_facts.proofs.Readings.{move_is}
 use Rattle.state_facts.specs.States.{state}
 use Rattle.run_rows.specs.Entries.{finish_entry}
 use Rattle.run_rows.specs.Moves.{finish_move}
-use Rattle.run_rows.proofs.Fours.{by-target, view_at}
+use Rattle.run_rows.proofs.Fours.{by-target}
 use Rattle.run_rows.proofs.Frames.{by-row, row-found}
 use Rattle.run_rows.proofs.Jobs.{early-taken}
 use Rattle.run_rows.proofs.Parts.{row-closed}
-use Rattle.run_rows.proofs.States.{brought-kinds, early-filled-by, returned-kinds, state_by, was_bad, was_early, was_ok}
+use Rattle.run_rows.proofs.States.{brought-kinds, early-filled-by, returned-kinds, was_bad, was_early, was_ok}
 
 -- ---- the device fence of an early return
 

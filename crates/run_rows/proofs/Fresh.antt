@@ -1,7 +1,5 @@
 -- The row of a frame as it is sent.
-use Rattle.std.proofs.Common.{◌≡◌, ℕ, ◌==◌, Bool, true, false, ◌&&◌, ◌||◌, not, List, [], ◌∷◌, ◌++◌, Option, Some, None, refl, sym, ap, ◌∙◌, inl, inr, filter, map, reverse, option_to_list, if◌then◌else◌}
-use Rattle.std.specs.List.{list_any}
-use Rattle.std.specs.Option.{option_map}
+use Rattle.std.proofs.Common.{◌≡◌, ℕ, Bool, true, false, List, [], ◌∷◌, ◌++◌, Option, Some, None, refl, sym, ap, ◌∙◌, filter, map, reverse, option_to_list}
 use Rattle.std.proofs.lemmas.Bool.{false≢true}
 use Rattle.std.proofs.lemmas.List.{map-id, reverse-append}
 use Rattle.std.proofs.lemmas.List.Elements.{filter-append}
@@ -24,16 +22,15 @@ use Rattle.trace_model.specs.declared.entry.Sent.{Sent}
 use Rattle.trace_model.specs.Calls.{item_at}
 use Rattle.trace_model.specs.Entry.{is_error_buffer, is_error_request, is_error_result, is_partial, returns_target}
 use Rattle.trace_model.specs.Frames.{frames, is_sent, send_of, settings_in, settings_of, targets_of}
-use Rattle.trace_model.specs.Legal.{IsLegal}
-use Rattle.trace_model.specs.Open.{is_open, is_returned}
+use Rattle.trace_model.specs.Open.{is_open}
 use Rattle.trace_model.specs.Printable.{is_filled}
 use Rattle.trace_model.specs.Queue.{next}
-use Rattle.trace_model.specs.Send.{fits_next, may_send}
+use Rattle.trace_model.specs.Send.{fits_next}
 use Rattle.trace_model.proofs.LawLemmas.{goes}
 use Rattle.run_model.specs.declared.step.Move.{Move}
 use Rattle.run_model.specs.declared.step.StepName.{StepName}
 use Rattle.run_model.specs.History.{trace_of}
-use Rattle.run_model.specs.Jobs.{is_any_fill_out, is_fill_out, is_sensor_done_in}
+use Rattle.run_model.specs.Jobs.{is_any_fill_out, is_fill_out}
 use Rattle.run_model.specs.Rows.{request_of, row_of, rows, sensor_place, target_state, target_view}
 use Rattle.run_model.specs.Run.{IsRun}
 use Rattle.basic_lemmas.proofs.Counts.{none-counted}
@@ -48,8 +45,7 @@ use Rattle.state_facts.specs.States.{settings_next}
 use Rattle.state_facts.proofs.Items.{IsNext, is-next}
 use Rattle.run_rows.specs.Changes.{fresh_row, fresh_target, fresh_targets}
 use Rattle.run_rows.proofs.Fills.{is-here}
-use Rattle.run_rows.proofs.Noted.{Adds, no-fill, no-sensor, no-take, not-silent, old-rows, row-open, state-noted, untouched, views-stay}
-use Rattle.run_rows.proofs.States.{state_by}
+use Rattle.run_rows.proofs.Noted.{no-sensor, no-take, not-silent, old-rows, row-open, state-noted, untouched, views-stay}
 use Rattle.run_rows.proofs.Verdicts.{kept-append}
 
 -- ---- the settings of the item that is sent

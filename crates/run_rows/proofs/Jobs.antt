@@ -1,8 +1,8 @@
 -- What a move of a run tells of the jobs behind it: a buffer comes back with its picture where it is filled, early where a stage
 -- fills it, and in error where no job of it is out.
-use Rattle.std.proofs.Common.{◌≡◌, ℕ, ◌==◌, ◌+◌, Bool, true, false, ◌&&◌, ◌||◌, not, List, [], ◌∷◌, Option, Some, None, refl, sym, ap, ◌∙◌, inl, inr, find, if◌then◌else◌}
+use Rattle.std.proofs.Common.{◌≡◌, ℕ, ◌==◌, ◌+◌, Bool, true, false, ◌&&◌, not, List, [], ◌∷◌, Option, Some, None, refl, ap, ◌∙◌, inl, inr, find, if◌then◌else◌}
 use Rattle.std.specs.List.{list_any}
-use Rattle.std.proofs.lemmas.Bool.{and_parts, cases_Bool, eq-eqb, eqb-true, false≢true, or_left, or_right}
+use Rattle.std.proofs.lemmas.Bool.{and_parts, cases_Bool, eqb-true, false≢true, or_right}
 use Rattle.cam_types.specs.declared.script.Script.{Script}
 use Rattle.trace_model.specs.declared.entry.Entry.{Entry}
 use Rattle.trace_model.specs.declared.entry.Entry.TheVariants.{Send as SendEntry, Filled, Failed, ErrorRequest, ErrorResult, ErrorBuffer, ErrorDevice, Early as EarlyEntry, Late as LateEntry}
@@ -14,15 +14,12 @@ use Rattle.trace_model.specs.Errors.{error_request_due, error_result_due, failed
 use Rattle.trace_model.specs.Fence.{is_late, is_passed}
 use Rattle.trace_model.specs.Filled.{filled_due, early_due, late_of}
 use Rattle.trace_model.specs.Frames.{frames, is_sent, shutter_time, target_of, targets_of}
-use Rattle.trace_model.specs.Legal.{IsLegal}
 use Rattle.trace_model.specs.Open.{early_fences}
 use Rattle.trace_model.specs.Partial.{part_count}
 use Rattle.trace_model.specs.Picture.{digest_of}
 use Rattle.trace_model.specs.Queue.{first_in, next, queued}
 use Rattle.cam_types.specs.Four.{four_of}
-use Rattle.cam_types.specs.declared.four.Four.{Four}
 use Rattle.cam_types.specs.declared.number.FenceNo.{FenceNo}
-use Rattle.cam_types.specs.declared.number.RequestId.{RequestId}
 use Rattle.cam_types.specs.declared.request.Queued.{Queued}
 use Rattle.trace_model.specs.Numbers.{next_number}
 use Rattle.trace_model.specs.Send.{least_targets, mark_of, may_go, send_next, send_with, targets_in_order}
@@ -31,16 +28,15 @@ use Rattle.trace_model.specs.Stopping.{is_stopping}
 use Rattle.run_model.specs.declared.step.Move.{Move}
 use Rattle.run_model.specs.declared.step.StepName.{StepName}
 use Rattle.run_model.specs.declared.step.StepName.TheVariants.{Send, Release, Signal, Client, DropQueued, Fail, ReturnFailed, Shutter, SensorDone, Partial, TakeFill, FillDone, Deliver, Early, Finish}
-use Rattle.run_model.specs.History.{trace_of, with_entry, is_fill_done, is_sensor_done, is_take_fill}
-use Rattle.run_model.specs.Jobs.{is_fill_out, is_filled_in, is_sensor_done_in, is_sensor_out, is_taken_in}
-use Rattle.run_model.specs.Ready.{adding, error_due, failure_at, finish_due, first_buffer_error, late_with, least_buffer_error, may_take_fill, move_of, or_entry, target_is_passed}
-use Rattle.run_model.specs.Rows.{is_early_return, is_failed_return, is_ok_return}
+use Rattle.run_model.specs.History.{trace_of, with_entry, is_fill_done, is_take_fill}
+use Rattle.run_model.specs.Jobs.{is_fill_out, is_filled_in, is_sensor_out, is_taken_in}
+use Rattle.run_model.specs.Ready.{adding, error_due, failure_at, finish_due, first_buffer_error, late_with, may_take_fill, move_of, or_entry, target_is_passed}
+use Rattle.run_model.specs.Rows.{is_early_return, is_ok_return}
 use Rattle.run_model.specs.Run.{IsRun}
 use Rattle.bounded_runs.proofs.Entries.{open-sent}
 use Rattle.bounded_runs.proofs.Legal.{adds, adds-none, begin_shape, by_failing, by_test, call_shape, drop_shape, early_shape, failed_shape, filled_shape, part_shape, runs_legally, shutter_shape, where-entry}
-use Rattle.run_facts.proofs.Found.{taken-target}
 use Rattle.run_facts.proofs.Steps.{targets-same}
-use Rattle.run_facts.proofs.Unsent.{done-shot, filled-taken, take-parts, take-ready, taken-done}
+use Rattle.run_facts.proofs.Unsent.{done-shot, take-parts, take-ready, taken-done}
 use Rattle.frame_laws.proofs.Shutters.{shutter-sent}
 
 -- ---- what stands behind an entry
@@ -70,7 +66,6 @@ BehindIn h step None = Unit {0}
 or-shape : (P : Entry → Type 0) (a b : Option Entry) (e : Entry) → or_entry a b ≡ Some e → ((d : Entry) → a ≡ Some d → P d) → ((d : Entry) → b ≡ Some d → P d) → P e
 or-shape P (Some x) b e h first second = first e h
 or-shape P None b e h first second = second e h
-
 
 send-some : (P : Entry → Type 0) (script : Script) (past : List Entry) (w : Queued) (o : Option (List Sent)) (e : Entry) → send_with script past w o ≡ Some e → ((ts : List Sent) → P (SendEntry (record { 0 = next_number past }) w.request w.index (mark_of script past w.item.settings) (four_of ts))) → P e
 send-some P script past w None e h each = absurd (cc)

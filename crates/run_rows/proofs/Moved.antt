@@ -1,31 +1,30 @@
 -- The rows after each move of a run are what the move makes of those before it.
-use Rattle.std.proofs.Common.{◌≡◌, ℕ, ◌==◌, Bool, true, false, ◌&&◌, ◌||◌, not, List, [], ◌∷◌, ◌++◌, Option, Some, None, refl, sym, ap, ◌∙◌, inl, inr, filter, map, if◌then◌else◌}
+use Rattle.std.proofs.Common.{◌≡◌, ℕ, Bool, true, false, List, ◌∷◌, Option, Some, None, refl, sym, inl, inr, filter}
 use Rattle.std.proofs.lemmas.Bool.{cases_Bool, false≢true}
 use Rattle.cam_types.specs.Rows as view
 use Rattle.cam_types.specs.declared.number.FrameNo.{FrameNo}
 use Rattle.cam_types.specs.declared.number.StreamIx.{StreamIx}
-use Rattle.cam_types.specs.declared.row.RowView.{RowView}
 use Rattle.cam_types.specs.declared.script.Script.{Script}
 use Rattle.trace_model.specs.declared.entry.Entry.{Entry}
 use Rattle.trace_model.specs.declared.entry.Entry.TheVariants.{Begin, Call, Send as SendEntry, Dropped, Shutter as ShutterEntry, Partial as PartialEntry, Filled, Failed, ErrorRequest, ErrorResult, ErrorBuffer, ErrorDevice, Release as ReleaseEntry, Signal as SignalEntry, Early as EarlyEntry, Late as LateEntry}
 use Rattle.trace_model.specs.Entry.{is_stop, is_stop_word}
 use Rattle.trace_model.specs.Frames.{frames}
-use Rattle.trace_model.specs.Open.{early_fences, is_open}
+use Rattle.trace_model.specs.Open.{early_fences}
 use Rattle.trace_model.specs.Queue.{next}
 use Rattle.run_model.specs.declared.step.Move.{Move}
 use Rattle.run_model.specs.declared.step.StepName.{StepName}
 use Rattle.run_model.specs.declared.step.StepName.TheVariants.{Send, Release, Signal, Client, DropQueued, Fail, ReturnFailed, Shutter, SensorDone, Partial, TakeFill, FillDone, Deliver, Early, Finish}
-use Rattle.run_model.specs.History.{trace_of, is_silent}
-use Rattle.run_model.specs.Jobs.{is_fill_out, is_filled_in, is_sensor_out}
-use Rattle.run_model.specs.Ready.{adding, finish_due, may_take_fill, move_of}
-use Rattle.run_model.specs.Rows.{row_of, rows}
+use Rattle.run_model.specs.History.{trace_of}
+use Rattle.run_model.specs.Jobs.{is_filled_in}
+use Rattle.run_model.specs.Ready.{adding, finish_due, move_of}
+use Rattle.run_model.specs.Rows.{rows}
 use Rattle.run_model.specs.Run.{IsRun}
-use Rattle.inflight_table.specs.Marks.{as_announced, marked}
+use Rattle.inflight_table.specs.Marks.{marked}
 use Rattle.inflight_table.specs.declared.mark.Mark.TheVariants.{Announced, RequestError, ResultError, Stopped}
 use Rattle.device_rows.specs.Rows.{all_stopped, delivered, exposed, gone_early, returned_failed, with_part, with_row}
 use Rattle.basic_lemmas.proofs.Tests.{eq-turned}
 use Rattle.bounded_runs.proofs.Entries.{open-sent}
-use Rattle.bounded_runs.proofs.Legal.{adds, adds-none, where-entry}
+use Rattle.bounded_runs.proofs.Legal.{adds, where-entry}
 use Rattle.past_facts.proofs.Told.{tells}
 use Rattle.state_facts.specs.States.{settings_next}
 use Rattle.run_rows.specs.Changes.{after, after_entry, after_given}

@@ -1,5 +1,5 @@
 -- The moves of the steps that give a buffer back.
-use Rattle.std.proofs.Common.{◌≡◌, ℕ, Bool, true, false, ◌&&◌, List, Option, Some, None, refl, sym, ap, ◌∙◌, is_some}
+use Rattle.std.proofs.Common.{◌≡◌, ℕ, Bool, true, false, ◌&&◌, List, Option, Some, None, refl, ap, ◌∙◌, is_some}
 use Rattle.std.specs.Option.{option_and_then, option_map}
 use Rattle.cam_types.specs.declared.number.FrameNo.{FrameNo}
 use Rattle.cam_types.specs.declared.number.StreamIx.{StreamIx}
@@ -18,7 +18,7 @@ use Rattle.run_model.specs.Ready.{adding, move_of, where_entry}
 use Rattle.run_model.specs.Rows.{rows}
 use Rattle.run_model.specs.Run.{IsRun}
 use Rattle.device_rows.specs.Ready.{is_delivery_ready, is_early_ready, is_failed_return_ready, may_deliver, may_go_early, may_return_failed, passes_at, target_passes}
-use Rattle.device_rows.specs.Rows.{row_at, target_at, target_in}
+use Rattle.device_rows.specs.Rows.{row_at, target_at}
 use Rattle.run_rows.specs.Entries.{early_entry, failed_entry, filled_entry}
 use Rattle.run_rows.specs.Moves.{delivery_move, early_move, failed_move}
 use Rattle.run_rows.proofs.Buffers.{deliver_is, early_return_is, failed_return_is}

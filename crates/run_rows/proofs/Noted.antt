@@ -4,7 +4,7 @@ use Rattle.std.specs.List.{list_all, list_any}
 use Rattle.std.specs.Option.{option_map}
 use Rattle.std.proofs.lemmas.Bool.{and_parts, cases_Bool, eqb-true, false≢true}
 use Rattle.std.proofs.lemmas.Option.{slice_get-map}
-use Rattle.cam_types.specs.Four.{four_list, four_of}
+use Rattle.cam_types.specs.Four.{four_of}
 use Rattle.cam_types.specs.Rows as view
 use Rattle.cam_types.specs.declared.four.Four.{Four}
 use Rattle.cam_types.specs.declared.item.Settings.{Settings}
@@ -19,16 +19,16 @@ use Rattle.trace_model.specs.declared.entry.Entry.{Entry}
 use Rattle.trace_model.specs.declared.entry.Entry.TheVariants.{Shutter, Partial, Filled, Failed, Early}
 use Rattle.trace_model.specs.declared.entry.Sent.{Sent}
 use Rattle.trace_model.specs.Entry.{is_error_buffer, is_error_request, is_error_result, is_shutter, is_stop, sends}
-use Rattle.trace_model.specs.Frames.{frames, has_error_request, has_shutter, has_target, is_sent, send_of, settings_of, shutter_time, targets_in, targets_of}
+use Rattle.trace_model.specs.Frames.{frames, has_error_request, has_shutter, is_sent, send_of, settings_of, shutter_time, targets_of}
 use Rattle.trace_model.specs.Legal.{IsLegal}
-use Rattle.trace_model.specs.Open.{all_settled, early_fences, has_error_buffer, has_error_result, is_metadata_ended, is_open, is_returned, is_settled}
+use Rattle.trace_model.specs.Open.{all_settled, early_fences, has_error_buffer, has_error_result, is_metadata_ended, is_open, is_settled}
 use Rattle.trace_model.specs.Partial.{part_count}
 use Rattle.trace_model.specs.Stopping.{is_stopped}
 use Rattle.run_model.specs.declared.step.Move.{Move}
 use Rattle.run_model.specs.declared.step.StepName.{StepName}
 use Rattle.run_model.specs.declared.step.StepName.TheVariants.{SensorDone, TakeFill, FillDone}
 use Rattle.run_model.specs.History.{trace_of, with_entry, is_fill_done, is_sensor_done, is_silent, is_take_fill}
-use Rattle.run_model.specs.Jobs.{is_any_fill_out, is_fill_out, is_filled_in, is_readout_home, is_sensor_done_in, is_sensor_out, is_taken_in}
+use Rattle.run_model.specs.Jobs.{is_any_fill_out, is_fill_out, is_filled_in, is_sensor_done_in, is_sensor_out}
 use Rattle.run_model.specs.Ready.{may_take_fill, move_of}
 use Rattle.run_model.specs.Rows.{is_early_return, is_failed_return, is_ok_return, request_of, row_of, rows, sensor_place, target_state, target_view}
 use Rattle.run_model.specs.Run.{IsRun}
@@ -38,7 +38,7 @@ use Rattle.past_facts.specs.Settled.{settles}
 use Rattle.past_facts.proofs.Done.{closed-stays}
 use Rattle.past_facts.proofs.Frames.{sent-once}
 use Rattle.past_facts.proofs.Settled.{settled-noted}
-use Rattle.past_facts.proofs.Told.{buffer-tells, request-tells, result-tells, return-tells, tells}
+use Rattle.past_facts.proofs.Told.{buffer-tells, request-tells, result-tells, tells}
 use Rattle.row_facts.specs.Rows as frame
 use Rattle.row_facts.specs.Rows.{note_parts, note_row, note_time}
 use Rattle.row_facts.proofs.Steps.{row-noted}
@@ -47,7 +47,7 @@ use Rattle.basic_lemmas.proofs.Tests.{not-by}
 use Rattle.run_rows.proofs.Fours.{all-four, each_of, row-targets}
 use Rattle.run_rows.proofs.Frames.{sent-in-order}
 use Rattle.run_rows.proofs.Parts.{row-ended}
-use Rattle.run_rows.proofs.States.{brought-kinds, returned-kinds, state-settled, state_by, was_bad, was_early, was_ok}
+use Rattle.run_rows.proofs.States.{state-settled, state_by, was_bad, was_early, was_ok}
 
 -- ---- a step that adds an entry ends no job and begins no fill
 
@@ -104,8 +104,8 @@ place-noted script h step e n run sent =
     let past = trace_of h in
     let quiet = not-silent script h step e run.0 in
     let any : is_any_fill_out (m ∷ h) n ≡ is_any_fill_out h n =
-        ap (λ (ts : List Sent). list_any (λ t. is_fill_out (m ∷ h) n t.stream.0) ts) (targets-noted script past e n (runs_legally script (m ∷ h) run) sent)
-        ∙ any-same (λ t. is_fill_out (m ∷ h) n t.stream.0) (λ t. is_fill_out h n t.stream.0) (targets_of n past) (λ t. fill-same script h step e n t.stream.0 run.0)
+    ap (λ (ts : List Sent). list_any (λ t. is_fill_out (m ∷ h) n t.stream.0) ts) (targets-noted script past e n (runs_legally script (m ∷ h) run) sent)
+    ∙ any-same (λ t. is_fill_out (m ∷ h) n t.stream.0) (λ t. is_fill_out h n t.stream.0) (targets_of n past) (λ t. fill-same script h step e n t.stream.0 run.0)
     in
     both (λ done fill. place_by (is_shutter n e || has_shutter n past) done fill) _ _ _ _ (ap (λ b. b || is_sensor_done_in h n) (no-sensor step n quiet)) any
   where
@@ -251,10 +251,10 @@ row-open script h n legal sent =
     let past = trace_of h in
     let row = row_of script h n in
     let settled : view.are_settled row.targets ≡ all_settled n past =
-        rw (at row.targets.a, at row.targets.b, at row.targets.c, at row.targets.d, ← all-four (λ (t : TargetView). view.is_settled t.state) row.targets) refl
-        ∙ (ap (λ (ts : List TargetView). list_all (λ t. view.is_settled t.state) ts) (row-targets script h n)
-        ∙ (all-mapped (λ (t : TargetView). view.is_settled t.state) (target_view h n) (targets_of n past)
-        ∙ all-agree (λ t. view.is_settled (target_state h n t.stream.0)) (λ t. is_settled n t.stream.0 past) (targets_of n past) (λ t. state-settled h n t.stream.0)))
+    rw (at row.targets.a, at row.targets.b, at row.targets.c, at row.targets.d, ← all-four (λ (t : TargetView). view.is_settled t.state) row.targets) refl
+    ∙ (ap (λ (ts : List TargetView). list_all (λ t. view.is_settled t.state) ts) (row-targets script h n)
+    ∙ (all-mapped (λ (t : TargetView). view.is_settled t.state) (target_view h n) (targets_of n past)
+    ∙ all-agree (λ t. view.is_settled (target_state h n t.stream.0)) (λ t. is_settled n t.stream.0 past) (targets_of n past) (λ t. state-settled h n t.stream.0)))
     in
     by (is_sent n past) (is_metadata_ended n past) (not (view.awaits_metadata row)) (all_settled n past) (view.are_settled row.targets) sent (row-ended script h n legal) (sym settled)
   where

@@ -4,13 +4,12 @@ use Rattle.std.specs.Option.{option_map}
 use Rattle.std.proofs.lemmas.Bool.Decides.{nat_tests}
 use Rattle.cam_types.specs.Metadata.{part_at}
 use Rattle.cam_types.specs.Rows.{awaits_metadata}
-use Rattle.cam_types.specs.declared.row.RowView.{RowView}
 use Rattle.cam_types.specs.declared.script.Script.{Script}
 use Rattle.trace_model.specs.declared.entry.Entry.{Entry}
 use Rattle.trace_model.specs.Faults.{request_fault, result_fault}
 use Rattle.trace_model.specs.Frames.{each_earlier, has_error_request, shutter_time}
 use Rattle.trace_model.specs.Legal.{IsLegal}
-use Rattle.trace_model.specs.Open.{has_error_result, has_part, is_metadata_ended, is_open}
+use Rattle.trace_model.specs.Open.{has_error_result, is_metadata_ended, is_open}
 use Rattle.trace_model.specs.Partial.{may_part, part_count, part_of, partial_due}
 use Rattle.run_model.specs.declared.step.Move.{Move}
 use Rattle.run_model.specs.History.{trace_of}
@@ -20,7 +19,6 @@ use Rattle.device_rows.specs.Ready.{may_end_metadata, may_send_part, next_part, 
 use Rattle.device_rows.specs.Ready as ready
 use Rattle.bounded_runs.proofs.Legal.{runs_legally}
 use Rattle.frame_laws.proofs.Parts.{is_within, part-within}
-use Rattle.notify_order.specs.Order.{each_below}
 use Rattle.row_facts.specs.Rows.{find_row}
 use Rattle.row_facts.specs.Rows as frame
 use Rattle.row_facts.proofs.Readings.{found_is}

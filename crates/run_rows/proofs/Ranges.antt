@@ -1,9 +1,8 @@
 -- The settings of a frame are in their ranges: an item that isn't refused has such settings.
-use Rattle.std.proofs.Common.{◌≡◌, ℕ, zero, suc, ◌+◌, ◌==◌, Bool, true, false, List, [], ◌∷◌, Option, Some, None, refl, sym, ap, ◌∙◌, inl, inr, length, slice_get, take, if◌then◌else◌}
+use Rattle.std.proofs.Common.{◌≡◌, ℕ, zero, suc, ◌+◌, ◌==◌, true, List, [], ◌∷◌, Option, Some, None, refl, sym, ap, ◌∙◌, inl, inr, length, slice_get, take}
 use Rattle.std.proofs.lemmas.Bool.{cases_Bool, false≢true}
 use Rattle.cam_types.specs.Metadata.{range_fault}
 use Rattle.cam_types.specs.Refusals.{item_refusal, items_refusal, list_refusal, or_else, targets_refusal, with_value}
-use Rattle.cam_types.specs.declared.four.Four.{Four}
 use Rattle.cam_types.specs.declared.item.Item.{Item}
 use Rattle.cam_types.specs.declared.number.RequestId.{RequestId}
 use Rattle.cam_types.specs.declared.reply.Reply.{Reply}
@@ -18,7 +17,6 @@ use Rattle.trace_model.specs.declared.entry.Entry.TheVariants.{Call, Send}
 use Rattle.trace_model.specs.Calls.{command_at, command_of, item_at, items_of, word_of}
 use Rattle.trace_model.specs.Client.{call_due}
 use Rattle.trace_model.specs.Configuration.{streams}
-use Rattle.trace_model.specs.Entry.{is_refusal}
 use Rattle.trace_model.specs.Frames.{is_sent, settings_in, settings_of}
 use Rattle.trace_model.specs.Legal.{IsLegal}
 use Rattle.trace_model.specs.Numbers.{call_count}
@@ -26,7 +24,6 @@ use Rattle.trace_model.specs.Queue.{next}
 use Rattle.trace_model.specs.Reply.{acceptance, own_refusal, queue_refusal, refusal, reply, reply_with, state_refusal}
 use Rattle.trace_bounds.proofs.Calls.{by-call}
 use Rattle.trace_bounds.proofs.Refusals.{refuses, refusal-refuses}
-use Rattle.bounded_runs.proofs.Entries.{same-self}
 use Rattle.row_facts.specs.Rows as frame
 use Rattle.row_facts.proofs.Steps.{row-noted}
 use Rattle.state_facts.proofs.Items.{IsNext, is-next}

@@ -1,19 +1,16 @@
 -- What a buffer that comes back makes of its frame's row.
-use Rattle.std.proofs.Common.{◌≡◌, ℕ, ◌==◌, Bool, true, false, ◌&&◌, ◌||◌, not, List, [], ◌∷◌, Option, Some, None, refl, sym, ap, ◌∙◌, inl, inr, find, map, if◌then◌else◌}
+use Rattle.std.proofs.Common.{◌≡◌, ℕ, ◌==◌, Bool, true, false, ◌&&◌, ◌||◌, List, ◌∷◌, Option, Some, refl, sym, ap, ◌∙◌, inl, inr, find}
 use Rattle.std.specs.List.{list_any}
 use Rattle.std.proofs.lemmas.Bool.{and_parts, cases_Bool, eq-eqb, eqb-true, false≢true, or_parts}
 use Rattle.cam_types.specs.declared.number.BufferId.{BufferId}
 use Rattle.cam_types.specs.declared.number.FenceNo.{FenceNo}
 use Rattle.cam_types.specs.declared.number.FrameNo.{FrameNo}
 use Rattle.cam_types.specs.declared.number.StreamIx.{StreamIx}
-use Rattle.cam_types.specs.declared.row.TargetState.{TargetState}
 use Rattle.cam_types.specs.declared.row.TargetState.TheVariants.{ReturnedEarly, ReturnedOk, ReturnedFailed}
 use Rattle.cam_types.specs.declared.script.Script.{Script}
-use Rattle.trace_model.specs.declared.entry.Entry.{Entry}
 use Rattle.trace_model.specs.declared.entry.Entry.TheVariants.{Filled, Failed, Early as EarlyEntry, Late as LateEntry}
 use Rattle.trace_model.specs.Entry.{brings, is_early_with}
 use Rattle.trace_model.specs.Frames.{is_sent, targets_of}
-use Rattle.trace_model.specs.Legal.{IsLegal}
 use Rattle.trace_model.specs.Open.{early_fences, is_returned, is_settled}
 use Rattle.run_model.specs.declared.step.Move.{Move}
 use Rattle.run_model.specs.declared.step.StepName.{StepName}
@@ -28,7 +25,7 @@ use Rattle.bounded_runs.proofs.Legal.{runs_legally}
 use Rattle.buffer_laws.proofs.Early.{given}
 use Rattle.buffer_laws.proofs.Once.{out-not-returned}
 use Rattle.buffer_laws.proofs.Returns.{early-back, failed-back}
-use Rattle.past_facts.specs.Settled.{has_fence, settles}
+use Rattle.past_facts.specs.Settled.{has_fence}
 use Rattle.past_facts.proofs.Settled.{fence-frame}
 use Rattle.trace_bounds.proofs.Shapes.{late-is}
 use Rattle.run_rows.proofs.Changes.{state-row}

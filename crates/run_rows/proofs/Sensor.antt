@@ -1,6 +1,6 @@
 -- The shutter that is due, and the device's failure, are read from the rows: the sensor takes the oldest row that has neither a
 -- shutter nor a request error.
-use Rattle.std.proofs.Common.{◌≡◌, ℕ, ◌==◌, Bool, true, false, ◌&&◌, ◌||◌, not, List, [], ◌∷◌, ◌++◌, Option, Some, None, refl, sym, ap, ◌∙◌, inl, inr, filter, find, is_some, map, reverse, if◌then◌else◌}
+use Rattle.std.proofs.Common.{◌≡◌, ℕ, ◌==◌, Bool, true, false, ◌&&◌, ◌||◌, not, List, [], ◌∷◌, Option, Some, None, refl, sym, ap, ◌∙◌, inl, inr, filter, find, is_some, map, reverse, if◌then◌else◌}
 use Rattle.std.specs.List.{list_all}
 use Rattle.std.specs.Option.{option_map, option_or}
 use Rattle.std.proofs.lemmas.Bool.{and_parts, cases_Bool, eq-eqb, eqb-true, false≢true}
@@ -8,7 +8,6 @@ use Rattle.std.proofs.lemmas.List.{reverse-append}
 use Rattle.std.proofs.lemmas.List.Folds.{find-append}
 use Rattle.cam_types.specs.declared.row.RowView.{RowView}
 use Rattle.cam_types.specs.declared.script.Script.{Script}
-use Rattle.trace_model.specs.declared.entry.Entry.{Entry}
 use Rattle.trace_model.specs.declared.entry.Entry.TheVariants.{Shutter, ErrorDevice}
 use Rattle.trace_model.specs.Faults.{device_fault}
 use Rattle.trace_model.specs.Frames.{frames, has_error_request, has_shutter, is_sent}
@@ -23,11 +22,10 @@ use Rattle.run_model.specs.Rows.{row_of, rows}
 use Rattle.run_model.specs.Run.{IsRun}
 use Rattle.device_rows.specs.Ready.{fails_device_at, if_exposed, is_failing, next_exposure, shutter_row}
 use Rattle.bounded_runs.proofs.Legal.{runs_legally}
-use Rattle.frame_facts.specs.Readings.{next_exposed, shutter_from}
+use Rattle.frame_facts.specs.Readings.{shutter_from}
 use Rattle.frame_facts.specs.Row as plain
 use Rattle.frame_facts.proofs.Last.{last-is, last_where}
-use Rattle.frame_facts.proofs.OpenRows.{IsDone}
-use Rattle.frame_facts.proofs.Sensor.{IsNext, done_passed, last-next, next-from, next-is, no_next, one-next, passed, rows-next, shutter_reads, waits}
+use Rattle.frame_facts.proofs.Sensor.{IsNext, done_passed, last-next, next-from, next-is, no_next, one-next, rows-next, shutter_reads, waits}
 use Rattle.past_facts.proofs.Frames.{frames-fall}
 use Rattle.state_facts.proofs.Dues.{closed-is, timed-is}
 use Rattle.run_rows.specs.Entries.{shutter_entry}

@@ -1,9 +1,7 @@
 -- What the steps that add no entry make of the rows: the sensor's work ends, a stage takes a buffer, or gives it back.
-use Rattle.std.proofs.Common.{◌≡◌, ℕ, ◌==◌, Bool, true, false, ◌&&◌, ◌||◌, not, List, [], ◌∷◌, Option, Some, None, refl, sym, ap, ◌∙◌, inl, inr, filter, map, if◌then◌else◌}
-use Rattle.std.specs.List.{list_any}
+use Rattle.std.proofs.Common.{◌≡◌, ℕ, ◌==◌, Bool, false, ◌&&◌, ◌||◌, List, ◌∷◌, None, refl, sym, ap, ◌∙◌, inl, inr, filter, map}
 use Rattle.std.proofs.lemmas.Bool.{cases_Bool, eqb-true}
 use Rattle.cam_types.specs.Rows as view
-use Rattle.cam_types.specs.Four.{four_of}
 use Rattle.cam_types.specs.declared.four.Four.{Four}
 use Rattle.cam_types.specs.declared.number.FrameNo.{FrameNo}
 use Rattle.cam_types.specs.declared.number.StreamIx.{StreamIx}
@@ -16,12 +14,12 @@ use Rattle.cam_types.specs.declared.row.TargetView.{TargetView}
 use Rattle.cam_types.specs.declared.script.Script.{Script}
 use Rattle.trace_model.specs.declared.entry.Sent.{Sent}
 use Rattle.trace_model.specs.Frames.{has_shutter, targets_of}
-use Rattle.trace_model.specs.Open.{has_error_buffer, is_open}
+use Rattle.trace_model.specs.Open.{has_error_buffer}
 use Rattle.run_model.specs.declared.step.Move.{Move}
 use Rattle.run_model.specs.declared.step.StepName.{StepName}
 use Rattle.run_model.specs.declared.step.StepName.TheVariants.{SensorDone, TakeFill, FillDone}
 use Rattle.run_model.specs.History.{trace_of, is_fill_done, is_sensor_done, is_take_fill}
-use Rattle.run_model.specs.Jobs.{is_any_fill_out, is_fill_out, is_filled_in, is_sensor_done_in, is_taken_in}
+use Rattle.run_model.specs.Jobs.{is_fill_out, is_sensor_done_in}
 use Rattle.run_model.specs.Rows.{row_of, rows, sensor_place, target_state, target_view}
 use Rattle.run_model.specs.Run.{IsRun}
 use Rattle.inflight_table.specs.Marks.{in_state, marked}

@@ -1,8 +1,7 @@
 -- Each row is stopped where the service is stopping, and none else.
-use Rattle.std.proofs.Common.{◌≡◌, ℕ, Bool, true, false, not, List, refl, sym, ap, ◌∙◌}
+use Rattle.std.proofs.Common.{◌≡◌, Bool, true, false, List, refl, ap, ◌∙◌}
 use Rattle.cam_types.specs.declared.script.Script.{Script}
-use Rattle.trace_model.specs.Open.{is_open}
-use Rattle.trace_model.specs.Stopping.{is_stopped, is_stopping}
+use Rattle.trace_model.specs.Stopping.{is_stopping}
 use Rattle.run_model.specs.declared.step.Move.{Move}
 use Rattle.run_model.specs.History.{trace_of}
 use Rattle.run_model.specs.Rows.{rows}

@@ -1,5 +1,5 @@
 -- What the verdict on a row names: the buffers that are missing, by their targets, and the first of them.
-use Rattle.std.proofs.Common.{◌≡◌, ℕ, ◌==◌, ◌+◌, Bool, true, false, ◌&&◌, ◌||◌, not, List, [], ◌∷◌, ◌++◌, Option, Some, None, refl, sym, ap, ◌∙◌, arith, inl, inr, filter, find, is_some, map, nat_lt, option_to_list, if◌then◌else◌}
+use Rattle.std.proofs.Common.{◌≡◌, ℕ, ◌==◌, Bool, true, false, ◌&&◌, ◌||◌, not, List, [], ◌∷◌, ◌++◌, Option, Some, None, refl, ap, ◌∙◌, arith, inl, inr, filter, find, is_some, map, nat_lt, option_to_list, if◌then◌else◌}
 use Rattle.std.specs.List.{list_all, list_any}
 use Rattle.std.specs.Option.{option_map}
 use Rattle.std.proofs.lemmas.Bool.{and_parts, cases_Bool, ltb-true}
@@ -15,7 +15,7 @@ use Rattle.cam_types.specs.declared.script.Fault.{Fault}
 use Rattle.trace_model.specs.declared.entry.Entry.{Entry}
 use Rattle.trace_model.specs.declared.entry.Entry.TheVariants.{ErrorRequest, ErrorResult, ErrorBuffer}
 use Rattle.run_model.specs.Ready.{or_entry}
-use Rattle.error_notify.specs.Next.{least, lesser, lost_buffer, missing_at, missing_streams, next_due}
+use Rattle.error_notify.specs.Next.{least, lesser, missing_at, missing_streams, next_due}
 use Rattle.flush_path.specs.Due.{fails_in_part, is_awaited, is_bare, is_cut_short, is_some_true, is_true_at, is_untouched, misses_at, missing_buffers}
 use Rattle.device_rows.specs.Faults.{fault_at, fault_of_buffer, faults_of}
 use Rattle.run_rows.specs.Entries.{error_entry}

@@ -1,5 +1,5 @@
 -- A move that can't end a frame leaves every row standing.
-use Rattle.std.proofs.Common.{◌≡◌, ℕ, ◌==◌, Bool, true, false, ◌&&◌, ◌||◌, not, List, [], ◌∷◌, ◌++◌, Option, Some, None, refl, sym, ap, ◌∙◌, inl, inr, filter, map, reverse, if◌then◌else◌}
+use Rattle.std.proofs.Common.{◌≡◌, ℕ, ◌==◌, Bool, true, false, ◌&&◌, not, List, [], ◌∷◌, ◌++◌, Option, Some, None, refl, sym, ap, ◌∙◌, inl, inr, filter, map, reverse}
 use Rattle.std.specs.List.{list_all}
 use Rattle.std.proofs.lemmas.Bool.{and_from, and_parts, cases_Bool, false≢true}
 use Rattle.cam_types.specs.Rows as view
@@ -28,8 +28,8 @@ use Rattle.run_model.specs.Ready.{finish_due}
 use Rattle.run_model.specs.Rows.{row_of, rows}
 use Rattle.run_model.specs.Run.{IsRun}
 use Rattle.inflight_table.specs.Marks.{as_announced, if_of_stream, in_state, marked, with_target}
-use Rattle.inflight_table.specs.declared.mark.Mark.TheVariants.{Announced, Stopped, Target}
-use Rattle.device_rows.specs.Rows.{all_stopped, exposed, fill_begun, fill_ended, filled_after, filled_from, gone_early, sensor_home, target_at, with_row}
+use Rattle.inflight_table.specs.declared.mark.Mark.TheVariants.{Announced, Stopped}
+use Rattle.device_rows.specs.Rows.{exposed, fill_begun, fill_ended, filled_after, filled_from, gone_early, sensor_home, target_at, with_row}
 use Rattle.bounded_runs.proofs.Legal.{adds, runs_legally, where-entry}
 use Rattle.state_facts.specs.States.{settings_next}
 use Rattle.run_rows.specs.Changes.{after, after_entry, after_given, after_step, fresh_row, may_end}

@@ -1,14 +1,12 @@
 -- The jobs that are out are read from the rows: no job is out of a frame that is closed.
-use Rattle.std.proofs.Common.{◌≡◌, ℕ, ◌==◌, Bool, true, false, ◌&&◌, ◌||◌, not, List, [], ◌∷◌, Option, Some, None, refl, sym, ap, ◌∙◌, inl, inr, find, is_some, map, slice_get, if◌then◌else◌}
+use Rattle.std.proofs.Common.{◌≡◌, ℕ, ◌==◌, Bool, true, false, ◌&&◌, ◌||◌, not, List, [], ◌∷◌, Option, Some, None, refl, sym, ap, ◌∙◌, inl, inr, is_some, if◌then◌else◌}
 use Rattle.std.specs.List.{list_all, list_any}
-use Rattle.std.specs.Option.{option_map}
-use Rattle.std.proofs.lemmas.Bool.{and_parts, cases_Bool, eqb-true, false≢true, or_left, or_parts}
-use Rattle.cam_types.specs.declared.row.TargetState.{TargetState}
+use Rattle.std.proofs.lemmas.Bool.{and_parts, cases_Bool, eqb-true, false≢true}
 use Rattle.cam_types.specs.declared.script.Script.{Script}
 use Rattle.trace_model.specs.declared.entry.Entry.{Entry}
 use Rattle.trace_model.specs.declared.entry.Entry.TheVariants.{Shutter, Filled, Failed, ErrorRequest, ErrorBuffer, Late}
 use Rattle.trace_model.specs.declared.entry.Sent.{Sent}
-use Rattle.trace_model.specs.Entry.{brings, is_error_buffer, is_error_of, is_error_request, is_shutter}
+use Rattle.trace_model.specs.Entry.{is_error_buffer, is_error_of, is_error_request, is_shutter}
 use Rattle.trace_model.specs.Errors.{failed_of}
 use Rattle.trace_model.specs.Frames.{has_error, has_error_request, has_shutter, is_sent, target_of, targets_of}
 use Rattle.trace_model.specs.Legal.{IsLegal}
@@ -28,7 +26,7 @@ use Rattle.basic_lemmas.proofs.Tests.{not-by, passed-where}
 use Rattle.bounded_runs.proofs.Legal.{runs_legally}
 use Rattle.due_facts.proofs.Targets.{has_some, sent-targets}
 use Rattle.frame_laws.proofs.Shutters.{exposed}
-use Rattle.past_facts.specs.Settled.{has_fence, settles}
+use Rattle.past_facts.specs.Settled.{settles}
 use Rattle.past_facts.proofs.Settled.{settled-noted}
 use Rattle.run_facts.specs.States.{by_entry}
 use Rattle.run_facts.proofs.Steps.{dark-next}
@@ -37,7 +35,7 @@ use Rattle.state_facts.proofs.Dues.{closed-is}
 use Rattle.buffer_laws.proofs.Once.{settled-returned}
 use Rattle.run_rows.proofs.Fills.{is-out}
 use Rattle.run_rows.proofs.Frames.{by-row}
-use Rattle.run_rows.proofs.Jobs.{Behind, BehindIn, FinishedBy, early-taken, move-behind, ok-filled}
+use Rattle.run_rows.proofs.Jobs.{FinishedBy, early-taken, move-behind, ok-filled}
 use Rattle.run_rows.proofs.Returned.{late-of}
 use Rattle.run_rows.proofs.States.{place-out, returned-kinds, state_by, was_bad, was_early, was_ok}
 

@@ -1,5 +1,5 @@
 -- Which job is out is read from the rows.
-use Rattle.std.proofs.Common.{◌≡◌, ℕ, ◌==◌, Bool, true, false, ◌&&◌, ◌||◌, not, List, [], ◌∷◌, Option, Some, None, refl, sym, ap, ◌∙◌, inl, inr, find, is_some, slice_get, if◌then◌else◌}
+use Rattle.std.proofs.Common.{◌≡◌, ℕ, ◌==◌, Bool, true, false, not, List, [], ◌∷◌, Option, Some, None, refl, sym, ap, ◌∙◌, inl, inr, find, is_some, slice_get, if◌then◌else◌}
 use Rattle.std.specs.Option.{option_map}
 use Rattle.std.specs.List.{list_any}
 use Rattle.std.proofs.lemmas.Bool.{and_parts, cases_Bool, false≢true}
@@ -11,11 +11,9 @@ use Rattle.cam_types.specs.declared.row.RowView.{RowView}
 use Rattle.cam_types.specs.declared.row.TargetView.{TargetView}
 use Rattle.cam_types.specs.declared.script.Script.{Script}
 use Rattle.cam_types.specs.declared.stream.StreamSpec.{StreamSpec}
-use Rattle.trace_model.specs.declared.entry.Entry.{Entry}
 use Rattle.trace_model.specs.declared.entry.Sent.{Sent}
 use Rattle.trace_model.specs.Configuration.{streams}
 use Rattle.trace_model.specs.Frames.{settings_of, target_of, targets_of}
-use Rattle.trace_model.specs.Legal.{IsLegal}
 use Rattle.trace_model.specs.Open.{is_open}
 use Rattle.run_model.specs.declared.step.Move.{Move}
 use Rattle.run_model.specs.History.{trace_of}
@@ -26,7 +24,6 @@ use Rattle.device_rows.specs.Jobs as device
 use Rattle.device_rows.specs.Jobs.{fill_job, fill_job_at, fill_job_in, fill_job_of, sensor_job, sensor_job_at, sensor_job_of}
 use Rattle.device_rows.specs.Ready as ready
 use Rattle.device_rows.specs.Rows.{row_at, target_at}
-use Rattle.bounded_runs.proofs.Entries.{target-has}
 use Rattle.bounded_runs.proofs.Legal.{runs_legally}
 use Rattle.run_facts.proofs.Found.{taken-target}
 use Rattle.run_facts.proofs.Home.{fill_open}

@@ -1,4 +1,4 @@
-use Rattle.std.specs.Prelude.{ℕ, ◌&&◌, List, Option}
+use Rattle.std.specs.Prelude.{◌&&◌, List, Option}
 use Rattle.std.specs.Option.{option_map}
 use Rattle.cam_types.specs.declared.number.FrameNo.{FrameNo}
 use Rattle.cam_types.specs.declared.number.StreamIx.{StreamIx}
