@@ -26,3 +26,4 @@ pub mod Counted
 pub mod Agree
 pub mod Standing
 pub mod Sending
+pub mod Given

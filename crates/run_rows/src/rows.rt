@@ -19,8 +19,9 @@ ghost use Rattle.run_model.specs.declared.step.Move.{Move as SomeMove};
 ghost use Rattle.run_rows.specs.Changes.{fresh_row};
 ghost use Rattle.state_facts.specs.States.{settings_next};
 ghost use Rattle.trace_model.specs.Queue.{next};
-ghost use Rattle.run_rows.specs.Kept.{IsSound, are_below, are_stopped_with, frames_rise, has_few_parts, has_its_readout, has_pictures_late, has_some_target, has_streams, is_in_range, is_no_row};
+ghost use Rattle.run_rows.specs.Kept.{IsSound, are_below, are_stopped_with, frames_rise, has_few_parts, has_given_fences, has_its_readout, has_pictures_late, has_some_target, has_streams, is_in_range, is_no_row};
 ghost use Rattle.trace_model.specs.Configuration.{streams};
+ghost use Rattle.trace_model.specs.Numbers.{next_fence};
 ghost use Rattle.trace_model.specs.Open.{is_quiet, open_count};
 ghost use Rattle.trace_model.specs.Stopping.{is_stopping};
 ghost use Rattle.trace_model.specs.declared.entry.Entry.TheVariants.{Send};
@@ -72,14 +73,16 @@ pub fn frames_are_in_order()
         are_below n.0 (rows script h) ≡ true }
 {}
 
-/// Each row has a target, its streams rise and are the configuration's, its settings are in their ranges, and at most three
-/// metadata results of it were sent.
-#[tactic(auto, using(crate::proofs::Counted::targets_is, crate::proofs::Counted::streams_is, crate::proofs::Counted::range_is, crate::proofs::Counted::parts_is))]
+/// Each row has a target, its streams rise and are the configuration's, its acquire fences were released, its settings are in
+/// their ranges, and at most three metadata results of it were sent.
+#[tactic(auto, using(crate::proofs::Counted::targets_is, crate::proofs::Counted::streams_is, crate::proofs::Given::fences_is, crate::proofs::Counted::range_is, crate::proofs::Counted::parts_is))]
 pub fn rows_are_as_they_were_sent()
     ensures targets { (script : SomeScript) (h : List SomeMove) → IsRun script h →
         list_all has_some_target (rows script h) ≡ true }
     ensures streams { (script : SomeScript) (h : List SomeMove) → IsRun script h →
         list_all (has_streams (length (streams script (trace_of h)))) (rows script h) ≡ true }
+    ensures fences { (script : SomeScript) (h : List SomeMove) → IsRun script h →
+        list_all (has_given_fences (next_fence (trace_of h))) (rows script h) ≡ true }
     ensures range { (script : SomeScript) (h : List SomeMove) → IsRun script h →
         list_all is_in_range (rows script h) ≡ true }
     ensures parts { (script : SomeScript) (h : List SomeMove) → IsRun script h →
