@@ -3,6 +3,7 @@ use Rattle.std.proofs.Common.{◌≡◌, ℕ, ◌==◌, Bool, true, false, ◌&&
 use Rattle.std.specs.List.{list_all, list_any}
 use Rattle.std.specs.Option.{option_and_then, option_map}
 use Rattle.std.proofs.lemmas.Bool.{and_parts, cases_Bool, eqb-true, false≢true}
+use Rattle.run_rows.proofs.General.{any-same}
 use Rattle.cam_types.specs.Four.{four_list}
 use Rattle.cam_types.specs.Rows.{is_returned as is_back}
 use Rattle.cam_types.specs.declared.number.FenceNo.{FenceNo}
@@ -78,10 +79,6 @@ held-back script h n s =
     ∙ (any-mapped p (target_view h n) (targets_of n past)
     ∙ (any-same (λ t. p (target_view h n t)) (λ t. (t.stream.0 == s) && q t.stream.0) (targets_of n past) (λ t. ap (λ b. (t.stream.0 == s) && (not b && not (has_error_buffer n t.stream.0 past))) (state-returned h n t.stream.0))
     ∙ of-stream q s (targets_of n past))))
-  where
-    any-same : (p q : Sent → Bool) (xs : List Sent) → ((x : Sent) → p x ≡ q x) → list_any p xs ≡ list_any q xs
-    any-same p q [] same = refl
-    any-same p q (x ∷ xs) same = rw (same x, any-same p q xs same) refl
 
 passes-by : (q a r e : Bool) → (not a || (r || (e || q))) ≡ not (not q && (a && (not r && not e)))
 passes-by true true true e = refl
@@ -227,10 +224,6 @@ early-test true true may state h = h
 early-test true false may state h = refl
 early-test false true may state h = h
 early-test false false may state h = refl
-
-and-none : (a : Bool) → (a && false) ≡ false
-and-none true = refl
-and-none false = refl
 
 early-open : (script : Script) (h : List Move) (n s : ℕ) → IsRun script h → where_entry (is_fill_out h n s) (early_of script (trace_of h) n s (target_of n s (trace_of h))) ≡ entry_of (early_entry (next_early (trace_of h)) n s) (script.early && passes_at (may_go_early script.faults (rows script h) (row_of script h n)) (target_at s (row_of script h n))) (target_at s (row_of script h n))
 early-open script h n s run =

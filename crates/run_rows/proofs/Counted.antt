@@ -6,6 +6,7 @@ use Rattle.std.proofs.lemmas.Bool.Decides.{nat_tests}
 use Rattle.std.proofs.lemmas.List.{length-append, reverse-append}
 use Rattle.std.proofs.lemmas.List.Elements.{filter-append}
 use Rattle.std.proofs.lemmas.List.Folds.{list_all-append}
+use Rattle.run_rows.proofs.General.{all-reverse}
 use Rattle.cam_types.specs.declared.four.Four.{Four}
 use Rattle.cam_types.specs.declared.number.FrameNo.{FrameNo}
 use Rattle.cam_types.specs.declared.number.RequestId.{RequestId}
@@ -39,7 +40,6 @@ use Rattle.frame_laws.proofs.Sends.{send-number, sent-below}
 use Rattle.past_facts.proofs.Frames.{falls, frames-fall}
 use Rattle.run_rows.specs.Kept.{are_below, frames_rise, has_few_parts, has_some_target, has_streams, is_in_range, is_no_row}
 use Rattle.run_rows.proofs.Fours.{row-targets}
-use Rattle.run_rows.proofs.Frames.{all-reverse}
 use Rattle.run_rows.proofs.Ranges.{sent-range}
 use Rattle.run_rows.proofs.Streams.{is_offered, open-offered}
 

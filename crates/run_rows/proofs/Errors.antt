@@ -3,6 +3,7 @@ use Rattle.std.proofs.Common.{◌≡◌, ℕ, ◌==◌, Bool, true, false, ◌&&
 use Rattle.std.specs.List.{list_all, list_any}
 use Rattle.std.specs.Option.{option_map}
 use Rattle.std.proofs.lemmas.Bool.{and_parts, eq-eqb, or_right}
+use Rattle.run_rows.proofs.General.{any-same, find-where, find-and, if-same}
 use Rattle.cam_types.specs.Four.{four_list}
 use Rattle.cam_types.specs.Rows.{is_returned as is_back}
 use Rattle.cam_types.specs.declared.row.TargetView.{TargetView}
@@ -43,16 +44,12 @@ use Rattle.state_facts.proofs.Dues.{error_buffer_is, error_request_is, error_res
 use Rattle.run_rows.specs.Entries.{error_entry}
 use Rattle.run_rows.proofs.Fours.{row-targets}
 use Rattle.run_rows.proofs.Frames.{by-row}
-use Rattle.run_rows.proofs.Parts.{earlier-ended, if-same, row-closed, row-ended}
+use Rattle.run_rows.proofs.Parts.{earlier-ended, row-closed, row-ended}
 use Rattle.run_rows.proofs.Sensor.{failure_is}
 use Rattle.run_rows.proofs.States.{state-returned}
 use Rattle.run_rows.proofs.Verdicts.{are_rising, bare-row, came, first_lost, missing, verdict-names}
 
 -- ---- something of the frame came
-
-any-same : {X : Type 0} (p q : X → Bool) (xs : List X) → ((x : X) → p x ≡ q x) → list_any p xs ≡ list_any q xs
-any-same p q [] same = refl
-any-same p q (x ∷ xs) same = rw (same x, any-same p q xs same) refl
 
 row-back : (script : Script) (h : List Move) (n : ℕ) → list_any (λ t. is_back t.state) (four_list (row_of script h n).targets) ≡ list_any (λ t. t.returned) (map (target_at n (trace_of h)) (targets_of n (trace_of h)))
 row-back script h n =
@@ -156,18 +153,9 @@ buffer-fails script h n t legal has =
     buffer-by (has_target n s past) (has_shutter n past) _ (not (request_fault script n) || is_stopped n past) (has_error_request n past) (has_error_buffer n s past) (is_returned n s past) _ (buffer_fault script n s) (cut past n) _
     has (timed-is n past) (state-returned h n s) (row-cut script h n legal)
 
-pub find-where : (s p q : Sent → Bool) (xs : List Sent) → ((x : Sent) → s x ≡ true → p x ≡ q x) → list_all s xs ≡ true → find p xs ≡ find q xs
-find-where s p q [] same all = refl
-find-where s p q (x ∷ xs) same all = let parts = and_parts (s x) (list_all s xs) all in rw (same x parts.0, find-where s p q xs same parts.1) refl
-
 pub own-stream : (ts : List Sent) → list_all (λ t. list_any (λ u. u.stream.0 == t.stream.0) ts) ts ≡ true
 own-stream [] = refl
 own-stream (t ∷ ts) = rw (eq-eqb t.stream.0 t.stream.0 refl) (all-where (λ x. list_any (λ u. u.stream.0 == x.stream.0) ts) (λ x. list_any (λ u. u.stream.0 == x.stream.0) (t ∷ ts)) ts (λ x h. or_right (t.stream.0 == x.stream.0) (list_any (λ u. u.stream.0 == x.stream.0) ts) h) (own-stream ts))
-
-find-and : {X : Type 0} (b : Bool) (p : X → Bool) (ts : List X) → find (λ t. b && p t) ts ≡ (if b then find p ts else None)
-find-and true p ts = refl
-find-and false p [] = refl
-find-and false p (t ∷ ts) = find-and false p ts
 
 lost-mapped : (h : List Move) (n : ℕ) (b : Bool) (o : Option Sent) → option_map (λ t. ErrorBuffer (record { 0 = n }) t.stream) (if b then o else None) ≡ first_lost (record { 0 = n }) (if b then option_map (target_view h n) o else None)
 lost-mapped h n true None = refl

@@ -1,7 +1,8 @@
 -- At most one stage has a frame's readout, and how the state of a target and the sensor's place change with the jobs.
-use Rattle.std.proofs.Common.{◌≡◌, ℕ, ◌==◌, Bool, true, false, ◌&&◌, ◌||◌, not, List, [], ◌∷◌, Option, Some, None, refl, sym, ap, ◌∙◌, inl, inr, find, if◌then◌else◌}
+use Rattle.std.proofs.Common.{◌≡◌, ℕ, ◌==◌, Bool, true, false, ◌&&◌, ◌||◌, not, List, [], ◌∷◌, Option, Some, None, refl, sym, ap, ◌∙◌, inl, inr, if◌then◌else◌}
 use Rattle.std.specs.List.{list_any}
-use Rattle.std.proofs.lemmas.Bool.{and_parts, cases_Bool, eq-eqb, eqb-true, false≢true, or_left, or_parts}
+use Rattle.std.proofs.lemmas.Bool.{and_parts, cases_Bool, eq-eqb, eqb-true, false≢true, or_left, or_parts, not-true}
+use Rattle.run_rows.proofs.General.{none-found}
 use Rattle.cam_types.specs.declared.number.FrameNo.{FrameNo}
 use Rattle.cam_types.specs.declared.number.StreamIx.{StreamIx}
 use Rattle.cam_types.specs.declared.row.SensorPlace.TheVariants.{Home, WithFill}
@@ -110,10 +111,6 @@ is-out script h n s run out =
     let unbrought = (or_parts (list_any (brings n s) past) (list_any (λ d. is_late d past) (early_fences n s past)) open_).0 in
     let kinds = or_parts (was_ok h n s) (was_bad h n s) (brought-kinds n s past ∙ unbrought) in
     record { taken = parts.0; unfilled = unfilled; ok = kinds.0; bad = kinds.1; open_ = open_ }
-  where
-    not-true : (b : Bool) → not b ≡ true → b ≡ false
-    not-true false h = refl
-    not-true true h = absurd (false≢true h)
 
 -- ---- a buffer that didn't come back
 
@@ -146,10 +143,6 @@ sensor-own script h n run =
     by true = refl
     by false = refl
 
-    not-true : (b : Bool) → not b ≡ true → b ≡ false
-    not-true false h = refl
-    not-true true h = absurd (false≢true h)
-
 -- ---- a stage takes a buffer
 
 pub take-own : (script : Script) (h : List Move) (n : FrameNo) (s : StreamIx) → IsRun script (record { step = TakeFill n s; entry = None } ∷ h) → (target_state (record { step = TakeFill n s; entry = None } ∷ h) n.0 s.0 ≡ Out) × (sensor_place (record { step = TakeFill n s; entry = None } ∷ h) n.0 ≡ WithFill)
@@ -168,10 +161,6 @@ take-own script h n s run =
       place-of (has_shutter n.0 past) (is_sensor_done_in h n.0) (is_any_fill_out (m ∷ h) n.0) done any,
     )
   where
-    not-true : (b : Bool) → not b ≡ true → b ≡ false
-    not-true false h = refl
-    not-true true h = absurd (false≢true h)
-
     has-of : (past : List Entry) (n s : ℕ) (o : Option Sent) → target_of n s past ≡ o → target_is_passed past o ≡ true → has_target n s past ≡ true
     has-of past n s (Some t) at passed = target-has n s past t at
     has-of past n s None at passed = absurd (false≢true passed)
@@ -206,19 +195,12 @@ filled-state : (script : Script) (h : List Move) (n s : ℕ) → IsRun script h 
 filled-state script h n s run out =
     let is = is-out script h n s run out in
     sym (by-target script h n s filled_after (λ o. if was_early h n s then EarlyFilled else IsFilled)
-    (λ at. absurd (has-none s (targets_of n (trace_of h)) (taken-target script h n s run is.taken) at))
+    (λ at. absurd (none-found (λ t. t.stream.0 == s) (targets_of n (trace_of h)) (taken-target script h n s run is.taken) at))
     (λ t at. by (was_ok h n s) (was_bad h n s) (was_early h n s) (is_settled n s (trace_of h)) (is_fill_out h n s) (is_filled_in h n s) is.ok is.bad is.open_ out))
   where
     by : (ok bad early settled out filled : Bool) → ok ≡ false → bad ≡ false → settled ≡ false → out ≡ true → (if early then EarlyFilled else IsFilled) ≡ filled_from (state_by ok bad early settled out filled)
     by ok bad true settled out filled a b c d = rw (a, b, c, d) refl
     by ok bad false settled out filled a b c d = rw (a, b, d) refl
-
-    has-none : (s : ℕ) (ts : List Sent) → list_any (λ t. t.stream.0 == s) ts ≡ true → find (λ t. t.stream.0 == s) ts ≡ None → ⊥
-    has-none s [] has at = false≢true has
-    has-none s (t ∷ ts) has at = elim (cases_Bool (t.stream.0 == s)) [
-      | inl here ↦ (let at' = rw here at at in absurd (cc))
-      | inr other ↦ (let has' = rw other at has in let at' = rw other at at in has-none s ts has' at')
-    ]
 
 pub fill-own : (script : Script) (h : List Move) (n : FrameNo) (s : StreamIx) → IsRun script (record { step = FillDone n s; entry = None } ∷ h) → (target_state (record { step = FillDone n s; entry = None } ∷ h) n.0 s.0 ≡ filled_after (target_at s.0 (row_of script h n.0))) × (sensor_place (record { step = FillDone n s; entry = None } ∷ h) n.0 ≡ Home)
 fill-own script h n s run =

@@ -3,6 +3,7 @@ use Rattle.std.proofs.Common.{◌≡◌, ℕ, ◌==◌, Bool, true, false, ◌&&
 use Rattle.std.specs.List.{list_any}
 use Rattle.std.proofs.lemmas.Bool.Decides.{nat_tests}
 use Rattle.std.proofs.lemmas.Bool.{and_parts, cases_Bool, eqb-true, false≢true, or_left, or_parts, or_right}
+use Rattle.run_rows.proofs.General.{third}
 use Rattle.cam_types.specs.declared.number.BufferId.{BufferId}
 use Rattle.cam_types.specs.declared.number.FenceNo.{FenceNo}
 use Rattle.cam_types.specs.declared.number.FrameNo.{FrameNo}
@@ -125,15 +126,10 @@ state-late script h n s d run is =
     let past = trace_of h in
     let none = or_parts (was_ok h n s) (was_bad h n s) (brought-kinds n s past ∙ is.brought) in
     state-is script h n s run
-    ∙ by (was_ok h n s) (was_bad h n s) (was_early h n s) (is_settled n s past) (is_late d past) (is_filled_in h n s) none.0 none.1 (last (was_ok h n s) (was_bad h n s) (was_early h n s) (returned-kinds n s past ∙ is.returned) none.0 none.1) is.settled
+    ∙ by (was_ok h n s) (was_bad h n s) (was_early h n s) (is_settled n s past) (is_late d past) (is_filled_in h n s) none.0 none.1 (third (was_ok h n s) (was_bad h n s) (was_early h n s) (returned-kinds n s past ∙ is.returned) none.0 none.1) is.settled
   where
     by : (ok bad early settled late filled : Bool) → ok ≡ false → bad ≡ false → early ≡ true → settled ≡ late → ((not (ok || bad) && early) && (not settled && filled)) ≡ (not late && filled)
     by ok bad early settled late filled a b c d = rw (a, b, c, d) refl
-
-    last : (a b c : Bool) → (a || (b || c)) ≡ true → a ≡ false → b ≡ false → c ≡ true
-    last true b c h x y = absurd (false≢true (sym x))
-    last false true c h x y = absurd (false≢true (sym y))
-    last false false c h x y = h
 
 -- ---- the signal
 

@@ -2,8 +2,7 @@
 use Rattle.std.proofs.Common.{◌≡◌, ℕ, ◌==◌, Bool, true, false, ◌&&◌, ◌||◌, not, List, [], ◌∷◌, Option, Some, None, refl, sym, ap, ◌∙◌, inl, inr, nat_lt, filter, map, reverse, if◌then◌else◌}
 use Rattle.std.specs.List.{list_all, list_any}
 use Rattle.std.proofs.lemmas.Bool.{and_parts, cases_Bool, eqb-true, false≢true}
-use Rattle.std.proofs.lemmas.List.{reverse-append}
-use Rattle.std.proofs.lemmas.List.Folds.{list_all-append, list_any-append}
+use Rattle.run_rows.proofs.General.{all-reverse, any-reverse}
 use Rattle.cam_types.specs.declared.row.RowView.{RowView}
 use Rattle.cam_types.specs.declared.script.Script.{Script}
 use Rattle.trace_model.specs.Frames.{each_earlier, frames, is_sent}
@@ -16,32 +15,6 @@ use Rattle.device_rows.specs.Rows.{row_at}
 use Rattle.bounded_runs.proofs.Entries.{open-sent, same-self}
 use Rattle.frame_laws.proofs.Sends.{all-sent}
 use Rattle.past_facts.proofs.Frames.{sent-listed}
-
--- ---- lists turned round
-
-pub all-reverse : {X : Type 0} (p : X → Bool) (xs : List X) → list_all p (reverse xs) ≡ list_all p xs
-all-reverse p [] = refl
-all-reverse {X} p (x ∷ xs) =
-    ap (λ (ys : List X). list_all p ys) (reverse-append (x ∷ []) xs)
-    ∙ (list_all-append p (reverse xs) (x ∷ []) ∙ (ap (λ b. b && (p x && true)) (all-reverse p xs) ∙ turned (list_all p xs) (p x)))
-  where
-    turned : (a b : Bool) → (a && (b && true)) ≡ (b && a)
-    turned true true = refl
-    turned true false = refl
-    turned false true = refl
-    turned false false = refl
-
-pub any-reverse : {X : Type 0} (p : X → Bool) (xs : List X) → list_any p (reverse xs) ≡ list_any p xs
-any-reverse p [] = refl
-any-reverse {X} p (x ∷ xs) =
-    ap (λ (ys : List X). list_any p ys) (reverse-append (x ∷ []) xs)
-    ∙ (list_any-append p (reverse xs) (x ∷ []) ∙ (ap (λ b. b || (p x || false)) (any-reverse p xs) ∙ turned (list_any p xs) (p x)))
-  where
-    turned : (a b : Bool) → (a || (b || false)) ≡ (b || a)
-    turned true true = refl
-    turned true false = refl
-    turned false true = refl
-    turned false false = refl
 
 -- ---- the row of a frame
 

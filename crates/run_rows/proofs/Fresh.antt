@@ -3,6 +3,7 @@ use Rattle.std.proofs.Common.{◌≡◌, ℕ, Bool, true, false, List, [], ◌�
 use Rattle.std.proofs.lemmas.Bool.{false≢true}
 use Rattle.std.proofs.lemmas.List.{map-id, reverse-append}
 use Rattle.std.proofs.lemmas.List.Elements.{filter-append}
+use Rattle.run_rows.proofs.General.{kept-append}
 use Rattle.cam_types.specs.Four.{four_list, four_of}
 use Rattle.cam_types.specs.Rows as view
 use Rattle.cam_types.specs.declared.four.Four.{Four}
@@ -46,7 +47,6 @@ use Rattle.state_facts.proofs.Items.{IsNext, is-next}
 use Rattle.run_rows.specs.Changes.{fresh_row, fresh_target, fresh_targets}
 use Rattle.run_rows.proofs.Fills.{is-here}
 use Rattle.run_rows.proofs.Noted.{no-sensor, no-take, not-silent, old-rows, row-open, state-noted, untouched, views-stay}
-use Rattle.run_rows.proofs.Verdicts.{kept-append}
 
 -- ---- the settings of the item that is sent
 

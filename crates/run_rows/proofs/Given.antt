@@ -1,20 +1,16 @@
 -- The acquire fence of each target was released.
-use Rattle.std.proofs.Common.{◌≡◌, ℕ, ◌==◌, Bool, true, false, List, [], ◌∷◌, Option, Some, None, refl, sym, ap, ◌∙◌, map}
+use Rattle.std.proofs.Common.{◌≡◌, true, List, Option, Some, None, refl, sym, ap, ◌∙◌, map}
 use Rattle.std.specs.List.{list_all}
-use Rattle.cam_types.specs.Four.{four_list}
 use Rattle.cam_types.specs.declared.number.FenceNo.{FenceNo}
-use Rattle.cam_types.specs.declared.row.RowView.{RowView}
 use Rattle.cam_types.specs.declared.row.TargetView.{TargetView}
 use Rattle.cam_types.specs.declared.script.Script.{Script}
 use Rattle.trace_model.specs.declared.entry.Entry.{Entry}
 use Rattle.trace_model.specs.declared.entry.Sent.{Sent}
 use Rattle.trace_model.specs.Frames.{targets_of}
-use Rattle.trace_model.specs.Legal.{IsLegal}
 use Rattle.trace_model.specs.Numbers.{next_fence}
-use Rattle.trace_model.specs.Open.{is_open}
 use Rattle.run_model.specs.declared.step.Move.{Move}
 use Rattle.run_model.specs.History.{trace_of}
-use Rattle.run_model.specs.Rows.{row_of, rows, target_view}
+use Rattle.run_model.specs.Rows.{rows, target_view}
 use Rattle.run_model.specs.Run.{IsRun}
 use Rattle.basic_lemmas.proofs.Lists.{all-mapped, all-where}
 use Rattle.bounded_runs.proofs.Legal.{runs_legally}

@@ -1,3 +1,4 @@
+pub mod General
 pub mod Frames
 pub mod Fours
 pub mod States

@@ -4,6 +4,7 @@ use Rattle.std.specs.List.{list_all, list_any}
 use Rattle.std.specs.Option.{option_map}
 use Rattle.std.proofs.lemmas.Bool.{and_parts, cases_Bool, eqb-true, false≢true}
 use Rattle.std.proofs.lemmas.Option.{slice_get-map}
+use Rattle.run_rows.proofs.General.{any-same}
 use Rattle.cam_types.specs.Four.{four_of}
 use Rattle.cam_types.specs.Rows as view
 use Rattle.cam_types.specs.declared.four.Four.{Four}
@@ -84,10 +85,6 @@ pub state-stays : (script : Script) (h : List Move) (step : StepName) (e : Entry
 state-stays script h step e n s run a b c d = state-noted script h step e n s run ∙ rw (a, b, c, d) refl
 
 -- ---- the place of the sensor after an entry
-
-pub any-same : {X : Type 0} (p q : X → Bool) (xs : List X) → ((x : X) → p x ≡ q x) → list_any p xs ≡ list_any q xs
-any-same p q [] same = refl
-any-same p q (x ∷ xs) same = rw (same x, any-same p q xs same) refl
 
 pub fill-same : (script : Script) (h : List Move) (step : StepName) (e : Entry) (n s : ℕ) → Adds script h step e → is_fill_out (record { step = step; entry = Some e } ∷ h) n s ≡ is_fill_out h n s
 fill-same script h step e n s at = let quiet = not-silent script h step e at in rw (no-take step n s quiet, no-fill step n s quiet) refl

@@ -1,7 +1,8 @@
 -- The next part of a frame is read from the rows.
-use Rattle.std.proofs.Common.{◌≡◌, ℕ, ◌==◌, ◌+◌, Bool, true, false, ◌&&◌, ◌||◌, not, List, Option, Some, None, refl, sym, ap, ◌∙◌, arith, nat_le, nat_lt, if◌then◌else◌}
+use Rattle.std.proofs.Common.{◌≡◌, ℕ, ◌==◌, ◌+◌, Bool, true, false, ◌&&◌, ◌||◌, not, List, Option, Some, None, refl, sym, ap, ◌∙◌, arith, nat_le, nat_lt}
 use Rattle.std.specs.Option.{option_map}
 use Rattle.std.proofs.lemmas.Bool.Decides.{nat_tests}
+use Rattle.run_rows.proofs.General.{map-if, if-same}
 use Rattle.cam_types.specs.Metadata.{part_at}
 use Rattle.cam_types.specs.Rows.{awaits_metadata}
 use Rattle.cam_types.specs.declared.script.Script.{Script}
@@ -31,14 +32,6 @@ use Rattle.run_rows.proofs.Frames.{by-row, earlier-is}
 -- a closed frame has no row
 pub row-closed : (script : Script) (past : List Entry) (n : ℕ) → is_open n past ≡ false → find_row n (frame.rows script past) ≡ None
 row-closed script past n h = found_is script past n ∙ rw h refl
-
--- a mapped choice
-pub map-if : {X Y : Type 0} (f : X → Y) (b : Bool) (x : X) → option_map f (if b then Some x else None) ≡ (if b then Some (f x) else None)
-map-if f true x = refl
-map-if f false x = refl
-
-pub if-same : {X : Type 0} (a b : Bool) (x : X) → a ≡ b → (if a then Some x else None) ≡ (if b then Some x else None)
-if-same a b x h = rw h refl
 
 -- ---- the metadata of earlier frames
 

@@ -2,6 +2,7 @@
 use Rattle.std.proofs.Common.{◌≡◌, ℕ, ◌==◌, Bool, true, false, ◌&&◌, ◌||◌, List, ◌∷◌, Option, Some, refl, sym, ap, ◌∙◌, inl, inr, find}
 use Rattle.std.specs.List.{list_any}
 use Rattle.std.proofs.lemmas.Bool.{and_parts, cases_Bool, eq-eqb, eqb-true, false≢true, or_parts}
+use Rattle.run_rows.proofs.General.{third}
 use Rattle.cam_types.specs.declared.number.BufferId.{BufferId}
 use Rattle.cam_types.specs.declared.number.FenceNo.{FenceNo}
 use Rattle.cam_types.specs.declared.number.FrameNo.{FrameNo}
@@ -127,17 +128,12 @@ late-of script h step n s d x run finish =
     record {
       own = own;
       bad = kinds.1;
-      early = last (was_ok h n s) (was_bad h n s) (was_early h n s) (returned-kinds n s past ∙ returned) kinds.0 kinds.1;
+      early = third (was_ok h n s) (was_bad h n s) (was_early h n s) (returned-kinds n s past ∙ returned) kinds.0 kinds.1;
       only = λ m u has. let other = same k.0 t.0 m u (fence-frame script past d.0 k t b f m u legal.1 found has) in (sym at.0 ∙ other.0, sym at.1 ∙ other.1);
     }
   where
     same : (k t m u : ℕ) → ((k == m) && (t == u)) ≡ true → (k ≡ m) × (t ≡ u)
     same k t m u h = let parts = and_parts (k == m) (t == u) h in (eqb-true k m parts.0, eqb-true t u parts.1)
-
-    last : (a b c : Bool) → (a || (b || c)) ≡ true → a ≡ false → b ≡ false → c ≡ true
-    last true b c h x y = absurd (false≢true (sym x))
-    last false true c h x y = absurd (false≢true (sym y))
-    last false false c h x y = h
 
 -- no other buffer has it
 pub late-free : (h : List Move) (n s d m u : ℕ) → LateOf h n s d → (m == n) ≡ false → has_fence d (early_fences m u (trace_of h)) ≡ false

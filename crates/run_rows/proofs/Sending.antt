@@ -4,6 +4,7 @@ use Rattle.std.specs.List.{list_all}
 use Rattle.std.specs.Option.{option_map}
 use Rattle.std.proofs.lemmas.Bool.{and_parts}
 use Rattle.std.proofs.lemmas.List.Folds.{list_all-append}
+use Rattle.run_rows.proofs.General.{filter-all}
 use Rattle.cam_types.specs.Rows as view
 use Rattle.cam_types.specs.declared.four.Four.{Four}
 use Rattle.cam_types.specs.declared.item.Settings.{Settings}
@@ -29,7 +30,7 @@ use Rattle.run_rows.specs.Kept.{IsSound, has_some_target, has_streams, is_in_ran
 use Rattle.run_rows.proofs.Counted.{range_is, streams_is, targets_is}
 use Rattle.run_rows.proofs.Fours.{all-four, each_of}
 use Rattle.run_rows.proofs.Fresh.{send-changed}
-use Rattle.run_rows.proofs.Whole.{all-open, all-with, filter-all}
+use Rattle.run_rows.proofs.Whole.{all-open, all-with}
 
 fresh-one : (o : Option Sent) → each_of is_fresh_target (option_map fresh_target o) ≡ true
 fresh-one None = refl

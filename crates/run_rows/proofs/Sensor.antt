@@ -6,6 +6,7 @@ use Rattle.std.specs.Option.{option_map, option_or}
 use Rattle.std.proofs.lemmas.Bool.{and_parts, cases_Bool, eq-eqb, eqb-true, false≢true}
 use Rattle.std.proofs.lemmas.List.{reverse-append}
 use Rattle.std.proofs.lemmas.List.Folds.{find-append}
+use Rattle.run_rows.proofs.General.{map-if}
 use Rattle.cam_types.specs.declared.row.RowView.{RowView}
 use Rattle.cam_types.specs.declared.script.Script.{Script}
 use Rattle.trace_model.specs.declared.entry.Entry.TheVariants.{Shutter, ErrorDevice}
@@ -30,7 +31,6 @@ use Rattle.past_facts.proofs.Frames.{frames-fall}
 use Rattle.state_facts.proofs.Dues.{closed-is, timed-is}
 use Rattle.run_rows.specs.Entries.{shutter_entry}
 use Rattle.run_rows.proofs.Frames.{sent-in-order}
-use Rattle.run_rows.proofs.Parts.{map-if}
 use Rattle.run_rows.proofs.Stopped.{open-stopped}
 
 -- ---- the row that the sensor takes next

@@ -1,6 +1,7 @@
 -- What the steps that add no entry make of the rows: the sensor's work ends, a stage takes a buffer, or gives it back.
 use Rattle.std.proofs.Common.{◌≡◌, ℕ, ◌==◌, Bool, false, ◌&&◌, ◌||◌, List, ◌∷◌, None, refl, sym, ap, ◌∙◌, inl, inr, filter, map}
 use Rattle.std.proofs.lemmas.Bool.{cases_Bool, eqb-true}
+use Rattle.run_rows.proofs.General.{any-same}
 use Rattle.cam_types.specs.Rows as view
 use Rattle.cam_types.specs.declared.four.Four.{Four}
 use Rattle.cam_types.specs.declared.number.FrameNo.{FrameNo}
@@ -28,7 +29,7 @@ use Rattle.device_rows.specs.Rows.{fill_begun, fill_ended, filled_after, sensor_
 use Rattle.basic_lemmas.proofs.Tests.{and-false, eq-turned}
 use Rattle.run_rows.proofs.Changes.{at_frame}
 use Rattle.run_rows.proofs.Fills.{fill-own, sensor-own, take-own}
-use Rattle.run_rows.proofs.Noted.{any-same, at_stream, four-changed, place_by, rows-changed, silent-row, state-views, views-stay}
+use Rattle.run_rows.proofs.Noted.{at_stream, four-changed, place_by, rows-changed, silent-row, state-views, views-stay}
 
 -- ---- the rows of other frames
 

@@ -2,6 +2,7 @@
 use Rattle.std.proofs.Common.{◌≡◌, ℕ, ◌==◌, Bool, true, false, ◌&&◌, ◌||◌, not, List, [], ◌∷◌, refl, sym, ap, ◌∙◌, if◌then◌else◌}
 use Rattle.std.specs.List.{list_any}
 use Rattle.std.proofs.lemmas.Bool.{false≢true, or_left}
+use Rattle.run_rows.proofs.General.{any-same}
 use Rattle.cam_types.specs.Rows as view
 use Rattle.cam_types.specs.declared.row.SensorPlace.TheVariants.{NotYet, Out as SensorOut, Home, WithFill}
 use Rattle.cam_types.specs.declared.row.TargetState.{TargetState}
@@ -60,11 +61,7 @@ brings-kinds n s (Failed m t b f) = refl
 brings-kinds n s _ = refl
 
 pub brought-kinds : (n s : ℕ) (past : List Entry) → (list_any (is_ok_return n s) past || list_any (is_failed_return n s) past) ≡ list_any (brings n s) past
-brought-kinds n s past = sym (any-or (is_ok_return n s) (is_failed_return n s) past) ∙ any-agree (λ e. is_ok_return n s e || is_failed_return n s e) (brings n s) past (brings-kinds n s)
-  where
-    any-agree : (p q : Entry → Bool) (xs : List Entry) → ((x : Entry) → p x ≡ q x) → list_any p xs ≡ list_any q xs
-    any-agree p q [] same = refl
-    any-agree p q (x ∷ xs) same = rw (same x, any-agree p q xs same) refl
+brought-kinds n s past = sym (any-or (is_ok_return n s) (is_failed_return n s) past) ∙ any-same (λ e. is_ok_return n s e || is_failed_return n s e) (brings n s) past (brings-kinds n s)
 
 -- ---- the state by these tests
 

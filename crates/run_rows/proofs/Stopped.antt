@@ -3,7 +3,7 @@
 use Rattle.std.proofs.Common.{◌≡◌, ℕ, ◌==◌, Bool, true, false, ◌&&◌, ◌||◌, not, List, [], ◌∷◌, ◌++◌, Option, Some, None, refl, sym, ap, ◌∙◌, inl, inr, filter, is_some, slice_get, if◌then◌else◌}
 use Rattle.std.proofs.lemmas.List.{append-nil}
 use Rattle.std.specs.List.{list_all, list_any}
-use Rattle.std.proofs.lemmas.Bool.{and_parts, cases_Bool, eqb-true, false≢true, or_right}
+use Rattle.std.proofs.lemmas.Bool.{and_parts, cases_Bool, eqb-true, false≢true, or_right, not-true}
 use Rattle.cam_types.specs.Four.{four_list}
 use Rattle.cam_types.specs.Refusals.{refused}
 use Rattle.cam_types.specs.declared.reply.Made.{Made}
@@ -82,10 +82,6 @@ quiet-stays : (script : Script) (past : List Entry) (e : Entry) → IsLegal scri
 quiet-stays script past e legal quiet =
     all-where-both (λ n. is_sent n past) (λ n. not (is_open n past)) (λ n. not (is_open n (e ∷ past))) (frames past)
     (λ n sent closed. ap not (closed-stays script past e n legal sent (not-true (is_open n past) closed))) (all-sent past) quiet
-  where
-    not-true : (b : Bool) → not b ≡ true → b ≡ false
-    not-true false h = refl
-    not-true true h = absurd (false≢true h)
 
 is-empty : (xs : List WaitingItem) → is_empty xs ≡ true → xs ≡ []
 is-empty [] h = refl

@@ -4,6 +4,9 @@ use Rattle.std.specs.List.{list_all, list_any}
 use Rattle.std.specs.Option.{option_map}
 use Rattle.std.proofs.lemmas.Bool.{and_parts, cases_Bool, ltb-true}
 use Rattle.std.proofs.lemmas.Bool.Decides.{nat_tests}
+use Rattle.frame_facts.proofs.Last.{any-found}
+use Rattle.trace_bounds.proofs.Printed.{found-all}
+use Rattle.run_rows.proofs.General.{kept-append}
 use Rattle.cam_types.specs.Four.{four_list}
 use Rattle.cam_types.specs.Rows.{is_returned as is_back}
 use Rattle.cam_types.specs.declared.four.Four.{Four}
@@ -61,10 +64,6 @@ streams-one : (faults : List Fault) (row : RowView) (o : Option TargetView) → 
 streams-one faults row None = refl
 streams-one faults row (Some t) = elim (cases_Bool (missing faults row t)) [ inl here ↦ rw here refl | inr other ↦ rw other refl ]
 
-pub kept-append : {X Y : Type 0} (f : X → Y) (p : X → Bool) (xs ys : List X) → map f (filter p (xs ++ ys)) ≡ map f (filter p xs) ++ map f (filter p ys)
-kept-append f p [] ys = refl
-kept-append f p (x ∷ xs) ys = elim (cases_Bool (p x)) [ inl yes' ↦ rw (yes', kept-append f p xs ys) refl | inr no' ↦ rw (no', kept-append f p xs ys) refl ]
-
 missing-listed : (faults : List Fault) (row : RowView) → missing_streams (missing_buffers row (faults_of faults row)) row.targets ≡ map (λ t. t.stream.0) (filter (missing faults row) (four_list row.targets))
 missing-listed faults row =
     let p = missing faults row in
@@ -88,15 +87,6 @@ abbrev pub are_rising : List TargetView → Bool
 are_rising [] = true
 are_rising (t ∷ ts) = list_all (λ u. nat_lt t.stream.0 u.stream.0) ts && are_rising ts
 
-found-all : {X : Type 0} (p q : X → Bool) (xs : List X) (x : X) → list_all p xs ≡ true → find q xs ≡ Some x → p x ≡ true
-found-all p q [] x all found = absurd (cc)
-found-all p q (y ∷ xs) x all found =
-    let parts = and_parts (p y) (list_all p xs) all in
-    elim (cases_Bool (q y)) [
-      | inl here ↦ (let found' = rw here at found in let same : y ≡ x = cc in rw (← same) parts.0)
-      | inr other ↦ (let found' = rw other at found in found-all p q xs x parts.1 found')
-    ]
-
 lesser-is : (s : ℕ) (o : Option TargetView) → ((u : TargetView) → o ≡ Some u → nat_lt s u.stream.0 ≡ true) → lesser s (option_map (λ t. t.stream.0) o) ≡ s
 lesser-is s None low = refl
 lesser-is s (Some u) low = let less = ltb-true s u.stream.0 (low u refl) in omega (arith, less)
@@ -114,10 +104,6 @@ least-first p (t ∷ ts) rising =
 true-one : (faults : List Fault) (row : RowView) (o : Option TargetView) → is_true_at (misses_at (is_cut_short row) (fault_at faults row.frame.0 o) o) ≡ some_of (missing faults row) o
 true-one faults row None = refl
 true-one faults row (Some t) = refl
-
-any-found : {X : Type 0} (p : X → Bool) (xs : List X) → list_any p xs ≡ is_some (find p xs)
-any-found p [] = refl
-any-found p (x ∷ xs) = elim (cases_Bool (p x)) [ inl here ↦ rw here refl | inr other ↦ rw other (any-found p xs) ]
 
 some-missing : (faults : List Fault) (row : RowView) → is_some_true (missing_buffers row (faults_of faults row)) ≡ is_some (find (missing faults row) (four_list row.targets))
 some-missing faults row =

@@ -2,6 +2,7 @@
 use Rattle.std.proofs.Common.{◌≡◌, ℕ, ◌==◌, Bool, true, false, ◌&&◌, not, List, [], ◌∷◌, ◌++◌, Option, Some, None, refl, sym, ap, ◌∙◌, inl, inr, filter, map, reverse}
 use Rattle.std.specs.List.{list_all}
 use Rattle.std.proofs.lemmas.Bool.{and_from, and_parts, cases_Bool, false≢true}
+use Rattle.run_rows.proofs.General.{filter-all}
 use Rattle.cam_types.specs.Rows as view
 use Rattle.cam_types.specs.declared.four.Four.{Four}
 use Rattle.cam_types.specs.declared.item.Settings.{Settings}
@@ -52,10 +53,6 @@ all-open script h legal = by-frames (reverse (frames (trace_of h))) (sent-in-ord
           | inl yes' ↦ (let now : view.is_open (row_of script h x) ≡ true = sym (row-open script h x legal parts.0) ∙ yes' in rw (yes', now) (by-frames xs parts.1))
           | inr no' ↦ rw no' (by-frames xs parts.1)
         ]
-
-pub filter-all : (p : RowView → Bool) (xs : List RowView) → list_all p xs ≡ true → filter p xs ≡ xs
-filter-all p [] all = refl
-filter-all p (x ∷ xs) all = let parts = and_parts (p x) (list_all p xs) all in rw (parts.0, filter-all p xs parts.1) refl
 
 -- ---- a change that leaves an open row open
 

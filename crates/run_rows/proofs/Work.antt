@@ -1,7 +1,8 @@
 -- The jobs that are out are read from the rows: no job is out of a frame that is closed.
-use Rattle.std.proofs.Common.{◌≡◌, ℕ, ◌==◌, Bool, true, false, ◌&&◌, ◌||◌, not, List, [], ◌∷◌, Option, Some, None, refl, sym, ap, ◌∙◌, inl, inr, is_some, if◌then◌else◌}
+use Rattle.std.proofs.Common.{◌≡◌, ℕ, ◌==◌, Bool, true, false, ◌&&◌, ◌||◌, not, List, [], ◌∷◌, Option, Some, None, refl, sym, ap, ◌∙◌, inl, inr, is_some}
 use Rattle.std.specs.List.{list_all, list_any}
-use Rattle.std.proofs.lemmas.Bool.{and_parts, cases_Bool, eqb-true, false≢true}
+use Rattle.std.proofs.lemmas.Bool.{and_parts, cases_Bool, eqb-true, false≢true, not-true}
+use Rattle.run_rows.proofs.General.{some-if}
 use Rattle.cam_types.specs.declared.script.Script.{Script}
 use Rattle.trace_model.specs.declared.entry.Entry.{Entry}
 use Rattle.trace_model.specs.declared.entry.Entry.TheVariants.{Shutter, Filled, Failed, ErrorRequest, ErrorBuffer, Late}
@@ -136,10 +137,6 @@ ends-home script h step (Failed m t b f) n s run is =
     let parts = and_parts (m.0 == n) (t.0 == s) is in
     let behind = move-behind script h step (record { step = step; entry = Some (Failed m t b f) }) run.0 in
     (refl, ap (λ (i : ℕ). is_sensor_out h i) (sym (eqb-true m.0 n parts.0)) ∙ not-true (is_sensor_out h m.0) (and_parts (not (is_sensor_out h m.0)) (not (is_fill_out h m.0 t.0)) behind).0)
-  where
-    not-true : (b : Bool) → not b ≡ true → b ≡ false
-    not-true false h = refl
-    not-true true h = absurd (false≢true h)
 ends-home script h (Finish m t) (Late d x) n s run is =
     let behind : FinishedBy h (Finish m t) d.0 = move-behind script h (Finish m t) (record { step = Finish m t; entry = Some (Late d x) }) run.0 in
     let only = (late-of script h (Finish m t) m.0 t.0 d x run behind).only n s is in
@@ -182,10 +179,6 @@ sensor-closed script h n run closed =
     ]
 
 -- ---- the sensor's job
-
-some-if : {X : Type 0} (b : Bool) (x : X) → is_some (if b then Some x else None) ≡ b
-some-if true x = refl
-some-if false x = refl
 
 pub sensor_is : (script : Script) (h : List Move) (n : ℕ) → IsRun script h → is_sensor_out h n ≡ is_some (sensor_job_at n (rows script h))
 sensor_is script h n run =

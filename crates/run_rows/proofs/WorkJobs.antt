@@ -1,8 +1,9 @@
 -- Which job is out is read from the rows.
-use Rattle.std.proofs.Common.{◌≡◌, ℕ, ◌==◌, Bool, true, false, not, List, [], ◌∷◌, Option, Some, None, refl, sym, ap, ◌∙◌, inl, inr, find, is_some, slice_get, if◌then◌else◌}
+use Rattle.std.proofs.Common.{◌≡◌, ℕ, ◌==◌, Bool, true, false, not, List, Option, Some, None, refl, sym, ap, ◌∙◌, inl, inr, is_some, slice_get, if◌then◌else◌}
 use Rattle.std.specs.Option.{option_map}
-use Rattle.std.specs.List.{list_any}
 use Rattle.std.proofs.lemmas.Bool.{and_parts, cases_Bool, false≢true}
+use Rattle.run_rows.proofs.General.{none-found}
+use Rattle.basic_lemmas.proofs.Tests.{given-where}
 use Rattle.cam_types.specs.declared.item.Settings.{Settings}
 use Rattle.cam_types.specs.declared.job.FillTarget.{FillTarget}
 use Rattle.cam_types.specs.declared.job.JobView.{JobView}
@@ -39,10 +40,6 @@ open-found script h n open_ = row-found script h n ∙ rw open_ refl
 closed-found : (script : Script) (h : List Move) (n : ℕ) → is_open n (trace_of h) ≡ false → row_at n (rows script h) ≡ None
 closed-found script h n closed = row-found script h n ∙ rw closed refl
 
-given-some : {X : Type 0} (b : Bool) (x y : X) → (if b then Some x else None) ≡ Some y → (b ≡ true) × (x ≡ y)
-given-some true x y h = (refl, cc)
-given-some false x y h = absurd (cc)
-
 -- ---- the sensor's
 
 sensor-open : (script : Script) (h : List Move) (n : ℕ) → IsRun script h → is_sensor_out h n ≡ true → is_open n (trace_of h) ≡ true
@@ -67,7 +64,7 @@ sensor-job-by script h job o at open_ closed is = elim (cases_Bool (is_open job.
   | inl yes' ↦ (
       let n = job.frame.0 in
       let is' : (if ready.is_sensor_out (sensor_place h n) then Some (sensor_job (row_of script h n)) else None) ≡ Some job = ap sensor_job_of (sym (open_ yes')) ∙ is in
-      let both = given-some (ready.is_sensor_out (sensor_place h n)) (sensor_job (row_of script h n)) job is' in
+      let both = given-where (ready.is_sensor_out (sensor_place h n)) (sensor_job (row_of script h n)) job is' in
       record {
         out = sym (place-out h n) ∙ both.0;
         settings = ap (λ (j : JobView). j.settings) (sym both.1);
@@ -85,16 +82,9 @@ sensor_job_to script h job is =
 
 not-taken : (script : Script) (h : List Move) (n s : ℕ) → IsRun script h → target_of n s (trace_of h) ≡ None → is_fill_out h n s ≡ false
 not-taken script h n s run at = elim (cases_Bool (is_fill_out h n s)) [
-  | inl out ↦ absurd (has-none s (targets_of n (trace_of h)) (taken-target script h n s run (and_parts (is_taken_in h n s) (not (is_filled_in h n s)) out).0) at)
+  | inl out ↦ absurd (none-found (λ t. t.stream.0 == s) (targets_of n (trace_of h)) (taken-target script h n s run (and_parts (is_taken_in h n s) (not (is_filled_in h n s)) out).0) at)
   | inr no' ↦ no'
 ]
-  where
-    has-none : (s : ℕ) (ts : List Sent) → list_any (λ t. t.stream.0 == s) ts ≡ true → find (λ t. t.stream.0 == s) ts ≡ None → ⊥
-    has-none s [] has at = false≢true has
-    has-none s (t ∷ ts) has at = elim (cases_Bool (t.stream.0 == s)) [
-      | inl here ↦ (let at' = rw here at at in absurd (cc))
-      | inr other ↦ (let has' = rw other at has in let at' = rw other at at in has-none s ts has' at')
-    ]
 
 fill-some : (row : RowView) (v : TargetView) (o : Option StreamSpec) (b : Bool) → is_some o ≡ true → device.is_fill_out v.state ≡ b → b ≡ is_some (fill_job_of row (Some v) o)
 fill-some row v None b some at = absurd (false≢true some)
@@ -181,7 +171,7 @@ fill-job-by script h job target (Some t) (Some x) run fill at spec is =
     let row = row_of script h n in
     let v = view_at h n s t in
     let is' : (if device.is_fill_out (target_state h n s) then Some (fill_job row v x) else None) ≡ Some job = ap (λ (o : Option TargetView). fill_job_of row o (Some x)) (sym (view-found script h n s t at)) ∙ is in
-    let both = given-some (device.is_fill_out (target_state h n s)) (fill_job row v x) job is' in
+    let both = given-where (device.is_fill_out (target_state h n s)) (fill_job row v x) job is' in
     let parts = fill-parts h n s target t x job.fill fill (ap (λ (j : JobView). j.fill) both.1) in
     record {
       out = sym (state-busy script h n s run) ∙ both.0;
