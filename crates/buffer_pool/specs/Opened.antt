@@ -1,22 +1,15 @@
-use Rattle.std.specs.Prelude.{◌≡◌, ℕ, ◌==◌, ◌+◌, Bool, true, List, length, map, is_none}
+use Rattle.std.specs.Prelude.{◌≡◌, ℕ, ◌==◌, Bool, true, List, length, map, is_none}
 use Rattle.std.specs.List.{list_all, range_with_len}
 use Rattle.cam_types.specs.Picture.{length_in}
 use Rattle.cam_types.specs.declared.stream.Format.{Format}
-use Rattle.cam_types.specs.declared.stream.Format.TheVariants.{Raw16, Yuv, Other}
 use Rattle.cam_types.specs.declared.stream.StreamSpec.{StreamSpec}
 use Rattle.buffer_pool.specs.declared.parked.Parked.{Parked}
 use Rattle.buffer_pool.specs.Blocks.{block_length}
 use Rattle.buffer_pool.specs.Home.{Buffers}
 use Rattle.buffer_pool.specs.Parked.{number}
 
--- A pool as it is opened. How many buffers it has is our own choice: camera3.h, camera3_stream, bounds by max_buffers
--- those that are at the device.
-
--- two more than may be at the device, so that a client can hold two
-abbrev pub pool_size : Format → ℕ
-pool_size Raw16 = 3 + 2
-pool_size Yuv = 4 + 2
-pool_size (Other _) = 0
+-- A pool as it is opened (camera3.h, camera3_stream: max_buffers bounds those that are at the device; that a pool has two
+-- more is our own choice).
 
 -- the buffer is a whole block of the format
 abbrev pub is_whole : Format → Parked → Bool

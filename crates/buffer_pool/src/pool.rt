@@ -1,19 +1,17 @@
 ghost use Rattle.std.specs.Prelude.{◌≡◌, ◌↔◌, ◌+◌, ◌^◌, ◌<◌, ◌≤◌, [], IfOk, IfSome, IsNone, IsTrue, drop, nat_le, slice_get, false};
 ghost use Rattle.std.specs.List.{list_all};
 ghost use Rattle.cam_types.specs.Picture.{is_offered, length_in};
+ghost use Rattle.cam_types.specs.Profile.{is_profile, pool_size};
 ghost use Rattle.fence_tokens.specs.Fences.{made};
 ghost use Rattle.buffer_pool.specs.Blocks.{block_length, free_of, lent_of, with_lent, with_returned};
 ghost use Rattle.buffer_pool.specs.Home.{AllHome, in_order, is_home, is_of, with_parked};
-ghost use Rattle.buffer_pool.specs.Opened.{IsOpened, is_whole, pool_size};
+ghost use Rattle.buffer_pool.specs.Opened.{IsOpened, is_whole};
 ghost use Rattle.buffer_pool.specs.Parked.{has_made_waiter, number};
 
 use crate::blocks::Blocks;
 use crate::parked::Parked;
 use crate::slots::{Slots, end_slots, make_slots, put, take_first};
-use cam_types::{
-    BufferId, Format, NoMemory, PixelBuf, RAW_BUFFERS, SPARE_BUFFERS, StreamSpec, YUV_BUFFERS,
-    frame_bytes,
-};
+use cam_types::{BufferId, Format, NoMemory, PixelBuf, Profile, StreamSpec, frame_bytes};
 use fence_tokens::Fences;
 use std::alloc::Global;
 use std::marker::Model;
@@ -42,15 +40,21 @@ impl Model for Pool {
 }
 
 impl Pool {
-    /// A pool with all buffers of a stream, each over a whole block of its own: 38,400 bytes for RAW16, 28,800 for YUV.
-    /// A buffer shows as many bytes of its block as a picture of the stream has.
-    pub fn open(alloc: Global, spec: StreamSpec, first: BufferId) -> Result<Pool, NoMemory>
+    /// A pool with all buffers that a stream has by the device's profile, each over a whole block of its own: 38,400
+    /// bytes for RAW16, 28,800 for YUV. A buffer shows as many bytes of its block as a picture of the stream has.
+    pub fn open(
+        alloc: Global,
+        profile: Profile,
+        spec: StreamSpec,
+        first: BufferId,
+    ) -> Result<Pool, NoMemory>
+        requires profile { IsTrue (is_profile profile) }
         requires offered { IsTrue (is_offered spec) }
-        requires numbered { first.0 + pool_size spec.format ≤ 2 ^ 32 }
-        ensures opened { IfOk result (λ pool. IsOpened spec first.0 (pool_size spec.format) pool) }
+        requires numbered { first.0 + pool_size profile spec.format ≤ 2 ^ 32 }
+        ensures opened { IfOk result (λ pool. IsOpened spec first.0 (pool_size profile spec.format) pool) }
         ensures home { IfOk result AllHome }
     {
-        let count = buffer_count(spec.format);
+        let count = pool_count(profile, spec.format);
         let mut blocks = match spec.format {
             Format::Raw16 => Blocks::new(alloc, count, 0)?,
             _ => Blocks::new(alloc, 0, count)?,
@@ -167,14 +171,13 @@ impl Pool {
     }
 }
 
-fn buffer_count(format: Format) -> u32
-    ensures { result ≡ pool_size format }
+/// How many buffers a stream of the format has: no more than the most of a pool.
+fn pool_count(profile: Profile, format: Format) -> u32
+    requires { IsTrue (is_profile profile) }
+    ensures value { result ≡ pool_size profile format }
+    ensures few { result ≤ POOL_LIMIT }
 {
-    match format {
-        Format::Raw16 => RAW_BUFFERS + SPARE_BUFFERS,
-        Format::Yuv => YUV_BUFFERS + SPARE_BUFFERS,
-        Format::Other(_) => 0,
-    }
+    profile.pool_size(format)
 }
 
 /// The bytes of a picture of the stream, for which a block has room.

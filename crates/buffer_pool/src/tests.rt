@@ -1,6 +1,6 @@
 //! Buffers are taken and given back, the least number first, and blocks serve one pool after another.
 use super::*;
-use cam_types::{BufferId, Format, StreamSpec};
+use cam_types::{BufferId, Format, Profile, StreamSpec};
 use fence_tokens::Fences;
 use std::process::Abort;
 use std::test::Fail;
@@ -34,7 +34,7 @@ fn spent(rt: &impl Abort, parked: Parked) -> (u32, usize, usize) {
 #[test]
 fn the_least_number_goes_first(rt: HostRuntime) -> Result<(), Fail> {
     let mut fences = Fences::new(rt.alloc());
-    let mut pool = Pool::open(rt.alloc(), RAW, BufferId(0))?;
+    let mut pool = Pool::open(rt.alloc(), Profile::PLAIN, RAW, BufferId(0))?;
     for number in 0..3u32 {
         let Some(parked) = pool.take() else {
             panic!(rt; "no buffer {number}");
@@ -98,5 +98,27 @@ fn blocks_serve_one_pool_after_another(rt: HostRuntime) -> Result<(), Fail> {
         panic!(rt; "buffer {}", more.pixels.id().0);
     }
     second.close(&mut fences);
+    Ok(())
+}
+
+#[test]
+fn a_deeper_profile_has_a_larger_pool(rt: HostRuntime) -> Result<(), Fail> {
+    let mut fences = Fences::new(rt.alloc());
+    let deep = Profile {
+        depth: 8,
+        raw: 3,
+        yuv: 7,
+    };
+    let mut pool = Pool::open(rt.alloc(), deep, SMALL_YUV, BufferId(0))?;
+    for number in 0..9u32 {
+        let Some(parked) = pool.take() else {
+            panic!(rt; "no buffer {number}");
+        };
+        assert_eq!(rt; spent(&rt, parked), (number, 1_800, 28_800));
+    }
+    if let Some(more) = pool.take() {
+        panic!(rt; "buffer {}", more.pixels.id().0);
+    }
+    pool.close(&mut fences);
     Ok(())
 }

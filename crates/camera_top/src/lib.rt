@@ -5,9 +5,9 @@ mod commands;
 mod convert;
 mod judge;
 mod laws;
-mod play;
 mod player;
 mod refusal;
+mod run_to_end;
 mod status;
 #[cfg(test)]
 mod tests;

@@ -6,8 +6,8 @@ ghost use Rattle.io_edge.specs.States.{Writes, WritesNothing};
 ghost use Rattle.camera_top.specs.Answers.{Answers, Tells, TellsBy};
 ghost use Rattle.camera_top.specs.Says.{IsWhole, Says, SaysOfScript, named_profile, trace_text};
 
-use crate::play::{Ended, move_bound, play};
 use crate::refusal::refuse_script;
+use crate::run_to_end::{Ended, move_bound, play};
 use crate::status::{Status, answer};
 use cam_types::{Profile, SCRIPT_BYTES, Script};
 use io_edge::{ReadBytes, ReadFault, Sink, Source, read_all};

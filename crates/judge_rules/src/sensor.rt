@@ -6,18 +6,12 @@ ghost use Rattle.trace_model.specs.Shutter.{next_time, is_next_for_sensor, may_e
 ghost use Rattle.judge_rules.specs.Rules.{is_at_time, exposes};
 ghost use Rattle.judge_rules.specs.Times.{time_after};
 
-use cam_types::{FrameNo, Script};
+use cam_types::{FIRST_SHUTTER, FRAME_TIME, FrameNo, Script};
 use judge_entries::fault::device_fault;
 use judge_filters::frame::{has_error, has_shutter, is_sent, settings_of};
 use judge_filters::order::earlier_exposed;
 use judge_filters::stopping::is_stopping;
 use trace_model::Entry;
-
-/// The time of the first shutter, in nanoseconds.
-const FIRST_SHUTTER: u128 = 1_000_000_000;
-
-/// The least time between two shutters, in nanoseconds.
-const FRAME_TIME: u64 = 33_333_333;
 
 /// The time of the shutter that follows the entry: the entries before it are given, and the time that they lead to.
 fn time_after(time: u128, script: &Script, before: &[Entry], entry: &Entry) -> u128
@@ -37,7 +31,7 @@ fn time_after(time: u128, script: &Script, before: &[Entry], entry: &Entry) -> u
 pub fn next_time(script: &Script, entries: &[Entry]) -> u128
     ensures { result ≡ next_time script.now (reverse entries.now) }
 {
-    let mut time = FIRST_SHUTTER;
+    let mut time = FIRST_SHUTTER as u128;
     for (index, entry) in entries.iter().enumerate() {
         time = time_after(time, script, &entries[..index], entry);
     }

@@ -5,6 +5,7 @@ use Rattle.cam_types.specs.declared.number.RequestId.{RequestId}
 use Rattle.cam_types.specs.declared.request.Queued.{Queued}
 use Rattle.cam_types.specs.declared.request.WaitingItem.{WaitingItem}
 use Rattle.cam_types.specs.Requests.{Repeating}
+use Rattle.cam_types.specs.Limits.{queue_limit}
 
 -- What is to be captured next: each item of a once or a burst comes one time, in the order of the calls, and the list
 -- of a repeat fills the time in which nothing waits (camera3.h, S2: the framework sends a steady stream of requests;
@@ -55,5 +56,5 @@ after_next (_ ∷ others) repeating place = record { queued = others; repeating 
 
 -- at most 256 items wait, and the list that repeats has 1 to 8, of which one is at the place
 pub record IsWithin (q : Requests) : Type 0 where
-  pub queued : length q.queued ≤ 256
+  pub queued : length q.queued ≤ queue_limit
   pub placed : IfSome q.repeating (λ r. (q.place < length r.items) × (length r.items ≤ 8))

@@ -6,6 +6,7 @@ use Rattle.cam_types.specs.declared.number.RequestId.{RequestId}
 use Rattle.cam_types.specs.declared.request.WaitingItem.{WaitingItem}
 use Rattle.cam_types.specs.Requests.{Repeating}
 use Rattle.request_queue.specs.Requests.{IsWithin, Requests}
+use Rattle.cam_types.specs.Limits.{queue_limit}
 
 abbrev pub list_of : List Item → RequestId → Repeating
 list_of items r = record { request = r; items = items }
@@ -17,6 +18,6 @@ held waiting cycle repeating place =
 
 -- the fields have the room that no call adds to, and hold what a queue may
 pub record IsKept (waiting : Buffer WaitingItem) (cycle : Buffer Item) (repeating : Option RequestId) (place : ℕ) : Type 0 where
-  pub queue_room : waiting.capacity ≡ 256
+  pub queue_room : waiting.capacity ≡ queue_limit
   pub cycle_room : cycle.capacity ≡ 8
   pub within : IsWithin (held waiting cycle repeating place)

@@ -2,7 +2,7 @@ use Rattle.std.proofs.Common.{◌∙◌, inl, sym}
 use Rattle.std.proofs.lemmas.Bool.{false≢true}
 use Rattle.service_core.specs.First.{first_move_of}
 use Rattle.camera_top.proofs.Playing.{chosen-ready, none-ready, not-ready}
-use Rattle.camera_top.proofs.play.play.Goals as goal
+use Rattle.camera_top.proofs.run_to_end.play.Goals as goal
 
 pub returns-in_default-clause-ended : goal.returns-in_default-clause-ended
 returns-in_default-clause-ended c = record {

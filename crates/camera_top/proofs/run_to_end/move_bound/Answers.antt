@@ -1,6 +1,6 @@
 use Rattle.std.proofs.Common.{arith}
 use Rattle.camera_top.proofs.Bounds.{bounded}
-use Rattle.camera_top.proofs.play.move_bound.Goals as goal
+use Rattle.camera_top.proofs.run_to_end.move_bound.Goals as goal
 
 pub returns : goal.returns
 returns c =

@@ -1,3 +1,4 @@
+//! Runs the service until its run is complete, by the steps that the picks choose.
 ghost use Rattle.std.specs.Prelude.{◌≡◌, ◌≤◌, [], count_by, length, true};
 ghost use Rattle.cam_types.specs.Script.{awaited_by};
 ghost use Rattle.run_model.specs.Bounds.{move_bound};

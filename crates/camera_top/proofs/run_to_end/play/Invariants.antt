@@ -1,6 +1,6 @@
 use Rattle.std.proofs.Common.{◌≡◌, length}
 use Rattle.service_core.specs.First.{IsFirstPlayed}
-use Rattle.camera_top.proofs.play.play.Given as goal
+use Rattle.camera_top.proofs.run_to_end.play.Given as goal
 
 -- the history was made by the picks
 abbrev pub invariant-loop : goal.invariant-loop
