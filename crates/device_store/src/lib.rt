@@ -1,0 +1,11 @@
+//! The rows of the open frames with all that the device holds for them: the buffers that wait and those that are filled,
+//! and the readouts. Each step of the device moves them here.
+#![tactic(auto)]
+
+mod buffers;
+mod plan;
+mod readouts;
+
+pub use buffers::{FilledBuf, Held, WaitingBuf};
+pub use plan::spec_at;
+pub use readouts::{HomeReadout, Scratch, Slot};
