@@ -1,0 +1,3 @@
+pub mod General
+pub mod Views
+pub mod Targets

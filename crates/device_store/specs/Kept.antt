@@ -22,7 +22,7 @@ use Rattle.device_store.specs.declared.buffers.Held.{Held}
 use Rattle.device_store.specs.declared.buffers.Held.TheVariants.{Waiting as HeldWaiting, Filled as HeldFilled}
 use Rattle.device_store.specs.declared.readouts.Slot.{Slot}
 use Rattle.device_store.specs.declared.readouts.Slot.TheVariants.{Spare, Home as SlotHome, Away}
-use Rattle.device_store.specs.Stored.{specs_of}
+use Rattle.device_store.specs.Stored.{is_some_target, specs_of, views}
 
 -- What is held for a row: it follows from the row and the streams (our own choice).
 
@@ -32,6 +32,23 @@ fence_number fence = option_map (λ f. f.0) fence
 -- the buffer of a target that waits
 abbrev pub waiting_for : TargetView → StreamSpec → Held
 waiting_for target spec = HeldWaiting (record { buffer = target.buffer; spec = spec; fence = fence_number target.fence })
+
+abbrev pub waiting_with : TargetView → Option StreamSpec → Option Held
+waiting_with target (Some spec) = Some (waiting_for target spec)
+waiting_with target None = None
+
+abbrev pub waiting_at : List StreamSpec → Option TargetView → Option Held
+waiting_at specs (Some target) = waiting_with target (slice_get specs target.stream.0)
+waiting_at specs None = None
+
+-- those of targets that all wait
+abbrev pub waiting_in : List StreamSpec → Four TargetView → Four Held
+waiting_in specs targets = record {
+  a = waiting_at specs targets.a;
+  b = waiting_at specs targets.b;
+  c = waiting_at specs targets.c;
+  d = waiting_at specs targets.d;
+}
 
 abbrev pub filled_for : RowView → TargetView → StreamSpec → Held
 filled_for row target spec = HeldFilled (fill_job row target spec)
@@ -116,7 +133,7 @@ agree row = agree_at row.sensor row
 -- the settings are in range, the streams of the targets rise and are among so many, and there is a target
 abbrev pub is_placed : ℕ → RowView → Bool
 is_placed streams row =
-    is_none (range_fault row.settings) && (rise_from 0 streams (four_list row.targets) && list_any (λ target. true) (four_list row.targets))
+    is_none (range_fault row.settings) && (rise_from 0 streams (four_list row.targets) && is_some_target (four_list row.targets))
 
 abbrev pub is_kept : ℕ → RowView → Bool
 is_kept streams row = is_placed streams row && agree row
@@ -125,9 +142,9 @@ is_kept streams row = is_placed streams row && agree row
 
 -- what is held follows from the rows, there is a readout for each row that may stand, and each row is as it must be
 pub record IsKept (plan : Plan) (rows : List (Row Held)) (capacity : ℕ) (slots : List Slot) (spares slot_room spare_room : ℕ) : Type 0 where
-  pub filled : rows ≡ map (full (specs_of plan)) (map view_of rows)
-  pub shown : slots ≡ map slot_of (map view_of rows)
+  pub filled : rows ≡ map (full (specs_of plan)) (views rows)
+  pub shown : slots ≡ map slot_of (views rows)
   pub enough : spares + length rows ≡ capacity
   pub room : (capacity ≤ slot_room) × (capacity ≤ spare_room)
-  pub each : list_all (is_kept (length (specs_of plan))) (map view_of rows) ≡ true
+  pub each : list_all (is_kept (length (specs_of plan))) (views rows) ≡ true
   pub offered : list_all is_offered (specs_of plan) ≡ true

@@ -1,5 +1,5 @@
 use Rattle.std.specs.Prelude.{◌≡◌, ℕ, ◌==◌, Bool, true, false, ◌&&◌, List, map, Option, Some, None, slice_get, nat_lt}
-use Rattle.std.specs.List.{list_all}
+use Rattle.std.specs.List.{list_all, list_any}
 use Rattle.std.specs.Option.{option_map}
 use Rattle.buffer_pool.specs.declared.parked.Parked.{Parked}
 use Rattle.cam_types.specs.Four.{four_list}
@@ -9,6 +9,8 @@ use Rattle.cam_types.specs.declared.row.RowView.{RowView}
 use Rattle.cam_types.specs.declared.row.TargetView.{TargetView}
 use Rattle.cam_types.specs.declared.stream.StreamSpec.{StreamSpec}
 use Rattle.fill_jobs.specs.Buffers.{IsBufferFor}
+use Rattle.inflight_table.specs.declared.row.Row.{Row}
+use Rattle.inflight_table.specs.Rows.{row_of, view_of}
 use Rattle.stream_config.specs.declared.plan.Plan.{Plan}
 use Rattle.stream_config.specs.declared.plan.PlanStream.{PlanStream}
 
@@ -31,9 +33,23 @@ pub record Stored : Type 0 where
 abbrev pub with_rows : List RowView → Stored → Stored
 with_rows rows store = record { plan = store.plan; capacity = store.capacity; rows = rows }
 
+abbrev pub with_plan : Plan → Stored → Stored
+with_plan plan store = record { plan = plan; capacity = store.capacity; rows = store.rows }
+
+abbrev pub no_stream : Option PlanStream
+no_stream = None
+
+-- the plan without a stream
+abbrev pub no_plan : Plan
+no_plan = record { streams = record { a = no_stream; b = no_stream; c = no_stream; d = no_stream } }
+
 -- each row is of an earlier frame
 abbrev pub are_before : ℕ → List RowView → Bool
 are_before n rows = list_all (λ row. nat_lt row.frame.0 n) rows
+
+-- there is a target
+abbrev pub is_some_target : List TargetView → Bool
+is_some_target targets = list_any (λ target. true) targets
 
 -- ---- the buffers that come with a request (camera3.h, camera3_stream_buffer)
 
@@ -57,3 +73,13 @@ pub record AreParked (specs : List StreamSpec) (targets : Four TargetView) (park
   pub b : IsParkedAt specs targets.b parked.b
   pub c : IsParkedAt specs targets.c parked.c
   pub d : IsParkedAt specs targets.d parked.d
+
+-- ---- rows with what is parked for them
+
+-- the rows alone
+abbrev pub views : {B : Type 0} → List (Row B) → List RowView
+views rows = map view_of rows
+
+-- the row of frame n
+abbrev pub find_view : {B : Type 0} → ℕ → List (Row B) → Option RowView
+find_view n rows = option_map view_of (row_of n rows)

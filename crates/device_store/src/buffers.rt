@@ -65,6 +65,13 @@ impl WaitingBuf {
         }
     }
 
+    /// The stream's specification.
+    pub fn spec(&self) -> StreamSpec
+        ensures { result ≡ self.now.spec }
+    {
+        self.spec
+    }
+
     /// The buffer as it came.
     pub fn into_parked(self) -> Parked
         ensures pixels { IsBufferFor self.spec self.buffer result.pixels }

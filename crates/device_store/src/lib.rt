@@ -3,9 +3,13 @@
 #![tactic(auto)]
 
 mod buffers;
+mod hold;
+mod place;
 mod plan;
 mod readouts;
+mod store;
 
 pub use buffers::{FilledBuf, Held, WaitingBuf};
 pub use plan::spec_at;
 pub use readouts::{HomeReadout, Scratch, Slot};
+pub use store::Store;

@@ -124,6 +124,20 @@ impl FilledJob {
         self.frame
     }
 
+    /// The settings of the frame.
+    pub fn settings(&self) -> Settings
+        ensures { result ≡ self.now.settings }
+    {
+        self.settings
+    }
+
+    /// The buffer that was filled.
+    pub fn target(&self) -> FillTarget
+        ensures { self.now.fill ≡ Some result }
+    {
+        self.target
+    }
+
     /// The stream whose buffer was filled.
     pub fn stream(&self) -> StreamIx
         ensures { IsStreamAt result.0 self.now.fill }
