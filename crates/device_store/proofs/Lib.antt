@@ -1,3 +1,6 @@
 pub mod General
 pub mod Views
 pub mod Targets
+pub mod Admission
+pub mod Agree
+pub mod Steps

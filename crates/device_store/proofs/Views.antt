@@ -2,20 +2,16 @@
 use Rattle.std.proofs.Common.{◌≡◌, ℕ, ◌==◌, Bool, true, false, if◌then◌else◌, List, [], ◌∷◌, map, Option, Some, None, nat_lt, refl, sym, ◌∙◌, ap, inl, inr}
 use Rattle.std.specs.List.{find, list_all}
 use Rattle.std.specs.Option.{option_map}
-use Rattle.std.proofs.lemmas.Bool.{and_from, and_parts}
-use Rattle.basic_lemmas.proofs.Lists.{all-mapped, find-mapped, map-map}
+use Rattle.basic_lemmas.proofs.Lists.{find-mapped, map-map}
 use Rattle.cam_types.specs.declared.row.RowView.{RowView}
 use Rattle.cam_types.specs.declared.stream.StreamSpec.{StreamSpec}
 use Rattle.device_rows.specs.Rows.{row_at, with_row as with_view}
 use Rattle.device_store.specs.declared.buffers.Held.{Held}
 use Rattle.device_store.specs.Kept.{full}
-use Rattle.device_store.specs.Stored.{find_view, views}
+use Rattle.device_store.specs.Stored.{find_view, frame_number, rises, views}
 use Rattle.inflight_table.specs.declared.row.Row.{Row}
-use Rattle.inflight_table.specs.Rows.{are_in_order, frame_of, if_of, is_of, row_of, view_of, with_row}
-use Rattle.device_store.proofs.General.{found-is, map-at, rises}
-
-abbrev pub frame_number : RowView → ℕ
-frame_number row = row.frame.0
+use Rattle.inflight_table.specs.Rows.{is_of, row_of, view_of}
+use Rattle.device_store.proofs.General.{found-is, map-at}
 
 pub views-full : (specs : List StreamSpec) (rows : List RowView) → views (map (full specs) rows) ≡ rows
 views-full specs [] = refl
@@ -26,13 +22,6 @@ find-full specs n rows = find-mapped (is_of n) (full specs) rows
 
 pub find-views : {B : Type 0} (n : ℕ) (rows : List (Row B)) → row_at n (views rows) ≡ find_view n rows
 find-views n rows = find-mapped (λ row. row.frame.0 == n) view_of rows
-
-pub order-rises : {B : Type 0} (rows : List (Row B)) → are_in_order rows ≡ true → rises frame_number (views rows) ≡ true
-order-rises [] order = refl
-order-rises (r ∷ rows) order =
-    let parts = and_parts (list_all (λ other. nat_lt (frame_of r) (frame_of other)) rows) (are_in_order rows) order in
-    let above = all-mapped (λ (v : RowView). nat_lt (frame_of r) v.frame.0) view_of rows ∙ parts.0 in
-    rw (above, order-rises rows parts.1) refl
 
 pub found-own : (n : ℕ) (rows : List RowView) (row : RowView) → row_at n rows ≡ Some row → (row.frame.0 == n) ≡ true
 found-own n rows row found = found-is (λ v. v.frame.0 == n) rows row found

@@ -22,7 +22,7 @@ use Rattle.device_store.specs.declared.buffers.Held.{Held}
 use Rattle.device_store.specs.declared.buffers.Held.TheVariants.{Waiting as HeldWaiting, Filled as HeldFilled}
 use Rattle.device_store.specs.declared.readouts.Slot.{Slot}
 use Rattle.device_store.specs.declared.readouts.Slot.TheVariants.{Spare, Home as SlotHome, Away}
-use Rattle.device_store.specs.Stored.{is_some_target, specs_of, views}
+use Rattle.device_store.specs.Stored.{frame_number, is_some_target, rises, specs_of, views}
 
 -- What is held for a row: it follows from the row and the streams (our own choice).
 
@@ -140,10 +140,11 @@ is_kept streams row = is_placed streams row && agree row
 
 -- ---- what the store meets
 
--- what is held follows from the rows, there is a readout for each row that may stand, and each row is as it must be
+-- what is held follows from the rows, their frames rise, there is a readout for each row that may stand, and each row is as it must be
 pub record IsKept (plan : Plan) (rows : List (Row Held)) (capacity : ℕ) (slots : List Slot) (spares slot_room spare_room : ℕ) : Type 0 where
   pub filled : rows ≡ map (full (specs_of plan)) (views rows)
   pub shown : slots ≡ map slot_of (views rows)
+  pub order : rises frame_number (views rows) ≡ true
   pub enough : spares + length rows ≡ capacity
   pub room : (capacity ≤ slot_room) × (capacity ≤ spare_room)
   pub each : list_all (is_kept (length (specs_of plan))) (views rows) ≡ true

@@ -1,4 +1,4 @@
-use Rattle.std.specs.Prelude.{◌≡◌, ℕ, ◌==◌, Bool, true, false, ◌&&◌, List, map, Option, Some, None, slice_get, nat_lt}
+use Rattle.std.specs.Prelude.{◌≡◌, ℕ, ◌==◌, Bool, true, false, ◌&&◌, List, [], ◌∷◌, map, Option, Some, None, slice_get, nat_lt}
 use Rattle.std.specs.List.{list_all, list_any}
 use Rattle.std.specs.Option.{option_map}
 use Rattle.buffer_pool.specs.declared.parked.Parked.{Parked}
@@ -42,6 +42,14 @@ no_stream = None
 -- the plan without a stream
 abbrev pub no_plan : Plan
 no_plan = record { streams = record { a = no_stream; b = no_stream; c = no_stream; d = no_stream } }
+
+abbrev pub frame_number : RowView → ℕ
+frame_number row = row.frame.0
+
+-- the keys rise
+abbrev pub rises : {X : Type 0} → (X → ℕ) → List X → Bool
+rises key [] = true
+rises key (x ∷ xs) = list_all (λ y. nat_lt (key x) (key y)) xs && rises key xs
 
 -- each row is of an earlier frame
 abbrev pub are_before : ℕ → List RowView → Bool

@@ -3,7 +3,11 @@
 #![tactic(auto)]
 
 mod buffers;
+mod expose;
+mod fill;
+mod give;
 mod hold;
+mod marks;
 mod place;
 mod plan;
 mod readouts;

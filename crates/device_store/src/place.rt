@@ -1,8 +1,8 @@
-ghost use Rattle.std.specs.Prelude.{◌≡◌, ◌<◌, IfSome, IsNone, IsTrue, None, Some, length, slice_get, slice_set};
+ghost use Rattle.std.specs.Prelude.{◌≡◌, ◌<◌, IfSome, IsNone, IsTrue, None, Some, length, slice_get, slice_set, vec_capacity};
 ghost use Rattle.std.specs.Option.{option_map};
 ghost use Rattle.device_rows.specs.Rows.{row_at};
 ghost use Rattle.device_store.specs.Stored.{find_view, views};
-ghost use Rattle.inflight_table.specs.Rows.{are_in_order, row_of, view_of};
+ghost use Rattle.inflight_table.specs.Rows.{row_of, view_of};
 
 use crate::buffers::Held;
 use crate::readouts::Slot;
@@ -28,10 +28,11 @@ pub(crate) fn find_row(table: &Table<Held>, frame: FrameNo) -> Option<(usize, Ro
 }
 
 /// Puts something else into a slot, and gives what was there.
-pub(crate) fn swap_slot(slots: &mut [Slot], place: usize, slot: Slot) -> Slot
-    requires { place < length slots.old }
-    ensures old { slice_get slots.old place ≡ Some result }
-    ensures new { slots.new ≡ slice_set slots.old place slot }
+pub(crate) fn swap_slot(slots: &mut Vec<Slot>, place: usize, slot: Slot) -> Slot
+    requires { place < length slots.old.items }
+    ensures old { slice_get slots.old.items place ≡ Some result }
+    ensures new { slots.new.items ≡ slice_set slots.old.items place slot }
+    ensures capacity { vec_capacity slots.new ≡ vec_capacity slots.old }
 {
     replace(&mut slots[place], slot)
 }
