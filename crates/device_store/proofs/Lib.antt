@@ -4,3 +4,5 @@ pub mod Targets
 pub mod Admission
 pub mod Agree
 pub mod Steps
+pub mod Ops
+pub mod OneMark
