@@ -6,3 +6,4 @@ pub mod Agree
 pub mod Steps
 pub mod Ops
 pub mod OneMark
+pub mod Moves

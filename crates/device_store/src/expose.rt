@@ -24,7 +24,7 @@ impl Store {
         };
         let scratch = match swap_slot(&mut self.slots, place, Slot::Away) {
             Slot::Spare(scratch) => scratch,
-            _ => unreachable!(),
+            Slot::Home(_) | Slot::Away => unreachable!(),
         };
         let _ = self.table.mark(frame, Mark::Shutter(time));
         let _ = self.table.mark(frame, Mark::Sensor(SensorPlace::Out));

@@ -38,11 +38,11 @@ impl Store {
         };
         let home = match swap_slot(&mut self.slots, place, Slot::Away) {
             Slot::Home(home) => home,
-            _ => unreachable!(),
+            Slot::Spare(_) | Slot::Away => unreachable!(),
         };
         let waiting = match self.table.take_target(frame, stream) {
             Some(Held::Waiting(waiting)) => waiting,
-            _ => unreachable!(),
+            Some(Held::Filled(_)) | None => unreachable!(),
         };
         let _ = self
             .table

@@ -25,7 +25,7 @@ impl Store {
     {
         let filled = match self.table.take_target(frame, stream) {
             Some(Held::Filled(filled)) => filled,
-            _ => unreachable!(),
+            Some(Held::Waiting(_)) | None => unreachable!(),
         };
         let _ = self
             .table

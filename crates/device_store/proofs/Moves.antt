@@ -1,0 +1,131 @@
+-- What the store keeps where a step moves a buffer or a readout.
+use Rattle.std.proofs.Common.{◌≡◌, ℕ, ◌+◌, ◌<◌, Bool, true, false, ◌&&◌, ◌||◌, not, is_some, is_none, List, length, map, Option, Some, None, slice_get, slice_set, refl, ap, ◌∙◌, sym, arith, inl, inr}
+use Rattle.std.specs.Option.{option_and_then, option_map}
+use Rattle.std.proofs.lemmas.Bool.{and_from, and_parts, both_ways, cases_Bool, false≢true, not-true, or_cases}
+use Rattle.cam_types.specs.Four.{four_list}
+use Rattle.cam_types.specs.declared.number.FrameNo.{FrameNo}
+use Rattle.cam_types.specs.declared.number.StreamIx.{StreamIx}
+use Rattle.cam_types.specs.declared.row.RowView.{RowView}
+use Rattle.cam_types.specs.declared.row.SensorPlace.{SensorPlace}
+use Rattle.cam_types.specs.declared.row.SensorPlace.TheVariants.{NotYet, Out as SensorOut, Home, WithFill}
+use Rattle.cam_types.specs.declared.row.TargetState.{TargetState}
+use Rattle.cam_types.specs.declared.row.TargetState.TheVariants.{Waiting, Out, Filled, ReturnedEarly, EarlyFilled, ReturnedOk, ReturnedFailed}
+use Rattle.cam_types.specs.declared.row.TargetView.{TargetView}
+use Rattle.cam_types.specs.declared.stream.StreamSpec.{StreamSpec}
+use Rattle.device_rows.specs.Jobs.{is_fill_out}
+use Rattle.device_rows.specs.Ready.{is_home, is_sensor_out, is_state, may_return_failed}
+use Rattle.device_rows.specs.Rows.{exposed, fill_begun, row_at, sensor_home, target_at, with_row as with_view}
+use Rattle.device_store.specs.declared.buffers.Held.{Held}
+use Rattle.device_store.specs.declared.readouts.Slot.{Slot}
+use Rattle.device_store.specs.Kept.{agree, agree_at, filled_for, full, held_by, held_in, is_kept, is_kept_back, is_placed, IsKept, slot_of, waiting_for}
+use Rattle.device_store.specs.Steps.{is_dark, is_filled}
+use Rattle.device_store.specs.Stored.{is_some_target, specs_of, Stored, views}
+use Rattle.inflight_table.specs.declared.mark.Mark.TheVariants.{Sensor, Shutter, Target}
+use Rattle.inflight_table.specs.declared.row.Row.{Row}
+use Rattle.inflight_table.specs.Marks.{in_state, marked}
+use Rattle.inflight_table.specs.Rows.{Rows, view_of, with_mark, with_parked, with_row, with_rows}
+use Rattle.stream_config.specs.declared.plan.Plan.{Plan}
+use Rattle.device_store.proofs.Agree.{agree-begun, agree-ended, agree-exposed, agree-failed, agree-home, agree-moved, dark-sensor, placed-changed, placed-parts}
+use Rattle.device_store.proofs.Ops.{full-same, is-target, IsTarget, slot-same, store-same, table-1, table-2, table-3, target-full}
+use Rattle.device_store.proofs.Steps.{kept-stepped, slots-same, slots-set, Stands, stands, Stepped, stepped-1, stepped-2, stepped-3}
+
+-- the store after a step on one row
+pub record Moved (plan : Plan) (t u : Rows Held) (slots : List Slot) (spares slot_room spare_room n : ℕ) (change : RowView → RowView) : Type 0 where
+  pub kept : IsKept plan u.rows u.capacity slots spares slot_room spare_room
+  pub is : ◌≡◌ {A = Stored} (record { plan = plan; capacity = u.capacity; rows = views u.rows }) (record { plan = plan; capacity = t.capacity; rows = with_view n change (views t.rows) })
+
+pub moved : (plan : Plan) (t u : Rows Held) (slots slots' : List Slot) (spares slot_room slot_room' spare_room n : ℕ) (change : RowView → RowView) (row : RowView) → IsKept plan t.rows t.capacity slots spares slot_room spare_room → Stands plan t.rows n row → Stepped plan t.rows u.rows n change → slots' ≡ map slot_of (with_view n change (views t.rows)) → is_kept (length (specs_of plan)) (change row) ≡ true → u.capacity ≡ t.capacity → slot_room' ≡ slot_room → ((v : RowView) → (change v).frame.0 ≡ v.frame.0) → Moved plan t u slots' spares slot_room' spare_room n change
+moved plan t u slots slots' spares slot_room slot_room' spare_room n change row kept at step shown each same room keeps = record {
+  kept = kept-stepped plan t.rows u.rows t.capacity u.capacity slots slots' spares slot_room slot_room' spare_room n change row kept at step shown each same room keeps;
+  is = store-same plan t.capacity u.capacity (with_view n change (views t.rows)) (views u.rows) same step.is;
+}
+
+kept-target : (streams : ℕ) (row : RowView) (s : StreamIx) (st : TargetState) → is_placed streams row ≡ true → agree (marked (Target s st) row) ≡ true → is_kept streams (marked (Target s st) row) ≡ true
+kept-target streams row s st placed agrees =
+    and_from (is_placed streams (marked (Target s st) row)) (agree (marked (Target s st) row)) (placed-changed streams s.0 (in_state st) row (λ t. refl) placed) agrees
+
+-- ---- a buffer that leaves
+
+pub take-moved : (plan : Plan) (t u v : Rows Held) (slots : List Slot) (spares slot_room spare_room n : ℕ) (s : StreamIx) (st : TargetState) (row : RowView) (g : TargetView) → IsKept plan t.rows t.capacity slots spares slot_room spare_room → row_at n (views t.rows) ≡ Some row → target_at s.0 row ≡ Some g → u ≡ with_rows (with_row n (with_parked s.0 None) t.rows) t → v ≡ with_rows (with_row n (with_mark (Target s st)) u.rows) u → ((x : TargetView) (o : Option StreamSpec) → held_by st row x o ≡ None) → ((spec : StreamSpec) → IsTarget (specs_of plan) row s.0 g spec → agree (marked (Target s st) row) ≡ true) → Moved plan t v slots spares slot_room spare_room n (marked (Target s st))
+take-moved plan t u v slots spares slot_room spare_room n s st row g kept found target is is' gone agrees =
+    let at = stands plan t.rows t.capacity slots spares slot_room spare_room n row kept found in
+    let (spec, tg) = is-target plan t.rows n s.0 row g at kept.offered target in
+    let table = table-2 n (with_parked s.0 None) (with_mark (Target s st)) t u v is is' in
+    let here = target-full (specs_of plan) row s st None tg.apart (λ x f. gone (in_state st x) (slice_get (specs_of plan) x.stream.0)) in
+    let step = stepped-2 plan t.rows v.rows n (marked (Target s st)) row (with_parked s.0 None) (with_mark (Target s st)) at at.own here table.0 in
+    let shown = slots-same plan t.rows n (marked (Target s st)) row slots at kept.shown (slot-same (marked (Target s st) row) row refl refl refl) in
+    moved plan t v slots slots spares slot_room slot_room spare_room n (marked (Target s st)) row kept at step shown (kept-target (length (specs_of plan)) row s st tg.place (agrees spec tg)) table.1 refl (λ w. refl)
+
+-- the states of a buffer that shows its picture
+pub record IsFilledState (st : TargetState) : Type 0 where
+  pub moved : is_kept_back st ≡ false
+  pub in' : is_fill_out st ≡ false
+  pub held : (row : RowView) (g : TargetView) (spec : StreamSpec) → held_by st row g (Some spec) ≡ Some (filled_for row g spec)
+
+pub filled-state : (st : TargetState) → (is_state st Filled || is_state st EarlyFilled) ≡ true → IsFilledState st
+filled-state Filled h = record { moved = refl; in' = refl; held = λ row g spec. refl }
+filled-state EarlyFilled h = record { moved = refl; in' = refl; held = λ row g spec. refl }
+filled-state Waiting h = absurd (false≢true h)
+filled-state Out h = absurd (false≢true h)
+filled-state ReturnedEarly h = absurd (false≢true h)
+filled-state ReturnedOk h = absurd (false≢true h)
+filled-state ReturnedFailed h = absurd (false≢true h)
+
+pub filled-moved : (plan : Plan) (t u v : Rows Held) (slots : List Slot) (spares slot_room spare_room n : ℕ) (s : StreamIx) (row : RowView) (g : TargetView) → IsKept plan t.rows t.capacity slots spares slot_room spare_room → row_at n (views t.rows) ≡ Some row → target_at s.0 row ≡ Some g → is_filled row g ≡ true → u ≡ with_rows (with_row n (with_parked s.0 None) t.rows) t → v ≡ with_rows (with_row n (with_mark (Target s ReturnedOk)) u.rows) u → Moved plan t v slots spares slot_room spare_room n (marked (Target s ReturnedOk))
+filled-moved plan t u v slots spares slot_room spare_room n s row g kept found target filled is is' =
+    let state = filled-state g.state filled in
+    take-moved plan t u v slots spares slot_room spare_room n s ReturnedOk row g kept found target is is' (λ x o. refl) (λ spec tg. agree-moved row.sensor row s ReturnedOk g tg.order tg.found state.moved state.in' tg.agrees)
+
+-- the states of a buffer that may come back in error
+pub record IsFailingState (st : TargetState) : Type 0 where
+  pub in' : is_fill_out st ≡ false
+
+failing-state : (st : TargetState) → (is_state st Waiting || is_state st Filled) ≡ true → is_fill_out st ≡ false
+failing-state Waiting h = refl
+failing-state Filled h = refl
+failing-state EarlyFilled h = absurd (false≢true h)
+failing-state Out h = absurd (false≢true h)
+failing-state ReturnedEarly h = absurd (false≢true h)
+failing-state ReturnedOk h = absurd (false≢true h)
+failing-state ReturnedFailed h = absurd (false≢true h)
+
+pub failed-moved : (plan : Plan) (t u v : Rows Held) (slots : List Slot) (spares slot_room spare_room n : ℕ) (s : StreamIx) (row : RowView) (g : TargetView) → IsKept plan t.rows t.capacity slots spares slot_room spare_room → row_at n (views t.rows) ≡ Some row → target_at s.0 row ≡ Some g → may_return_failed row g ≡ true → u ≡ with_rows (with_row n (with_parked s.0 None) t.rows) t → v ≡ with_rows (with_row n (with_mark (Target s ReturnedFailed)) u.rows) u → Moved plan t v slots spares slot_room spare_room n (marked (Target s ReturnedFailed))
+failed-moved plan t u v slots spares slot_room spare_room n s row g kept found target failed is is' =
+    let parts = and_parts (row.request_error || g.announced) (not (is_sensor_out row.sensor) && (is_state g.state Waiting || is_state g.state Filled)) failed in
+    let later = and_parts (not (is_sensor_out row.sensor)) (is_state g.state Waiting || is_state g.state Filled) parts.1 in
+    take-moved plan t u v slots spares slot_room spare_room n s ReturnedFailed row g kept found target is is' (λ x o. refl) (λ spec tg. agree-failed row.sensor row s g tg.order tg.found (failing-state g.state later.1) parts.0 (not-true (is_sensor_out row.sensor) later.0) tg.agrees)
+
+-- ---- the sensor
+
+home-place : (place : SensorPlace) → is_sensor_out place ≡ true → place ≡ SensorOut
+home-place SensorOut h = refl
+home-place NotYet h = absurd (false≢true h)
+home-place Home h = absurd (false≢true h)
+home-place WithFill h = absurd (false≢true h)
+
+pub is-home-place : (place : SensorPlace) → is_home place ≡ true → place ≡ Home
+is-home-place Home h = refl
+is-home-place NotYet h = absurd (false≢true h)
+is-home-place SensorOut h = absurd (false≢true h)
+is-home-place WithFill h = absurd (false≢true h)
+
+-- a row that may be exposed
+pub record Dark (streams : ℕ) (row : RowView) : Type 0 where
+  pub sensor : row.sensor ≡ NotYet
+  pub each : (time : ℕ) → is_kept streams (exposed time row) ≡ true
+
+pub dark-row : (streams : ℕ) (row : RowView) → is_kept streams row ≡ true → is_dark (Some row) ≡ true → Dark streams row
+dark-row streams row kept dark =
+    let parts = and_parts (not (is_some row.shutter)) (not row.request_error) dark in
+    let own = and_parts (is_placed streams row) (agree row) kept in
+    let sensor = dark-sensor row.sensor row own.1 (not-true (is_some row.shutter) parts.0) in
+    let agrees : agree_at NotYet row ≡ true = rw sensor at own.1 in
+    let placed = placed-parts streams row own.0 in
+    record {
+      sensor = sensor;
+      each = λ time. and_from (is_placed streams (exposed time row)) (agree (exposed time row)) own.0 (agree-exposed row time placed.some (not-true row.request_error parts.1) agrees);
+    }
+
+pub dark-at : (o : Option RowView) → is_dark o ≡ true → (row : RowView) × (o ≡ Some row) × (is_dark (Some row) ≡ true)
+dark-at (Some row) h = (row, refl, h)
+dark-at None h = absurd (false≢true h)
