@@ -7,3 +7,4 @@ pub mod Steps
 pub mod Ops
 pub mod OneMark
 pub mod Moves
+pub mod Outs

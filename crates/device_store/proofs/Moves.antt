@@ -26,7 +26,7 @@ use Rattle.inflight_table.specs.Marks.{in_state, marked}
 use Rattle.inflight_table.specs.Rows.{Rows, view_of, with_mark, with_parked, with_row, with_rows}
 use Rattle.stream_config.specs.declared.plan.Plan.{Plan}
 use Rattle.device_store.proofs.Agree.{agree-begun, agree-ended, agree-exposed, agree-failed, agree-home, agree-moved, dark-sensor, placed-changed, placed-parts}
-use Rattle.device_store.proofs.Ops.{full-same, is-target, IsTarget, slot-same, store-same, table-1, table-2, table-3, target-full}
+use Rattle.device_store.proofs.Ops.{early-full, full-same, is-target, IsTarget, slot-same, store-same, table-1, table-2, table-3, target-full}
 use Rattle.device_store.proofs.Steps.{kept-stepped, slots-same, slots-set, Stands, stands, Stepped, stepped-1, stepped-2, stepped-3}
 
 -- the store after a step on one row
@@ -129,3 +129,15 @@ dark-row streams row kept dark =
 pub dark-at : (o : Option RowView) → is_dark o ≡ true → (row : RowView) × (o ≡ Some row) × (is_dark (Some row) ≡ true)
 dark-at (Some row) h = (row, refl, h)
 dark-at None h = absurd (false≢true h)
+
+-- ---- a buffer that goes early
+
+pub early-moved : (plan : Plan) (t u : Rows Held) (slots : List Slot) (spares slot_room spare_room n : ℕ) (s : StreamIx) (row : RowView) (g : TargetView) (spec : StreamSpec) → IsKept plan t.rows t.capacity slots spares slot_room spare_room → Stands plan t.rows n row → IsTarget (specs_of plan) row s.0 g spec → g.state ≡ Out → u ≡ with_rows (with_row n (with_mark (Target s ReturnedEarly)) t.rows) t → Moved plan t u slots spares slot_room spare_room n (marked (Target s ReturnedEarly))
+early-moved plan t u slots spares slot_room spare_room n s row g spec kept at tg out is =
+    let table = table-1 t u (with_row n (with_mark (Target s ReturnedEarly)) t.rows) is in
+    let here = early-full (specs_of plan) row s g tg.apart tg.found out in
+    let step = stepped-1 plan t.rows u.rows n (marked (Target s ReturnedEarly)) row (with_mark (Target s ReturnedEarly)) at here table.0 in
+    let shown = slots-same plan t.rows n (marked (Target s ReturnedEarly)) row slots at kept.shown (slot-same (marked (Target s ReturnedEarly) row) row refl refl refl) in
+    let still : is_kept_back g.state ≡ false = rw out refl in
+    let same : is_fill_out g.state ≡ true = rw out refl in
+    moved plan t u slots slots spares slot_room slot_room spare_room n (marked (Target s ReturnedEarly)) row kept at step shown (kept-target (length (specs_of plan)) row s ReturnedEarly tg.place (agree-moved row.sensor row s ReturnedEarly g tg.order tg.found still same tg.agrees)) table.1 refl (λ w. refl)

@@ -24,7 +24,8 @@ impl Store {
         };
         let scratch = match swap_slot(&mut self.slots, place, Slot::Away) {
             Slot::Spare(scratch) => scratch,
-            Slot::Home(_) | Slot::Away => unreachable!(),
+            Slot::Home(_) => unreachable!(),
+            Slot::Away => unreachable!(),
         };
         let _ = self.table.mark(frame, Mark::Shutter(time));
         let _ = self.table.mark(frame, Mark::Sensor(SensorPlace::Out));

@@ -38,11 +38,13 @@ impl Store {
         };
         let home = match swap_slot(&mut self.slots, place, Slot::Away) {
             Slot::Home(home) => home,
-            Slot::Spare(_) | Slot::Away => unreachable!(),
+            Slot::Spare(_) => unreachable!(),
+            Slot::Away => unreachable!(),
         };
         let waiting = match self.table.take_target(frame, stream) {
             Some(Held::Waiting(waiting)) => waiting,
-            Some(Held::Filled(_)) | None => unreachable!(),
+            Some(Held::Filled(_other)) => unreachable!(),
+            None => unreachable!(),
         };
         let _ = self
             .table

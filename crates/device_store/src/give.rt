@@ -25,7 +25,8 @@ impl Store {
     {
         let filled = match self.table.take_target(frame, stream) {
             Some(Held::Filled(filled)) => filled,
-            Some(Held::Waiting(_)) | None => unreachable!(),
+            Some(Held::Waiting(_other)) => unreachable!(),
+            None => unreachable!(),
         };
         let _ = self
             .table

@@ -1,0 +1,128 @@
+-- What comes out of the store.
+use Rattle.std.proofs.Common.{◌≡◌, ℕ, ◌<◌, Bool, true, false, not, nat_lt, is_some, if◌then◌else◌, List, length, Option, Some, None, slice_get, IfSome, IsTrue, refl, ap, ◌∙◌, sym, arith, inl, inr}
+use Rattle.std.specs.Option.{option_and_then, option_map}
+use Rattle.std.proofs.lemmas.Bool.{and_parts, cases_Bool, false≢true, ltb-true, or_parts}
+use Rattle.std.proofs.lemmas.Bool.Decides.{nat_tests}
+use Rattle.buffer_pool.specs.declared.parked.Parked.{Parked}
+use Rattle.cam_types.specs.Shown.{Shown}
+use Rattle.cam_types.specs.declared.job.JobView.{JobView}
+use Rattle.cam_types.specs.declared.number.FenceNo.{FenceNo}
+use Rattle.cam_types.specs.declared.number.StreamIx.{StreamIx}
+use Rattle.cam_types.specs.declared.row.RowView.{RowView}
+use Rattle.cam_types.specs.declared.row.TargetState.{TargetState}
+use Rattle.cam_types.specs.declared.row.TargetState.TheVariants.{Waiting, Out, Filled, ReturnedEarly, EarlyFilled, ReturnedOk, ReturnedFailed}
+use Rattle.cam_types.specs.declared.row.TargetView.{TargetView}
+use Rattle.cam_types.specs.declared.stream.StreamSpec.{StreamSpec}
+use Rattle.fence_tokens.specs.Fences.{FencesMade, is_signalled, made}
+use Rattle.fill_jobs.specs.Buffers.{IsBufferFor, IsPictureFor, IsPictureOf}
+use Rattle.device_rows.specs.Jobs.{fill_job, IsSensorJobOut, sensor_job, sensor_job_of}
+use Rattle.device_rows.specs.Kept.{has_made_fence, is_made}
+use Rattle.device_rows.specs.Ready.{is_passed, is_sensor_out, is_state, target_passes}
+use Rattle.device_rows.specs.Rows.{row_at, target_at}
+use Rattle.device_store.specs.declared.buffers.Held.{Held}
+use Rattle.device_store.specs.declared.buffers.Held.TheVariants.{Waiting as HeldWaiting, Filled as HeldFilled}
+use Rattle.device_store.specs.Held.{Waiting as Place}
+use Rattle.device_store.specs.declared.readouts.Slot.{Slot}
+use Rattle.device_store.specs.Kept.{fence_number, filled_for, held_by, IsKept, waiting_for}
+use Rattle.device_store.specs.Steps.{fill_job_for, IsBack, IsBackAt, ShowsAt, waiter_kept, waiter_left}
+use Rattle.device_store.specs.Stored.{specs_of, views}
+use Rattle.inflight_table.specs.declared.row.Row.{Row}
+use Rattle.inflight_table.specs.Rows.{parked_for, row_of, Rows}
+use Rattle.stream_config.specs.declared.plan.Plan.{Plan}
+use Rattle.device_store.proofs.Ops.{is-target, IsTarget, met, taken-is}
+use Rattle.device_store.proofs.Steps.{Stands, stands}
+
+spec-at : (specs : List StreamSpec) (row : RowView) (s : ℕ) (g : TargetView) (spec : StreamSpec) → IsTarget specs row s g spec → slice_get specs s ≡ Some spec
+spec-at specs row s g spec tg = rw (← tg.stream) tg.spec_is
+
+-- a buffer that shows the target's picture
+pub shows : (specs : List StreamSpec) (n s : ℕ) (rows : List RowView) (row : RowView) (g : TargetView) (spec : StreamSpec) (pixels : Shown) (digest : List ℕ) → row_at n rows ≡ Some row → IsTarget specs row s g spec → IsPictureFor spec row.settings row.frame.0 g.buffer pixels digest → ShowsAt specs n s rows pixels digest
+shows specs n s rows row g spec pixels digest at tg h = rw (at, tg.found, spec-at specs row s g spec tg) h
+
+pub shows-job : (specs : List StreamSpec) (n s : ℕ) (rows : List RowView) (row : RowView) (g : TargetView) (spec : StreamSpec) (job : JobView) (pixels : Shown) (digest : List ℕ) → row_at n rows ≡ Some row → IsTarget specs row s g spec → job ≡ fill_job row g spec → IsPictureOf job pixels digest → ShowsAt specs n s rows pixels digest
+shows-job specs n s rows row g spec job pixels digest at tg is h =
+    shows specs n s rows row g spec pixels digest at tg (let h' : IsPictureOf (fill_job row g spec) pixels digest = rw is at h in h')
+
+-- what is taken is filled, or waits
+pub job-of : (row : RowView) (g : TargetView) (spec : StreamSpec) (taken : Option Held) (held : Held) (job : JobView) → taken ≡ Some held → held ≡ HeldFilled job → taken ≡ Some (filled_for row g spec) → job ≡ fill_job row g spec
+job-of row g spec taken held job is which filled =
+    let both : Some (HeldFilled job) ≡ Some (HeldFilled (fill_job row g spec)) = ap (λ (z : Held). Some z) (sym which) ∙ (sym is ∙ filled) in
+    cc
+
+pub not-filled : (row : RowView) (g : TargetView) (spec : StreamSpec) (taken : Option Held) (held : Held) (place : Place) → taken ≡ Some held → held ≡ HeldWaiting place → taken ≡ Some (filled_for row g spec) → ⊥
+not-filled row g spec taken held place is which filled =
+    let both : Some (HeldWaiting place) ≡ Some (HeldFilled (fill_job row g spec)) = ap (λ (z : Held). Some z) (sym which) ∙ (sym is ∙ filled) in
+    cc
+
+pub not-none : (held : Held) (taken : Option Held) → taken ≡ None → taken ≡ Some held → ⊥
+not-none held taken none some = let both : None ≡ Some held = sym none ∙ some in cc
+
+pub place-of : (g : TargetView) (spec : StreamSpec) (taken : Option Held) (held : Held) (place : Place) → taken ≡ Some held → held ≡ HeldWaiting place → taken ≡ Some (waiting_for g spec) → place ≡ record { buffer = g.buffer; spec = spec; fence = fence_number g.fence }
+place-of g spec taken held place is which waiting =
+    let both : Some (HeldWaiting place) ≡ Some (HeldWaiting (record { buffer = g.buffer; spec = spec; fence = fence_number g.fence })) = ap (λ (z : Held). Some z) (sym which) ∙ (sym is ∙ waiting) in
+    cc
+
+pub not-waiting : (g : TargetView) (spec : StreamSpec) (taken : Option Held) (held : Held) (job : JobView) → taken ≡ Some held → held ≡ HeldFilled job → taken ≡ Some (waiting_for g spec) → ⊥
+not-waiting g spec taken held job is which waiting =
+    let both : Some (HeldFilled job) ≡ Some (waiting_for g spec) = ap (λ (z : Held). Some z) (sym which) ∙ (sym is ∙ waiting) in
+    cc
+
+-- the state of a buffer that waits
+pub waiting-state : (st : TargetState) → is_state st Waiting ≡ true → st ≡ Waiting
+waiting-state Waiting h = refl
+waiting-state Out h = absurd (false≢true h)
+waiting-state Filled h = absurd (false≢true h)
+waiting-state ReturnedEarly h = absurd (false≢true h)
+waiting-state EarlyFilled h = absurd (false≢true h)
+waiting-state ReturnedOk h = absurd (false≢true h)
+waiting-state ReturnedFailed h = absurd (false≢true h)
+
+pub out-state : (st : TargetState) → is_state st Out ≡ true → st ≡ Out
+out-state Out h = refl
+out-state Waiting h = absurd (false≢true h)
+out-state Filled h = absurd (false≢true h)
+out-state ReturnedEarly h = absurd (false≢true h)
+out-state EarlyFilled h = absurd (false≢true h)
+out-state ReturnedOk h = absurd (false≢true h)
+out-state ReturnedFailed h = absurd (false≢true h)
+
+pub some-none : {X : Type 0} (x : X) (o : Option X) → o ≡ None → o ≡ Some x → ⊥
+some-none x o none some = let both : None ≡ Some x = sym none ∙ some in cc
+
+pub some-same : {X : Type 0} (x y : X) (o : Option X) → o ≡ Some x → o ≡ Some y → x ≡ y
+some-same x y o is is' = let both : Some x ≡ Some y = sym is ∙ is' in cc
+
+-- ---- fences
+
+pub made-below : (fences : ℕ) (f : Option FenceNo) → is_made fences f ≡ true → IfSome (fence_number f) (λ n. n < fences)
+made-below fences (Some f) h = ltb-true f.0 fences h
+made-below fences None h = tt
+
+pub passed-below : (fences : FencesMade) (f : Option FenceNo) → is_passed (λ n. is_signalled n fences) f ≡ true → IfSome (fence_number f) (λ n. IsTrue (is_signalled n fences))
+passed-below fences (Some f) h = h
+passed-below fences None h = tt
+
+-- ---- the sensor's job
+
+pub job-row : (o : Option RowView) (job : JobView) → sensor_job_of o ≡ Some job → (row : RowView) × (o ≡ Some row) × (is_sensor_out row.sensor ≡ true) × (sensor_job row ≡ job)
+job-row None job h = absurd (cc)
+job-row (Some row) job h =
+    elim (cases_Bool (is_sensor_out row.sensor)) [
+      | inl out ↦ (let h' = rw out at h in let same : sensor_job row ≡ job = cc in (row, refl, out, same))
+      | inr home ↦ (let h' = rw home at h in absurd (cc))
+    ]
+
+-- the row and the target that a step is of, and what is taken for the target
+pub record Taking (plan : Plan) (t : Rows Held) (test : RowView → TargetView → Bool) (n s : ℕ) (row : RowView) (g : TargetView) (spec : StreamSpec) : Type 0 where
+  pub at : row_at n (views t.rows) ≡ Some row
+  pub passed : test row g ≡ true
+  pub target : IsTarget (specs_of plan) row s g spec
+  pub stands : Stands plan t.rows n row
+  pub parked : option_and_then (parked_for s) (row_of n t.rows) ≡ held_by g.state row g (Some spec)
+
+pub taking : (plan : Plan) (t : Rows Held) (slots : List Slot) (spares slot_room spare_room n s : ℕ) (test : RowView → TargetView → Bool) → IsKept plan t.rows t.capacity slots spares slot_room spare_room → target_passes test s (row_at n (views t.rows)) ≡ true → (row : RowView) × (g : TargetView) × (spec : StreamSpec) × Taking plan t test n s row g spec
+taking plan t slots spares slot_room spare_room n s test kept passes =
+    let (row, g, m) = met test s (row_at n (views t.rows)) passes in
+    let at = stands plan t.rows t.capacity slots spares slot_room spare_room n row kept m.at in
+    let (spec, tg) = is-target plan t.rows n s row g at kept.offered m.found in
+    (row, g, spec, record { at = m.at; passed = m.passed; target = tg; stands = at; parked = taken-is plan t.rows n s row g spec at tg })
