@@ -234,3 +234,13 @@ agree-home row agrees =
     let parts = and_parts (is_some row.shutter) (list_any waits (four_list row.targets) && list_all waits (four_list row.targets)) agrees in
     let later = and_parts (list_any waits (four_list row.targets)) (list_all waits (four_list row.targets)) parts.1 in
     rw (parts.0, waits-none (four_list row.targets) later.1) refl
+
+is-none : (o : Option ℕ) → is_none o ≡ true → o ≡ None
+is-none None h = refl
+is-none (Some x) h = absurd (false≢true h)
+
+-- the settings are in range
+pub range-none : (streams : ℕ) (row : RowView) → is_kept streams row ≡ true → range_fault row.settings ≡ None
+range-none streams row kept =
+    let own = and_parts (is_placed streams row) (agree row) kept in
+    is-none (range_fault row.settings) (placed-parts streams row own.0).range

@@ -12,11 +12,12 @@ use Rattle.cam_types.specs.declared.row.TargetState.{TargetState}
 use Rattle.cam_types.specs.declared.row.TargetState.TheVariants.{Waiting, Out, Filled, ReturnedEarly, EarlyFilled, ReturnedOk, ReturnedFailed}
 use Rattle.cam_types.specs.declared.row.TargetView.{TargetView}
 use Rattle.cam_types.specs.declared.stream.StreamSpec.{StreamSpec}
-use Rattle.device_rows.specs.Jobs.{is_fill_out}
+use Rattle.device_rows.specs.Jobs.{is_fill_out, sensor_job}
 use Rattle.device_rows.specs.Ready.{is_home, is_sensor_out, is_state, may_return_failed}
 use Rattle.device_rows.specs.Rows.{exposed, fill_begun, row_at, sensor_home, target_at, with_row as with_view}
 use Rattle.device_store.specs.declared.buffers.Held.{Held}
 use Rattle.device_store.specs.declared.readouts.Slot.{Slot}
+use Rattle.device_store.specs.declared.readouts.Slot.TheVariants.{Spare, Home as SlotHome, Away}
 use Rattle.device_store.specs.Kept.{agree, agree_at, filled_for, full, held_by, held_in, is_kept, is_kept_back, is_placed, IsKept, slot_of, waiting_for}
 use Rattle.device_store.specs.Steps.{is_dark, is_filled}
 use Rattle.device_store.specs.Stored.{is_some_target, specs_of, Stored, views}
@@ -141,3 +142,43 @@ early-moved plan t u slots spares slot_room spare_room n s row g spec kept at tg
     let still : is_kept_back g.state ≡ false = rw out refl in
     let same : is_fill_out g.state ≡ true = rw out refl in
     moved plan t u slots slots spares slot_room slot_room spare_room n (marked (Target s ReturnedEarly)) row kept at step shown (kept-target (length (specs_of plan)) row s ReturnedEarly tg.place (agree-moved row.sensor row s ReturnedEarly g tg.order tg.found still same tg.agrees)) table.1 refl (λ w. refl)
+
+-- ---- the sensor takes the readout, and gives it back
+
+pub exposed-moved : (plan : Plan) (t u v : Rows Held) (slots slots' : List Slot) (spares slot_room slot_room' spare_room n i time : ℕ) (row : RowView) → IsKept plan t.rows t.capacity slots spares slot_room spare_room → row_at n (views t.rows) ≡ Some row → is_dark (Some row) ≡ true → option_map view_of (slice_get t.rows i) ≡ Some row → row.frame.0 ≡ n → slots' ≡ slice_set slots i Away → u ≡ with_rows (with_row n (with_mark (Shutter time)) t.rows) t → v ≡ with_rows (with_row n (with_mark (Sensor SensorOut)) u.rows) u → slot_room' ≡ slot_room → Moved plan t v slots' spares slot_room' spare_room n (exposed time)
+exposed-moved plan t u v slots slots' spares slot_room slot_room' spare_room n i time row kept found dark placed own swapped is is' room =
+    let at = stands plan t.rows t.capacity slots spares slot_room spare_room n row kept found in
+    let table = table-2 n (with_mark (Shutter time)) (with_mark (Sensor SensorOut)) t u v is is' in
+    let here = full-same (specs_of plan) row (exposed time row) refl refl refl in
+    let step = stepped-2 plan t.rows v.rows n (exposed time) row (with_mark (Shutter time)) (with_mark (Sensor SensorOut)) at at.own here table.0 in
+    let shown = slots-set plan t.rows n i (exposed time) row slots slots' Away at kept.shown placed own refl swapped in
+    moved plan t v slots slots' spares slot_room slot_room' spare_room n (exposed time) row kept at step shown ((dark-row (length (specs_of plan)) row at.kept dark).each time) table.1 room (λ w. refl)
+
+kept-home : (streams : ℕ) (row : RowView) → row.sensor ≡ SensorOut → is_kept streams row ≡ true → is_kept streams (sensor_home row) ≡ true
+kept-home streams row out kept =
+    let own = and_parts (is_placed streams row) (agree row) kept in
+    let agrees : agree_at SensorOut row ≡ true = rw out at own.1 in
+    and_from (is_placed streams (sensor_home row)) (agree (sensor_home row)) own.0 (agree-home row agrees)
+
+pub home-moved : (plan : Plan) (t u : Rows Held) (slots slots' : List Slot) (spares slot_room slot_room' spare_room n i : ℕ) (row : RowView) (slot : Slot) → IsKept plan t.rows t.capacity slots spares slot_room spare_room → row_at n (views t.rows) ≡ Some row → is_sensor_out row.sensor ≡ true → option_map view_of (slice_get t.rows i) ≡ Some row → row.frame.0 ≡ n → slot ≡ SlotHome (sensor_job row) → slots' ≡ slice_set slots i slot → u ≡ with_rows (with_row n (with_mark (Sensor Home)) t.rows) t → slot_room' ≡ slot_room → Moved plan t u slots' spares slot_room' spare_room n sensor_home
+home-moved plan t u slots slots' spares slot_room slot_room' spare_room n i row slot kept found out placed own filled swapped is room =
+    let at = stands plan t.rows t.capacity slots spares slot_room spare_room n row kept found in
+    let table = table-1 t u (with_row n (with_mark (Sensor Home)) t.rows) is in
+    let here = full-same (specs_of plan) row (sensor_home row) refl refl refl in
+    let step = stepped-1 plan t.rows u.rows n sensor_home row (with_mark (Sensor Home)) at here table.0 in
+    let shown = slots-set plan t.rows n i sensor_home row slots slots' slot at kept.shown placed own filled swapped in
+    moved plan t u slots slots' spares slot_room slot_room' spare_room n sensor_home row kept at step shown (kept-home (length (specs_of plan)) row (home-place row.sensor out) at.kept) table.1 room (λ w. refl)
+
+-- ---- a stage takes a buffer and the readout, and gives them back
+
+pub begun-moved : (plan : Plan) (t u v w : Rows Held) (slots slots' : List Slot) (spares slot_room slot_room' spare_room n i : ℕ) (s : StreamIx) (row : RowView) (g : TargetView) (spec : StreamSpec) → IsKept plan t.rows t.capacity slots spares slot_room spare_room → Stands plan t.rows n row → IsTarget (specs_of plan) row s.0 g spec → g.state ≡ Waiting → row.sensor ≡ Home → option_map view_of (slice_get t.rows i) ≡ Some row → row.frame.0 ≡ n → slots' ≡ slice_set slots i Away → u ≡ with_rows (with_row n (with_parked s.0 None) t.rows) t → v ≡ with_rows (with_row n (with_mark (Target s Out)) u.rows) u → w ≡ with_rows (with_row n (with_mark (Sensor WithFill)) v.rows) v → slot_room' ≡ slot_room → Moved plan t w slots' spares slot_room' spare_room n (fill_begun s)
+begun-moved plan t u v w slots slots' spares slot_room slot_room' spare_room n i s row g spec kept at tg waiting home placed own swapped is is' is'' room =
+    let table = table-3 n (with_parked s.0 None) (with_mark (Target s Out)) (with_mark (Sensor WithFill)) t u v w is is' is'' in
+    let first = target-full (specs_of plan) row s Out None tg.apart (λ x f. refl) in
+    let here = ap (λ (z : Row Held). with_mark (Sensor WithFill) z) first ∙ full-same (specs_of plan) (marked (Target s Out) row) (fill_begun s row) refl refl refl in
+    let step = stepped-3 plan t.rows w.rows n (fill_begun s) row (with_parked s.0 None) (with_mark (Target s Out)) (with_mark (Sensor WithFill)) at at.own at.own here table.0 in
+    let shown = slots-set plan t.rows n i (fill_begun s) row slots slots' Away at kept.shown placed own refl swapped in
+    let agrees : agree_at Home row ≡ true = rw home at tg.agrees in
+    let in' : is_fill_out g.state ≡ false = rw waiting refl in
+    let each = and_from (is_placed (length (specs_of plan)) (fill_begun s row)) (agree (fill_begun s row)) (placed-changed (length (specs_of plan)) s.0 (in_state Out) row (λ x. refl) tg.place) (agree-begun row s g tg.order tg.found in' agrees) in
+    moved plan t w slots slots' spares slot_room slot_room' spare_room n (fill_begun s) row kept at step shown each table.1 room (λ x. refl)

@@ -1,10 +1,17 @@
 -- What comes out of the store.
-use Rattle.std.proofs.Common.{◌≡◌, ℕ, ◌<◌, Bool, true, false, not, nat_lt, is_some, if◌then◌else◌, List, length, Option, Some, None, slice_get, IfSome, IsTrue, refl, ap, ◌∙◌, sym, arith, inl, inr}
+use Rattle.std.proofs.Common.{◌≡◌, ℕ, ◌<◌, ◌==◌, ◌||◌, Bool, true, false, not, nat_lt, is_some, if◌then◌else◌, List, length, Option, Some, None, slice_get, IfSome, IsTrue, refl, ap, ◌∙◌, sym, arith, inl, inr}
 use Rattle.std.specs.Option.{option_and_then, option_map}
-use Rattle.std.proofs.lemmas.Bool.{and_parts, cases_Bool, false≢true, ltb-true, or_parts}
+use Rattle.std.proofs.lemmas.Bool.{and_parts, cases_Bool, eqb-true, false≢true, ltb-true, or_parts}
 use Rattle.std.proofs.lemmas.Bool.Decides.{nat_tests}
 use Rattle.buffer_pool.specs.declared.parked.Parked.{Parked}
+use Rattle.cam_types.proofs.PictureLemmas.{length-picture-Raw16, length-picture-Yuv}
+use Rattle.cam_types.specs.Picture.{is_offered, is_size_of, length_in, picture}
 use Rattle.cam_types.specs.Shown.{Shown}
+use Rattle.cam_types.specs.declared.item.Settings.{Settings}
+use Rattle.cam_types.specs.declared.number.BufferId.{BufferId}
+use Rattle.cam_types.specs.declared.stream.Format.{Format}
+use Rattle.cam_types.specs.declared.stream.Format.TheVariants.{Raw16, Yuv, Other}
+use Rattle.device_store.specs.Unpacked.{IsMadeHeld, IsShown, IsUnpacked}
 use Rattle.cam_types.specs.declared.job.JobView.{JobView}
 use Rattle.cam_types.specs.declared.number.FenceNo.{FenceNo}
 use Rattle.cam_types.specs.declared.number.StreamIx.{StreamIx}
@@ -126,3 +133,77 @@ taking plan t slots spares slot_room spare_room n s test kept passes =
     let at = stands plan t.rows t.capacity slots spares slot_room spare_room n row kept m.at in
     let (spec, tg) = is-target plan t.rows n s row g at kept.offered m.found in
     (row, g, spec, record { at = m.at; passed = m.passed; target = tg; stands = at; parked = taken-is plan t.rows n s row g spec at tg })
+
+-- ---- a buffer that comes back in error
+
+raw-long : (width height : ℕ) → width ≡ 160 → height ≡ 120 → length_in Raw16 width height ≡ 38400
+raw-long width height w h = rw (w, h) refl
+
+yuv-long : (width height w h : ℕ) → width ≡ w → height ≡ h → length_in Yuv width height ≡ length_in Yuv w h
+yuv-long width height w h same same' = rw (same, same') refl
+
+size-of : (spec : StreamSpec) (s : Settings) (n : ℕ) (f : Format) → spec.format ≡ f → is_size_of f spec.width spec.height ≡ true → length (picture spec s n) ≡ length_in f spec.width spec.height
+size-of spec s n Raw16 is size =
+    let parts = and_parts (spec.width == 160) (spec.height == 120) size in
+    length-picture-Raw16 spec s n is ∙ sym (raw-long spec.width spec.height (eqb-true spec.width 160 parts.0) (eqb-true spec.height 120 parts.1))
+size-of spec s n Yuv is size =
+    elim (cases_Bool (spec.width == 160)) [
+      | inl wide ↦ (let size' = rw wide at size in let w = eqb-true spec.width 160 wide in let h = eqb-true spec.height 120 size' in length-picture-Yuv spec s n 160 120 is w h ∙ sym (yuv-long spec.width spec.height 160 120 w h))
+      | inr no' ↦ (
+          let size' = rw no' at size in
+          elim (cases_Bool (spec.width == 80)) [
+            | inl half ↦ (let size'' = rw half at size' in let w = eqb-true spec.width 80 half in let h = eqb-true spec.height 60 size'' in length-picture-Yuv spec s n 80 60 is w h ∙ sym (yuv-long spec.width spec.height 80 60 w h))
+            | inr no'' ↦ (
+                let size'' = rw no'' at size' in
+                let parts = and_parts (spec.width == 40) (spec.height == 30) size'' in
+                let w = eqb-true spec.width 40 parts.0 in
+                let h = eqb-true spec.height 30 parts.1 in
+                length-picture-Yuv spec s n 40 30 is w h ∙ sym (yuv-long spec.width spec.height 40 30 w h)
+                )
+          ]
+          )
+    ]
+size-of spec s n (Other k) is size = absurd (false≢true size)
+
+pub picture-buffer : (spec : StreamSpec) (s : Settings) (n : ℕ) (buffer : BufferId) (pixels : Shown) (digest : List ℕ) → is_offered spec ≡ true → IsPictureFor spec s n buffer pixels digest → IsBufferFor spec buffer pixels
+picture-buffer spec s n buffer pixels digest offered shown = record {
+  id = shown.id;
+  bytes = ap (λ (z : List ℕ). length z) shown.bytes ∙ size-of spec s n spec.format refl offered;
+  block = shown.block;
+}
+
+pub made-held : (st : TargetState) (row : RowView) (g : TargetView) (spec : StreamSpec) (fences : ℕ) (held : Held) → (is_state st Waiting || is_state st Filled) ≡ true → (not (is_state st Waiting) || is_made fences g.fence) ≡ true → held_by st row g (Some spec) ≡ Some held → IsMadeHeld fences held
+made-held Waiting row g spec fences held state made' is = let same : waiting_for g spec ≡ held = cc in rw (← same) (made-below fences g.fence made')
+made-held Filled row g spec fences held state made' is = let same : filled_for row g spec ≡ held = cc in rw (← same) tt
+made-held Out row g spec fences held state made' is = absurd (false≢true state)
+made-held ReturnedEarly row g spec fences held state made' is = absurd (false≢true state)
+made-held EarlyFilled row g spec fences held state made' is = absurd (false≢true state)
+made-held ReturnedOk row g spec fences held state made' is = absurd (false≢true state)
+made-held ReturnedFailed row g spec fences held state made' is = absurd (false≢true state)
+
+unpacked-parts : (st : TargetState) (row : RowView) (g : TargetView) (spec : StreamSpec) (fences : FencesMade) (held : Held) (parked : Parked) → is_offered spec ≡ true → (is_state st Waiting || is_state st Filled) ≡ true → held_by st row g (Some spec) ≡ Some held → IsUnpacked fences held parked → IsBufferFor spec g.buffer parked.pixels × (parked.waiter ≡ (if is_state st Waiting then waiter_kept fences (fence_number g.fence) else None))
+unpacked-parts Waiting row g spec fences held parked offered state is back = let same : held ≡ waiting_for g spec = cc in let back' = rw same at back in (back'.0, back'.1)
+unpacked-parts Filled row g spec fences held parked offered state is back =
+    let same : held ≡ filled_for row g spec = cc in
+    let back' : IsUnpacked fences (filled_for row g spec) parked = rw same at back in
+    (picture-buffer spec row.settings row.frame.0 g.buffer parked.pixels back'.0.0 offered back'.0.1, back'.1)
+unpacked-parts Out row g spec fences held parked offered state is back = absurd (false≢true state)
+unpacked-parts ReturnedEarly row g spec fences held parked offered state is back = absurd (false≢true state)
+unpacked-parts EarlyFilled row g spec fences held parked offered state is back = absurd (false≢true state)
+unpacked-parts ReturnedOk row g spec fences held parked offered state is back = absurd (false≢true state)
+unpacked-parts ReturnedFailed row g spec fences held parked offered state is back = absurd (false≢true state)
+
+pub back-at : (specs : List StreamSpec) (n s : ℕ) (rows : List RowView) (row : RowView) (g : TargetView) (spec : StreamSpec) (fences : FencesMade) (held : Held) (parked : Parked) → row_at n rows ≡ Some row → IsTarget specs row s g spec → (is_state g.state Waiting || is_state g.state Filled) ≡ true → held_by g.state row g (Some spec) ≡ Some held → IsUnpacked fences held parked → IsBackAt fences specs n s rows parked
+back-at specs n s rows row g spec fences held parked at tg state is back =
+    let parts = unpacked-parts g.state row g spec fences held parked tg.offered state is back in
+    rw (at, tg.found, spec-at specs row s g spec tg) (record { pixels = parts.0; waiter = parts.1 })
+
+-- what may come back in error is held
+pub failing-held : (st : TargetState) (row : RowView) (g : TargetView) (spec : StreamSpec) → (is_state st Waiting || is_state st Filled) ≡ true → held_by st row g (Some spec) ≡ None → ⊥
+failing-held Waiting row g spec state none = let both : Some (waiting_for g spec) ≡ None = none in cc
+failing-held Filled row g spec state none = let both : Some (filled_for row g spec) ≡ None = none in cc
+failing-held Out row g spec state none = absurd (false≢true state)
+failing-held ReturnedEarly row g spec state none = absurd (false≢true state)
+failing-held EarlyFilled row g spec state none = absurd (false≢true state)
+failing-held ReturnedOk row g spec state none = absurd (false≢true state)
+failing-held ReturnedFailed row g spec state none = absurd (false≢true state)

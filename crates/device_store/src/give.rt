@@ -6,6 +6,7 @@ ghost use Rattle.device_rows.specs.Ready.{may_return_failed, target_passes};
 ghost use Rattle.device_rows.specs.Rows.{delivered, gone_early, returned_failed, row_at, target_in, with_row};
 ghost use Rattle.device_store.specs.Steps.{has_made, is_filled, is_in_fill, IsBackAt, ShowsAt};
 ghost use Rattle.device_store.specs.Stored.{specs_of, with_rows};
+ghost use Rattle.device_store.specs.Unpacked.{IsMadeHeld, IsUnpacked};
 
 use crate::buffers::Held;
 use crate::fill::redeem;
@@ -61,26 +62,36 @@ impl Store {
         ensures rows { self.new ≡ with_rows (with_row frame.0 (returned_failed stream) self.old.rows) self.old }
         ensures fences { fences.new ≡ fences.old }
     {
-        let held = self.table.take_target(frame, stream);
+        let Some(held) = self.table.take_target(frame, stream) else {
+            unreachable!();
+        };
         let _ = self
             .table
             .mark(frame, Mark::Target(stream, TargetState::ReturnedFailed));
-        match held {
-            Some(Held::Waiting(waiting)) => {
-                let Parked { pixels, waiter } = waiting.into_parked();
-                Parked {
-                    pixels,
-                    waiter: redeem(waiter, fences),
-                }
+        unpack(held, fences)
+    }
+}
+
+/// A buffer as it goes back: its waiter is redeemed where its fence is signalled.
+fn unpack(held: Held, fences: &mut Fences) -> Parked
+    requires { IsMadeHeld (made fences.old) held }
+    ensures parked { IsUnpacked fences.old held result }
+    ensures fences { fences.new ≡ fences.old }
+{
+    match held {
+        Held::Waiting(waiting) => {
+            let Parked { pixels, waiter } = waiting.into_parked();
+            Parked {
+                pixels,
+                waiter: redeem(waiter, fences),
             }
-            Some(Held::Filled(filled)) => {
-                let (pixels, _) = filled.into_parts();
-                Parked {
-                    pixels,
-                    waiter: None,
-                }
+        }
+        Held::Filled(filled) => {
+            let (pixels, _) = filled.into_parts();
+            Parked {
+                pixels,
+                waiter: None,
             }
-            None => unreachable!(),
         }
     }
 }
