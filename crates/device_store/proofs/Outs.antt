@@ -29,8 +29,11 @@ use Rattle.device_rows.specs.Rows.{row_at, target_at}
 use Rattle.device_store.specs.declared.buffers.Held.{Held}
 use Rattle.device_store.specs.declared.buffers.Held.TheVariants.{Waiting as HeldWaiting, Filled as HeldFilled}
 use Rattle.device_store.specs.Held.{Waiting as Place}
+use Rattle.cam_types.specs.declared.row.SensorPlace.{SensorPlace}
+use Rattle.cam_types.specs.declared.row.SensorPlace.TheVariants.{NotYet, Home}
 use Rattle.device_store.specs.declared.readouts.Slot.{Slot}
-use Rattle.device_store.specs.Kept.{fence_number, filled_for, held_by, IsKept, waiting_for}
+use Rattle.device_store.specs.declared.readouts.Slot.TheVariants.{Spare, Home as SlotHome, Away}
+use Rattle.device_store.specs.Kept.{fence_number, filled_for, held_by, IsKept, slot_by, slot_of, waiting_for}
 use Rattle.device_store.specs.Steps.{fill_job_for, IsBack, IsBackAt, ShowsAt, waiter_kept, waiter_left}
 use Rattle.device_store.specs.Stored.{specs_of, views}
 use Rattle.inflight_table.specs.declared.row.Row.{Row}
@@ -207,3 +210,27 @@ failing-held ReturnedEarly row g spec state none = absurd (false≢true state)
 failing-held EarlyFilled row g spec state none = absurd (false≢true state)
 failing-held ReturnedOk row g spec state none = absurd (false≢true state)
 failing-held ReturnedFailed row g spec state none = absurd (false≢true state)
+
+-- ---- slots
+
+pub spare-home : (slot : Slot) (x : JobView) → slot ≡ SlotHome x → slot ≡ Spare 0 → ⊥
+spare-home slot x is is' = let both : SlotHome x ≡ Spare 0 = sym is ∙ is' in cc
+
+pub spare-away : (slot : Slot) → slot ≡ Away → slot ≡ Spare 0 → ⊥
+spare-away slot is is' = let both : Away ≡ Spare 0 = sym is ∙ is' in cc
+
+pub home-spare : (slot : Slot) (k : ℕ) (x : JobView) → slot ≡ Spare k → slot ≡ SlotHome x → ⊥
+home-spare slot k x is is' = let both : Spare k ≡ SlotHome x = sym is ∙ is' in cc
+
+pub home-away : (slot : Slot) (x : JobView) → slot ≡ Away → slot ≡ SlotHome x → ⊥
+home-away slot x is is' = let both : Away ≡ SlotHome x = sym is ∙ is' in cc
+
+pub home-same : (slot : Slot) (x y : JobView) → slot ≡ SlotHome x → slot ≡ SlotHome y → x ≡ y
+home-same slot x y is is' = let both : SlotHome x ≡ SlotHome y = sym is ∙ is' in cc
+
+-- what stands in the slot of a row
+pub slot-spare : (row : RowView) → row.sensor ≡ NotYet → slot_of row ≡ Spare 0
+slot-spare row is = ap (λ (z : SensorPlace). slot_by z row) is
+
+pub slot-home : (row : RowView) → row.sensor ≡ Home → slot_of row ≡ SlotHome (sensor_job row)
+slot-home row is = ap (λ (z : SensorPlace). slot_by z row) is

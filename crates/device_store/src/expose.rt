@@ -29,7 +29,7 @@ impl Store {
         };
         let _ = self.table.mark(frame, Mark::Shutter(time));
         let _ = self.table.mark(frame, Mark::Sensor(SensorPlace::Out));
-        SensorJob::new(frame, row.settings, scratch.into_readout())
+        SensorJob::new(row.frame, row.settings, scratch.into_readout())
     }
 
     /// Takes the readout back from the sensor, whose job is out.
@@ -38,7 +38,7 @@ impl Store {
         ensures { self.new ≡ with_rows (with_row job.frame.0 sensor_home self.old.rows) self.old }
     {
         let frame = job.frame();
-        let Some((place, _)) = find_row(&self.table, frame) else {
+        let Some((place, _row)) = find_row(&self.table, frame) else {
             unreachable!();
         };
         let home = HomeReadout::of_exposed(job);
