@@ -234,3 +234,17 @@ slot-spare row is = ap (λ (z : SensorPlace). slot_by z row) is
 
 pub slot-home : (row : RowView) → row.sensor ≡ Home → slot_of row ≡ SlotHome (sensor_job row)
 slot-home row is = ap (λ (z : SensorPlace). slot_by z row) is
+
+-- ---- a stage's job
+
+pub job-for : (specs : List StreamSpec) (n s : ℕ) (rows : List RowView) (row : RowView) (g : TargetView) (spec : StreamSpec) → row_at n rows ≡ Some row → IsTarget specs row s g spec → fill_job_for specs s (row_at n rows) ≡ Some (fill_job row g spec)
+job-for specs n s rows row g spec at tg = rw (at, tg.found, spec-at specs row s g spec tg) refl
+
+pub job-same : (row row' : RowView) (g g' : TargetView) (spec spec' : StreamSpec) → row ≡ row' → g ≡ g' → spec ≡ spec' → fill_job row g spec ≡ fill_job row' g' spec'
+job-same row row' g g' spec spec' r t s = ap (λ (z : RowView). fill_job z g spec) r ∙ (ap (λ (z : TargetView). fill_job row' z spec) t ∙ ap (λ (z : StreamSpec). fill_job row' g' z) s)
+
+pub fence-made : (fences : ℕ) (place : Place) (g : TargetView) (spec : StreamSpec) → place ≡ record { buffer = g.buffer; spec = spec; fence = fence_number g.fence } → is_made fences g.fence ≡ true → IfSome place.fence (λ n. n < fences)
+fence-made fences place g spec is h = let e : place.fence ≡ fence_number g.fence = ap (λ (z : Place). z.fence) is in rw e (made-below fences g.fence h)
+
+pub fence-passed : (fences : FencesMade) (place : Place) (g : TargetView) (spec : StreamSpec) → place ≡ record { buffer = g.buffer; spec = spec; fence = fence_number g.fence } → is_passed (λ n. is_signalled n fences) g.fence ≡ true → IfSome place.fence (λ n. IsTrue (is_signalled n fences))
+fence-passed fences place g spec is h = let e : place.fence ≡ fence_number g.fence = ap (λ (z : Place). z.fence) is in rw e (passed-below fences g.fence h)
