@@ -15,8 +15,7 @@ pub fn may_expose(faults: &[Fault], row: RowView) -> bool
 pub fn is_sound(faults: &[Fault], row: RowView, target: TargetView) -> bool
     ensures { result ≡ is_sound faults.now row target }
 {
-    (!has_request_fault(faults, row.frame)
-        && !has_buffer_fault(faults, row.frame, target.stream))
+    (!has_request_fault(faults, row.frame) && !has_buffer_fault(faults, row.frame, target.stream))
         && (!row.request_error && !target.announced)
 }
 

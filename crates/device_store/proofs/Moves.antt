@@ -1,7 +1,9 @@
 -- What the store keeps where a step moves a buffer or a readout.
-use Rattle.std.proofs.Common.{◌≡◌, ℕ, ◌+◌, ◌<◌, Bool, true, false, ◌&&◌, ◌||◌, not, is_some, is_none, List, length, map, Option, Some, None, slice_get, slice_set, refl, ap, ◌∙◌, sym, arith, inl, inr}
+use Rattle.std.proofs.Common.{◌≡◌, ℕ, ◌+◌, ◌<◌, ◌==◌, [], ◌∷◌, filter, if◌then◌else◌, Bool, true, false, ◌&&◌, ◌||◌, not, is_some, is_none, List, length, map, Option, Some, None, slice_get, slice_set, refl, ap, ◌∙◌, sym, arith, inl, inr}
+use Rattle.std.specs.List.{find, list_all, list_any}
 use Rattle.std.specs.Option.{option_and_then, option_map}
-use Rattle.std.proofs.lemmas.Bool.{and_from, and_parts, both_ways, cases_Bool, false≢true, not-true, or_cases}
+use Rattle.device_store.proofs.General.{find-passes}
+use Rattle.std.proofs.lemmas.Bool.{and_from, and_parts, both_ways, cases_Bool, eqb-true, false≢true, not-true, or_cases}
 use Rattle.cam_types.specs.Four.{four_list}
 use Rattle.cam_types.specs.declared.number.FrameNo.{FrameNo}
 use Rattle.cam_types.specs.declared.number.StreamIx.{StreamIx}
@@ -14,20 +16,20 @@ use Rattle.cam_types.specs.declared.row.TargetView.{TargetView}
 use Rattle.cam_types.specs.declared.stream.StreamSpec.{StreamSpec}
 use Rattle.device_rows.specs.Jobs.{is_fill_out, sensor_job}
 use Rattle.device_rows.specs.Ready.{is_home, is_sensor_out, is_state, may_return_failed}
-use Rattle.device_rows.specs.Rows.{exposed, fill_begun, row_at, sensor_home, target_at, with_row as with_view}
+use Rattle.device_rows.specs.Rows.{exposed, fill_begun, fill_ended, filled_after, filled_from, row_at, sensor_home, target_at, with_row as with_view}
 use Rattle.device_store.specs.declared.buffers.Held.{Held}
 use Rattle.device_store.specs.declared.readouts.Slot.{Slot}
 use Rattle.device_store.specs.declared.readouts.Slot.TheVariants.{Spare, Home as SlotHome, Away}
-use Rattle.device_store.specs.Kept.{agree, agree_at, filled_for, full, held_by, held_in, is_kept, is_kept_back, is_placed, IsKept, slot_of, waiting_for}
+use Rattle.device_store.specs.Kept.{agree, agree_at, filled_for, fills_out, is_out, is_unbegun, is_waiting, waits, full, held_by, held_in, is_kept, is_kept_back, is_placed, IsKept, slot_of, waiting_for}
 use Rattle.device_store.specs.Steps.{is_dark, is_filled}
 use Rattle.device_store.specs.Stored.{is_some_target, specs_of, Stored, views}
 use Rattle.inflight_table.specs.declared.mark.Mark.TheVariants.{Sensor, Shutter, Target}
 use Rattle.inflight_table.specs.declared.row.Row.{Row}
 use Rattle.inflight_table.specs.Marks.{in_state, marked}
-use Rattle.inflight_table.specs.Rows.{Rows, view_of, with_mark, with_parked, with_row, with_rows}
+use Rattle.inflight_table.specs.Rows.{has_place, passes, row_of, Rows, view_of, with_mark, with_parked, with_row, with_rows}
 use Rattle.stream_config.specs.declared.plan.Plan.{Plan}
 use Rattle.device_store.proofs.Agree.{agree-begun, agree-ended, agree-exposed, agree-failed, agree-home, agree-moved, dark-sensor, placed-changed, placed-parts}
-use Rattle.device_store.proofs.Ops.{early-full, full-same, is-target, IsTarget, slot-same, store-same, table-1, table-2, table-3, target-full}
+use Rattle.device_store.proofs.Ops.{early-full, full-same, is-target, IsTarget, place-free, slot-same, store-same, table-1, table-2, table-3, target-full}
 use Rattle.device_store.proofs.Steps.{kept-stepped, slots-same, slots-set, Stands, stands, Stepped, stepped-1, stepped-2, stepped-3}
 
 -- the store after a step on one row
@@ -182,3 +184,95 @@ begun-moved plan t u v w slots slots' spares slot_room slot_room' spare_room n i
     let in' : is_fill_out g.state ≡ false = rw waiting refl in
     let each = and_from (is_placed (length (specs_of plan)) (fill_begun s row)) (agree (fill_begun s row)) (placed-changed (length (specs_of plan)) s.0 (in_state Out) row (λ x. refl) tg.place) (agree-begun row s g tg.order tg.found in' agrees) in
     moved plan t w slots slots' spares slot_room slot_room' spare_room n (fill_begun s) row kept at step shown each table.1 room (λ x. refl)
+
+counted : {X : Type 0} (p q : X → Bool) (xs : List X) (x : X) → find q xs ≡ Some x → p x ≡ true → length (filter p xs) ≡ 0 → ⊥
+counted p q [] x h yes' none = absurd (cc)
+counted p q (y ∷ xs) x h yes' none =
+    elim (cases_Bool (q y)) [
+      | inl here ↦ (let h' = rw here at h in let same : p y ≡ true = (let e : y ≡ x = cc in rw e yes') in let none' = rw same at none in omega (arith, none'))
+      | inr other ↦ (
+          let h' = rw other at h in
+          elim (cases_Bool (p y)) [
+            | inl some ↦ (let none' = rw some at none in omega (arith, none'))
+            | inr no' ↦ (let none' = rw no' at none in counted p q xs x h' yes' none')
+          ]
+          )
+    ]
+
+out-moved : (st : TargetState) → is_fill_out st ≡ true → (is_kept_back st ≡ false) × (is_waiting st ≡ false)
+out-moved Out h = (refl, refl)
+out-moved ReturnedEarly h = (refl, refl)
+out-moved Waiting h = absurd (false≢true h)
+out-moved Filled h = absurd (false≢true h)
+out-moved EarlyFilled h = absurd (false≢true h)
+out-moved ReturnedOk h = absurd (false≢true h)
+out-moved ReturnedFailed h = absurd (false≢true h)
+
+-- while a stage fills a buffer, the readout is with it
+pub out-place : (place : SensorPlace) (row : RowView) (s : ℕ) (g : TargetView) → target_at s row ≡ Some g → is_fill_out g.state ≡ true → agree_at place row ≡ true → place ≡ WithFill
+out-place NotYet row s g found out agrees =
+    let parts = and_parts (is_none row.shutter) (list_all is_unbegun (four_list row.targets) && (row.request_error || list_all waits (four_list row.targets))) agrees in
+    let later = and_parts (list_all is_unbegun (four_list row.targets)) (row.request_error || list_all waits (four_list row.targets)) parts.1 in
+    let own = find-passes (λ u. u.stream.0 == s) is_unbegun (four_list row.targets) g later.0 found in
+    absurd (both_ways (is_kept_back g.state) (out-moved g.state out).0 (and_parts (is_kept_back g.state) (not g.announced) own).0)
+out-place SensorOut row s g found out agrees =
+    let parts = and_parts (is_some row.shutter) (list_any waits (four_list row.targets) && list_all waits (four_list row.targets)) agrees in
+    let later = and_parts (list_any waits (four_list row.targets)) (list_all waits (four_list row.targets)) parts.1 in
+    let own = find-passes (λ u. u.stream.0 == s) waits (four_list row.targets) g later.1 found in
+    absurd (both_ways (is_waiting g.state) (out-moved g.state out).1 own)
+out-place Home row s g found out agrees =
+    let parts = and_parts (is_some row.shutter) (fills_out row == 0) agrees in
+    absurd (counted is_out (λ u. u.stream.0 == s) (four_list row.targets) g found out (eqb-true (fills_out row) 0 parts.1))
+out-place WithFill row s g found out agrees = refl
+
+filled-from-held : (st : TargetState) (row : RowView) (g : TargetView) (spec : StreamSpec) → held_by (filled_from st) row g (Some spec) ≡ Some (filled_for row g spec)
+filled-from-held Waiting row g spec = refl
+filled-from-held Out row g spec = refl
+filled-from-held Filled row g spec = refl
+filled-from-held ReturnedEarly row g spec = refl
+filled-from-held EarlyFilled row g spec = refl
+filled-from-held ReturnedOk row g spec = refl
+filled-from-held ReturnedFailed row g spec = refl
+
+filled-from-in : (st : TargetState) → is_fill_out (filled_from st) ≡ false
+filled-from-in Waiting = refl
+filled-from-in Out = refl
+filled-from-in Filled = refl
+filled-from-in ReturnedEarly = refl
+filled-from-in EarlyFilled = refl
+filled-from-in ReturnedOk = refl
+filled-from-in ReturnedFailed = refl
+
+pub out-held : (st : TargetState) (row : RowView) (g : TargetView) (spec : StreamSpec) → is_fill_out st ≡ true → held_by st row g (Some spec) ≡ None
+out-held Out row g spec h = refl
+out-held ReturnedEarly row g spec h = refl
+out-held Waiting row g spec h = absurd (false≢true h)
+out-held Filled row g spec h = absurd (false≢true h)
+out-held EarlyFilled row g spec h = absurd (false≢true h)
+out-held ReturnedOk row g spec h = absurd (false≢true h)
+out-held ReturnedFailed row g spec h = absurd (false≢true h)
+
+-- the row once a fill has ended in this state
+abbrev pub ended_in : StreamIx → TargetState → RowView → RowView
+ended_in s st row = marked (Sensor Home) (marked (Target s st) row)
+
+pub ended-moved : (plan : Plan) (t u v w : Rows Held) (slots slots' : List Slot) (spares slot_room slot_room' spare_room n i : ℕ) (s : StreamIx) (row : RowView) (g : TargetView) (spec : StreamSpec) (slot : Slot) → IsKept plan t.rows t.capacity slots spares slot_room spare_room → Stands plan t.rows n row → IsTarget (specs_of plan) row s.0 g spec → is_fill_out g.state ≡ true → option_map view_of (slice_get t.rows i) ≡ Some row → row.frame.0 ≡ n → slot ≡ SlotHome (sensor_job row) → slots' ≡ slice_set slots i slot → u ≡ with_rows (if passes (has_place s.0) (row_of n t.rows) then with_row n (with_parked s.0 (Some (filled_for row g spec))) t.rows else t.rows) t → v ≡ with_rows (with_row n (with_mark (Target s (filled_from g.state))) u.rows) u → w ≡ with_rows (with_row n (with_mark (Sensor Home)) v.rows) v → slot_room' ≡ slot_room → Moved plan t w slots' spares slot_room' spare_room n (fill_ended s)
+ended-moved plan t u v w slots slots' spares slot_room slot_room' spare_room n i s row g spec slot kept at tg out placed own filled swapped is is' is'' room =
+    let st : TargetState = filled_from g.state in
+    let thing : Option Held = Some (filled_for row g spec) in
+    let free = place-free plan t.rows n s.0 row g spec at tg (out-held g.state row g spec out) in
+    let first : u ≡ with_rows (with_row n (with_parked s.0 thing) t.rows) t = rw free at is in
+    let table = table-3 n (with_parked s.0 thing) (with_mark (Target s st)) (with_mark (Sensor Home)) t u v w first is' is'' in
+    let full' = target-full (specs_of plan) row s st thing tg.apart (λ x f. (
+    let both : Some x ≡ Some g = sym f ∙ tg.found in
+    let same : x ≡ g = cc in
+    ap (λ (z : TargetView). held_by st row (in_state st z) (slice_get (specs_of plan) z.stream.0)) same ∙ (ap (λ (z : Option StreamSpec). held_by st row (in_state st g) z) tg.spec_is ∙ filled-from-held g.state row (in_state st g) spec)
+    )) in
+    let change : fill_ended s row ≡ ended_in s st row = ap (λ (z : Option TargetView). ended_in s (filled_after z) row) tg.found in
+    let here = ap (λ (z : Row Held). with_mark (Sensor Home) z) full' ∙ (full-same (specs_of plan) (marked (Target s st) row) (ended_in s st row) refl refl refl ∙ ap (λ (z : RowView). full (specs_of plan) z) (sym change)) in
+    let step = stepped-3 plan t.rows w.rows n (fill_ended s) row (with_parked s.0 thing) (with_mark (Target s st)) (with_mark (Sensor Home)) at at.own at.own here table.0 in
+    let shown = slots-set plan t.rows n i (fill_ended s) row slots slots' slot at kept.shown placed own (filled ∙ refl) swapped in
+    let place = out-place row.sensor row s.0 g tg.found out tg.agrees in
+    let agrees : agree_at WithFill row ≡ true = rw place at tg.agrees in
+    let each : is_kept (length (specs_of plan)) (ended_in s st row) ≡ true = and_from (is_placed (length (specs_of plan)) (ended_in s st row)) (agree (ended_in s st row)) (placed-changed (length (specs_of plan)) s.0 (in_state st) row (λ x. refl) tg.place) (agree-ended row s st g tg.order tg.found out (filled-from-in g.state) agrees) in
+    moved plan t w slots slots' spares slot_room slot_room' spare_room n (fill_ended s) row kept at step shown (ap (λ (z : RowView). is_kept (length (specs_of plan)) z) change ∙ each) table.1 room (λ x. refl)

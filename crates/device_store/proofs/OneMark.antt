@@ -91,18 +91,21 @@ stopped-all plan t u slots spares slot_room spare_room kept is =
     let table = table-1 t u (map (with_mark Stopped) t.rows) is in
     let specs = specs_of plan in
     let whole : u.rows ≡ map (full specs) (map stopped (views t.rows)) =
-        table.0 ∙ (ap (λ (z : List (Row Held)). map (with_mark Stopped) z) kept.filled ∙ (map-map (with_mark Stopped) (full specs) (views t.rows) ∙ (map-same (λ v. with_mark Stopped (full specs v)) (λ v. full specs (stopped v)) (views t.rows) (λ v. stopped-full specs v) ∙ sym (map-map (full specs) stopped (views t.rows))))) in
+    table.0 ∙ (ap (λ (z : List (Row Held)). map (with_mark Stopped) z) kept.filled ∙ (map-map (with_mark Stopped) (full specs) (views t.rows) ∙ (map-same (λ v. with_mark Stopped (full specs v)) (λ v. full specs (stopped v)) (views t.rows) (λ v. stopped-full specs v) ∙ sym (map-map (full specs) stopped (views t.rows))))) in
     let is' : views u.rows ≡ map stopped (views t.rows) = ap (λ (z : List (Row Held)). views z) whole ∙ views-full specs (map stopped (views t.rows)) in
     let same : map slot_of (map stopped (views t.rows)) ≡ map slot_of (views t.rows) = map-map slot_of stopped (views t.rows) ∙ map-same (λ v. slot_of (stopped v)) slot_of (views t.rows) (λ v. slot-same (stopped v) v refl refl refl) in
     let long : length u.rows ≡ length t.rows = ap (λ (z : List (Row Held)). length z) table.0 ∙ length-map t.rows (with_mark Stopped) in
     let old = kept.enough in
-    let each : list_all (is_kept (length specs)) (map stopped (views t.rows)) ≡ true = all-mapped (is_kept (length specs)) stopped (views t.rows) ∙ all-where (is_kept (length specs)) (λ v. is_kept (length specs) (stopped v)) (views t.rows) (λ v h. kept-same (length specs) v (stopped v) refl refl refl refl refl h) kept.each in
-    (record {
-      filled = whole ∙ ap (λ (z : List RowView). map (full specs) z) (sym is');
-      shown = kept.shown ∙ (sym same ∙ ap (λ (z : List RowView). map slot_of z) (sym is'));
-      order = rw is' (rises-mapped frame_number stopped (views t.rows) (λ v. refl) ∙ kept.order);
-      enough = omega (arith, old, long, table.1);
-      room = rw table.1 kept.room;
-      each = rw is' each;
-      offered = kept.offered;
-    }, is', table.1)
+    let each : list_all (is_kept (length specs)) (map stopped (views t.rows)) ≡ true = all-mapped (is_kept (length specs)) stopped (views t.rows) ∙ all-where (is_kept (length specs)) (λ v. is_kept (length specs) (stopped v)) (views t.rows) (λ v h. kept-same (length specs) v (stopped v) refl refl refl refl refl h) kept.each in (
+      record {
+        filled = whole ∙ ap (λ (z : List RowView). map (full specs) z) (sym is');
+        shown = kept.shown ∙ (sym same ∙ ap (λ (z : List RowView). map slot_of z) (sym is'));
+        order = rw is' (rises-mapped frame_number stopped (views t.rows) (λ v. refl) ∙ kept.order);
+        enough = omega (arith, old, long, table.1);
+        room = rw table.1 kept.room;
+        each = rw is' each;
+        offered = kept.offered;
+      },
+      is',
+      table.1,
+    )

@@ -116,17 +116,19 @@ is-target plan rows n s row t at offered found =
     let parts = placed-parts (length (specs_of plan)) row kept.0 in
     let within = stream-within 0 (length (specs_of plan)) (λ u. u.stream.0 == s) (four_list row.targets) t parts.rise found in
     let own = found-is (λ u. u.stream.0 == s) (four_list row.targets) t found in
-    let (spec, is) = spec-within (specs_of plan) t.stream.0 within in
-    (spec, record {
-      found = found;
-      apart = rise-apart row.targets.a row.targets.b row.targets.c row.targets.d 0 (length (specs_of plan)) parts.rise;
-      order = parts.order;
-      place = kept.0;
-      agrees = kept.1;
-      stream = eqb-true t.stream.0 s own;
-      spec_is = is;
-      offered = get-passes is_offered (specs_of plan) t.stream.0 spec offered is;
-    })
+    let (spec, is) = spec-within (specs_of plan) t.stream.0 within in (
+      spec,
+      record {
+        found = found;
+        apart = rise-apart row.targets.a row.targets.b row.targets.c row.targets.d 0 (length (specs_of plan)) parts.rise;
+        order = parts.order;
+        place = kept.0;
+        agrees = kept.1;
+        stream = eqb-true t.stream.0 s own;
+        spec_is = is;
+        offered = get-passes is_offered (specs_of plan) t.stream.0 spec offered is;
+      },
+    )
 
 -- the row and the target that a test is of
 pub record Met (test : RowView → TargetView → Bool) (s : ℕ) (o : Option RowView) (row : RowView) (t : TargetView) : Type 0 where
@@ -180,7 +182,7 @@ target-full specs row s st thing apart here =
     let moved = placed s.0 (in_state st) (held_at specs row) thing row.targets.a row.targets.b row.targets.c row.targets.d apart here in
     let other : RowView = marked (Target s st) row in
     let parked' : placed_at s.0 row.targets thing (held_in specs row) ≡ held_in specs other =
-        moved ∙ four-same (held_at specs row) (held_at specs other) other.targets (λ o. held-place specs row other o refl refl) in
+    moved ∙ four-same (held_at specs row) (held_at specs other) other.targets (λ o. held-place specs row other o refl refl) in
     ap (λ (z : Four Held). as_row other z) parked'
 
 -- what is parked for it stays
@@ -189,7 +191,7 @@ target-same specs row mark s change is apart here =
     let moved = placed-same s change (held_at specs row) row.targets.a row.targets.b row.targets.c row.targets.d apart here in
     let other : RowView = record row { targets = with_target s change row.targets } in
     let parked' : held_in specs row ≡ held_in specs other =
-        moved ∙ four-same (held_at specs row) (held_at specs other) other.targets (λ o. held-place specs row other o refl refl) in
+    moved ∙ four-same (held_at specs row) (held_at specs other) other.targets (λ o. held-place specs row other o refl refl) in
     ap (λ (z : RowView). as_row z (held_in specs row)) is ∙ (ap (λ (z : Four Held). as_row other z) parked' ∙ sym (ap (λ (z : RowView). full specs z) is))
 
 held-announced : (st : TargetState) (row : RowView) (t : TargetView) (o : Option StreamSpec) → held_by st row (as_announced t) o ≡ held_by st row t o
@@ -211,11 +213,11 @@ announced-full specs row s apart =
 pub early-full : (specs : List StreamSpec) (row : RowView) (s : StreamIx) (t : TargetView) → are_apart row.targets ≡ true → target_at s.0 row ≡ Some t → t.state ≡ Out → with_mark (Target s ReturnedEarly) (full specs row) ≡ full specs (marked (Target s ReturnedEarly) row)
 early-full specs row s t apart found out =
     target-same specs row (Target s ReturnedEarly) s.0 (in_state ReturnedEarly) refl apart (λ u at. (
-      let both : Some u ≡ Some t = sym at ∙ found in
-      let same : u ≡ t = cc in
-      let st : u.state ≡ Out = ap (λ (z : TargetView). z.state) same ∙ out in
-      sym (ap (λ (z : TargetState). held_by z row u (slice_get specs u.stream.0)) st)
-      ))
+    let both : Some u ≡ Some t = sym at ∙ found in
+    let same : u ≡ t = cc in
+    let st : u.state ≡ Out = ap (λ (z : TargetView). z.state) same ∙ out in
+    sym (ap (λ (z : TargetState). held_by z row u (slice_get specs u.stream.0)) st)
+    ))
 
 -- ---- tables
 

@@ -1,5 +1,5 @@
 -- What comes out of the store.
-use Rattle.std.proofs.Common.{◌≡◌, ℕ, ◌<◌, ◌==◌, ◌||◌, Bool, true, false, not, nat_lt, is_some, if◌then◌else◌, List, length, Option, Some, None, slice_get, IfSome, IsTrue, refl, ap, ◌∙◌, sym, arith, inl, inr}
+use Rattle.std.proofs.Common.{◌≡◌, ℕ, ◌<◌, ◌==◌, ◌||◌, Bool, true, false, not, nat_lt, is_some, if◌then◌else◌, List, length, Option, Some, None, slice_get, IfSome, IsTrue, refl, ap, subst, ◌∙◌, sym, arith, inl, inr}
 use Rattle.std.specs.Option.{option_and_then, option_map}
 use Rattle.std.proofs.lemmas.Bool.{and_parts, cases_Bool, eqb-true, false≢true, ltb-true, or_parts}
 use Rattle.std.proofs.lemmas.Bool.Decides.{nat_tests}
@@ -12,6 +12,7 @@ use Rattle.cam_types.specs.declared.number.BufferId.{BufferId}
 use Rattle.cam_types.specs.declared.stream.Format.{Format}
 use Rattle.cam_types.specs.declared.stream.Format.TheVariants.{Raw16, Yuv, Other}
 use Rattle.device_store.specs.Unpacked.{IsMadeHeld, IsShown, IsUnpacked}
+use Rattle.cam_types.specs.declared.job.FillTarget.{FillTarget}
 use Rattle.cam_types.specs.declared.job.JobView.{JobView}
 use Rattle.cam_types.specs.declared.number.FenceNo.{FenceNo}
 use Rattle.cam_types.specs.declared.number.StreamIx.{StreamIx}
@@ -22,7 +23,7 @@ use Rattle.cam_types.specs.declared.row.TargetView.{TargetView}
 use Rattle.cam_types.specs.declared.stream.StreamSpec.{StreamSpec}
 use Rattle.fence_tokens.specs.Fences.{FencesMade, is_signalled, made}
 use Rattle.fill_jobs.specs.Buffers.{IsBufferFor, IsPictureFor, IsPictureOf}
-use Rattle.device_rows.specs.Jobs.{fill_job, IsSensorJobOut, sensor_job, sensor_job_of}
+use Rattle.device_rows.specs.Jobs.{fill_job, fill_job_in, fill_job_of, is_fill_out, IsFillJobOut, IsFillOutFor, IsSensorJobOut, sensor_job, sensor_job_of}
 use Rattle.device_rows.specs.Kept.{has_made_fence, is_made}
 use Rattle.device_rows.specs.Ready.{is_passed, is_sensor_out, is_state, target_passes}
 use Rattle.device_rows.specs.Rows.{row_at, target_at}
@@ -248,3 +249,33 @@ fence-made fences place g spec is h = let e : place.fence ≡ fence_number g.fen
 
 pub fence-passed : (fences : FencesMade) (place : Place) (g : TargetView) (spec : StreamSpec) → place ≡ record { buffer = g.buffer; spec = spec; fence = fence_number g.fence } → is_passed (λ n. is_signalled n fences) g.fence ≡ true → IfSome place.fence (λ n. IsTrue (is_signalled n fences))
 fence-passed fences place g spec is h = let e : place.fence ≡ fence_number g.fence = ap (λ (z : Place). z.fence) is in rw e (passed-below fences g.fence h)
+
+-- the row and the target of a stage's job that is out
+pub record IsOut (specs : List StreamSpec) (o : Option RowView) (s : ℕ) (job : JobView) (row : RowView) (g : TargetView) (spec : StreamSpec) : Type 0 where
+  pub at : o ≡ Some row
+  pub found : target_at s row ≡ Some g
+  pub out : is_fill_out g.state ≡ true
+  pub spec_is : slice_get specs s ≡ Some spec
+  pub same : fill_job row g spec ≡ job
+
+out-with : (row : RowView) (o : Option TargetView) (p : Option StreamSpec) (job : JobView) → fill_job_of row o p ≡ Some job → (g : TargetView) × (spec : StreamSpec) × (o ≡ Some g) × (p ≡ Some spec) × (is_fill_out g.state ≡ true) × (fill_job row g spec ≡ job)
+out-with row (Some g) (Some spec) job h =
+    elim (cases_Bool (is_fill_out g.state)) [
+      | inl out ↦ (let h' = rw out at h in let same : fill_job row g spec ≡ job = cc in (g, spec, refl, refl, out, same))
+      | inr in' ↦ (let h' = rw in' at h in absurd (cc))
+    ]
+out-with row (Some g) None job h = absurd (cc)
+out-with row None (Some spec) job h = absurd (cc)
+out-with row None None job h = absurd (cc)
+
+out-in : (specs : List StreamSpec) (s : ℕ) (o : Option RowView) (job : JobView) → fill_job_in specs s o ≡ Some job → (row : RowView) × (g : TargetView) × (spec : StreamSpec) × IsOut specs o s job row g spec
+out-in specs s (Some row) job h =
+    let (g, spec, found, is, out, same) = out-with row (target_at s row) (slice_get specs s) job h in
+    (row, g, spec, record { at = refl; found = found; out = out; spec_is = is; same = same })
+out-in specs s None job h = absurd (cc)
+
+pub is-out : (specs : List StreamSpec) (rows : List RowView) (job : JobView) (target : FillTarget) → job.fill ≡ Some target → IsFillJobOut specs rows job → (row : RowView) × (g : TargetView) × (spec : StreamSpec) × IsOut specs (row_at job.frame.0 rows) target.stream.0 job row g spec
+is-out specs rows job target fill out =
+    let P : Option FillTarget → Type 0 = λ z. IsFillOutFor specs rows job z in
+    let out' = subst P fill out in
+    out-in specs target.stream.0 (row_at job.frame.0 rows) job out'

@@ -60,16 +60,16 @@ stepped-1 plan rows after n change row f at here is =
 pub stepped-2 : (plan : Plan) (rows after : List (Row Held)) (n : ℕ) (change : RowView → RowView) (row : RowView) (f g : Row Held → Row Held) → Stands plan rows n row → is_of n (f (full (specs_of plan) row)) ≡ true → g (f (full (specs_of plan) row)) ≡ full (specs_of plan) (change row) → after ≡ with_row n g (with_row n f rows) → Stepped plan rows after n change
 stepped-2 plan rows after n change row f g at own here is =
     stepped plan rows after n change row (λ r. if_of n g (if_of n f r)) at
-      (ap (λ (z : Row Held). if_of n g z) (if-here n f (full (specs_of plan) row) at.own) ∙ (if-here n g (f (full (specs_of plan) row)) own ∙ here))
-      (λ v no'. ap (λ (z : Row Held). if_of n g z) (if-other n f (full (specs_of plan) v) no') ∙ if-other n g (full (specs_of plan) v) no')
-      (is ∙ map-map (if_of n g) (if_of n f) rows)
+    (ap (λ (z : Row Held). if_of n g z) (if-here n f (full (specs_of plan) row) at.own) ∙ (if-here n g (f (full (specs_of plan) row)) own ∙ here))
+    (λ v no'. ap (λ (z : Row Held). if_of n g z) (if-other n f (full (specs_of plan) v) no') ∙ if-other n g (full (specs_of plan) v) no')
+    (is ∙ map-map (if_of n g) (if_of n f) rows)
 
 pub stepped-3 : (plan : Plan) (rows after : List (Row Held)) (n : ℕ) (change : RowView → RowView) (row : RowView) (f g h : Row Held → Row Held) → Stands plan rows n row → is_of n (f (full (specs_of plan) row)) ≡ true → is_of n (g (f (full (specs_of plan) row))) ≡ true → h (g (f (full (specs_of plan) row))) ≡ full (specs_of plan) (change row) → after ≡ with_row n h (with_row n g (with_row n f rows)) → Stepped plan rows after n change
 stepped-3 plan rows after n change row f g h at own own' here is =
     stepped plan rows after n change row (λ r. if_of n h (if_of n g (if_of n f r))) at
-      (ap (λ (z : Row Held). if_of n h (if_of n g z)) (if-here n f (full (specs_of plan) row) at.own) ∙ (ap (λ (z : Row Held). if_of n h z) (if-here n g (f (full (specs_of plan) row)) own) ∙ (if-here n h (g (f (full (specs_of plan) row))) own' ∙ here)))
-      (λ v no'. ap (λ (z : Row Held). if_of n h (if_of n g z)) (if-other n f (full (specs_of plan) v) no') ∙ (ap (λ (z : Row Held). if_of n h z) (if-other n g (full (specs_of plan) v) no') ∙ if-other n h (full (specs_of plan) v) no'))
-      (is ∙ (ap (λ (z : List (Row Held)). with_row n h z) (map-map (if_of n g) (if_of n f) rows) ∙ map-map (if_of n h) (λ r. if_of n g (if_of n f r)) rows))
+    (ap (λ (z : Row Held). if_of n h (if_of n g z)) (if-here n f (full (specs_of plan) row) at.own) ∙ (ap (λ (z : Row Held). if_of n h z) (if-here n g (f (full (specs_of plan) row)) own) ∙ (if-here n h (g (f (full (specs_of plan) row))) own' ∙ here)))
+    (λ v no'. ap (λ (z : Row Held). if_of n h (if_of n g z)) (if-other n f (full (specs_of plan) v) no') ∙ (ap (λ (z : Row Held). if_of n h z) (if-other n g (full (specs_of plan) v) no') ∙ if-other n h (full (specs_of plan) v) no'))
+    (is ∙ (ap (λ (z : List (Row Held)). with_row n h z) (map-map (if_of n g) (if_of n f) rows) ∙ map-map (if_of n h) (λ r. if_of n g (if_of n f r)) rows))
 
 -- ---- readouts
 

@@ -98,7 +98,7 @@ module _ {B : Type 0} (s : ℕ) (change : TargetView → TargetView) (h : Option
         (λ na yb nc nd is. rw (na, yb, at-target thing b _ is yb here, other-target s change a na, other-target s change c nc, other-target s change d nd) refl),
         (λ na nb yc nd is. rw (na, nb, yc, at-target thing c _ is yc here, other-target s change a na, other-target s change b nb, other-target s change d nd) refl),
         (λ na nb nc yd is. rw (na, nb, nc, yd, at-target thing d _ is yd here, other-target s change a na, other-target s change b nb, other-target s change c nc) refl),
-        (λ na nb nc nd. rw (na, nb, nc, nd, other-target s change a na, other-target s change b nb, other-target s change c nc, other-target s change d nd) refl)
+        (λ na nb nc nd. rw (na, nb, nc, nd, other-target s change a na, other-target s change b nb, other-target s change c nc, other-target s change d nd) refl),
       )
 
   -- the same where a change of the target changes nothing of what is parked
@@ -109,7 +109,7 @@ module _ {B : Type 0} (s : ℕ) (change : TargetView → TargetView) (h : Option
         (λ na yb nc nd is. rw (same-target b _ is yb here, other-target s change a na, other-target s change c nc, other-target s change d nd) refl),
         (λ na nb yc nd is. rw (same-target c _ is yc here, other-target s change a na, other-target s change b nb, other-target s change d nd) refl),
         (λ na nb nc yd is. rw (same-target d _ is yd here, other-target s change a na, other-target s change b nb, other-target s change c nc) refl),
-        (λ na nb nc nd. rw (other-target s change a na, other-target s change b nb, other-target s change c nc, other-target s change d nd) refl)
+        (λ na nb nc nd. rw (other-target s change a na, other-target s change b nb, other-target s change c nc, other-target s change d nd) refl),
       )
 
 -- what is parked for the target that is found
@@ -120,7 +120,7 @@ parked-found {B} s h a b c d t apart found =
       (λ na yb nc nd is. rw (na, yb) (ap h (sym is ∙ found))),
       (λ na nb yc nd is. rw (na, nb, yc) (ap h (sym is ∙ found))),
       (λ na nb nc yd is. rw (na, nb, nc, yd) (ap h (sym is ∙ found))),
-      (λ na nb nc nd. absurd (none-found s a b c d t na nb nc nd found))
+      (λ na nb nc nd. absurd (none-found s a b c d t na nb nc nd found)),
     )
 
 pub has-found : (s : ℕ) (a b c d : Option TargetView) (t : TargetView) → are_apart (record { a = a; b = b; c = c; d = d }) ≡ true → find_in s a b c d ≡ Some t → has_target s (record { a = a; b = b; c = c; d = d }) ≡ true
@@ -130,7 +130,7 @@ has-found s a b c d t apart found =
       (λ na yb nc nd is. rw (na, yb) refl),
       (λ na nb yc nd is. rw (na, nb, yc) refl),
       (λ na nb nc yd is. rw (na, nb, nc, yd) refl),
-      (λ na nb nc nd. absurd (none-found s a b c d t na nb nc nd found))
+      (λ na nb nc nd. absurd (none-found s a b c d t na nb nc nd found)),
     )
 
 -- ---- the targets as a list

@@ -5,4 +5,3 @@ mod draw;
 mod job;
 
 pub use job::{FillJob, FilledJob};
-
