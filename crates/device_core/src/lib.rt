@@ -1,0 +1,6 @@
+//! The device's half of each step: its rows, the sensor, the stages and the errors that it tells.
+#![tactic(auto)]
+
+mod device;
+
+pub use device::Device;
