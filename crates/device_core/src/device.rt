@@ -5,17 +5,12 @@ ghost use Rattle.cam_types.specs.Metadata.{range_fault};
 ghost use Rattle.cam_types.specs.Picture.{is_offered};
 ghost use Rattle.device_rows.specs.Jobs.{IsFillJobOut, IsSensorJobOut};
 ghost use Rattle.device_rows.specs.Kept.{is_fresh, rise_from};
-ghost use Rattle.device_rows.specs.Ready.{is_finish_ready};
-ghost use Rattle.device_rows.specs.Rows.{all_stopped, delivered, fill_ended, row_at, sensor_home, with_row};
-ghost use Rattle.device_store.specs.Steps.{ShowsAt};
+ghost use Rattle.device_rows.specs.Rows.{all_stopped, fill_ended, row_at, sensor_home, with_row};
 ghost use Rattle.device_store.specs.Stored.{AreParked, are_before, is_some_target, no_plan, specs_of};
 ghost use Rattle.device_core.specs.View.{with_plan, with_rows};
 
 use buffer_pool::Parked;
-use cam_types::{
-    FaultList, Four, FrameNo, NoMemory, PixelBuf, RowView, StreamIx, TargetState,
-};
-use device_rows::{is_state, target_at};
+use cam_types::{FaultList, Four, FrameNo, NoMemory, RowView};
 use device_store::Store;
 use fill_jobs::FilledJob;
 use sensor_sim::ExposedJob;
@@ -26,8 +21,8 @@ use stream_config::Plan;
 /// The device: the rows of the open frames with all that it holds for them, and the faults that it shall have. It can't
 /// be let go: `scrap` ends it.
 pub struct Device {
-    store: Store,
-    faults: FaultList,
+    pub(crate) store: Store,
+    pub(crate) faults: FaultList,
 }
 
 impl Model for Device {
@@ -80,7 +75,11 @@ impl Device {
 
     /// Takes a request's row, as just sent, with the buffers of its targets; hands these back exactly where as many rows
     /// stand as may.
-    pub fn process_request(&mut self, row: RowView, parked: Four<Parked>) -> Result<(), Four<Parked>>
+    pub fn process_request(
+        &mut self,
+        row: RowView,
+        parked: Four<Parked>,
+    ) -> Result<(), Four<Parked>>
         requires later { IsTrue (are_before row.frame.0 self.old.rows) }
         requires fresh { IsTrue (is_fresh row) }
         requires range { range_fault row.settings ≡ None }

@@ -2,5 +2,7 @@
 #![tactic(auto)]
 
 mod device;
+mod fill;
+mod give;
 
 pub use device::Device;
