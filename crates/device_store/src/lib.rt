@@ -8,6 +8,7 @@ mod fill;
 mod give;
 mod hold;
 mod marks;
+mod order;
 mod place;
 mod plan;
 mod readouts;
