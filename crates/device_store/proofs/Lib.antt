@@ -8,3 +8,4 @@ pub mod Ops
 pub mod OneMark
 pub mod Moves
 pub mod Outs
+pub mod Retired

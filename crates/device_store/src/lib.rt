@@ -11,6 +11,8 @@ mod marks;
 mod place;
 mod plan;
 mod readouts;
+mod retire;
+mod scrap;
 mod store;
 
 pub use buffers::{FilledBuf, Held, WaitingBuf};
