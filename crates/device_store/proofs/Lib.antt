@@ -9,3 +9,4 @@ pub mod OneMark
 pub mod Moves
 pub mod Outs
 pub mod Retired
+pub mod Scrapped

@@ -163,6 +163,7 @@ impl<B> Table<B> {
         ensures none { IsNone result ↔ (self.old.rows ≡ []) }
         ensures last { IfSome result (λ row. self.old.rows ≡ self.new.rows ++ row ∷ []) }
         ensures capacity { self.new.capacity ≡ self.old.capacity }
+        ensures unchanged { IsNone result → self.new ≡ self.old }
     {
         self.rows.pop()
     }
