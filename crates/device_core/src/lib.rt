@@ -4,5 +4,6 @@
 mod device;
 mod fill;
 mod give;
+mod retire;
 
 pub use device::Device;
