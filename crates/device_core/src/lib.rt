@@ -8,5 +8,6 @@ mod expose;
 mod fill;
 mod give;
 mod metadata;
+mod retire;
 
 pub use device::Device;

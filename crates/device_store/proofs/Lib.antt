@@ -9,3 +9,5 @@ pub mod OneMark
 pub mod Moves
 pub mod Outs
 pub mod Books
+pub mod Retired
+pub mod Scrapped

@@ -12,6 +12,8 @@ mod order;
 mod place;
 mod plan;
 mod readouts;
+mod retire;
+mod scrap;
 mod store;
 
 pub use buffers::{FilledBuf, Held, WaitingBuf};
