@@ -1,4 +1,4 @@
-use Rattle.std.proofs.Common.{sym, ◌∙◌, ap, ◌+◌}
+use Rattle.std.proofs.Common.{sym, ◌∙◌, ap}
 use Rattle.device_rows.specs.Ready.{next_exposure}
 use Rattle.device_store.specs.Stored.{views}
 use Rattle.device_store.proofs.Books.{drop-over, exposure-here, exposure-later, view-at}
