@@ -1,3 +1,5 @@
+//! Filled buffers that come back, and buffers that come back early.
+
 ghost use Rattle.std.specs.Prelude.{◌≡◌, ◌↔◌, None, Some, IfSome, IsNone, IsSome, IsTrue};
 ghost use Rattle.std.specs.Option.{option_map};
 ghost use Rattle.device_rows.specs.Ready.{is_delivery_ready, is_early_ready, may_return};

@@ -1,3 +1,5 @@
+//! The errors that are due.
+
 ghost use Rattle.std.specs.Prelude.{◌≡◌, Some, IfSome, IsNone};
 ghost use Rattle.device_rows.specs.Ready.{error_of, fails_device_at, is_failing, next_error};
 ghost use Rattle.device_rows.specs.Rows.{with_error};

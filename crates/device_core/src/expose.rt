@@ -1,3 +1,5 @@
+//! Exposures that begin.
+
 ghost use Rattle.std.specs.Prelude.{◌≡◌, IfSome, IsNone};
 ghost use Rattle.std.specs.Option.{option_map};
 ghost use Rattle.device_rows.specs.Jobs.{sensor_job};

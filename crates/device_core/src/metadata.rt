@@ -1,3 +1,5 @@
+//! The metadata results of a frame.
+
 ghost use Rattle.std.specs.Prelude.{◌≡◌, IfSome, IsNone};
 ghost use Rattle.device_rows.specs.Ready.{may_be_last, may_send_part, next_part};
 ghost use Rattle.device_rows.specs.Rows.{with_part, with_row};

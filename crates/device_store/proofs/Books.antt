@@ -1,11 +1,10 @@
 -- The rows that an order book takes note of, and the first that the sensor takes.
 use Rattle.std.specs.Prelude.{IfSome}
-use Rattle.std.proofs.Common.{◌≡◌, ℕ, zero, suc, ◌+◌, ◌-◌, ◌<◌, ◌≤◌, Bool, true, false, ◌&&◌, not, is_some, List, [], ◌∷◌, ◌++◌, length, map, drop, nat_lt, Option, Some, None, option_to_list, slice_get, refl, sym, ◌∙◌, ap, arith}
+use Rattle.std.proofs.Common.{◌≡◌, ℕ, zero, suc, ◌+◌, ◌-◌, ◌<◌, ◌≤◌, Bool, true, false, ◌&&◌, not, is_some, List, [], ◌∷◌, ◌++◌, length, drop, nat_lt, Option, Some, None, option_to_list, slice_get, refl, sym, ◌∙◌, ap, arith}
 use Rattle.std.specs.List.{list_all}
 use Rattle.std.specs.Option.{option_map}
 use Rattle.std.proofs.lemmas.Bool.{and_parts}
 use Rattle.std.proofs.lemmas.Bool.Decides.{nat_tests}
-use Rattle.std.proofs.lemmas.Grind.{common_steps}
 use Rattle.std.proofs.lemmas.List.{length-map}
 use Rattle.std.proofs.lemmas.Option.{slice_get-map}
 use Rattle.basic_lemmas.proofs.Lists.{all-where}
@@ -23,7 +22,7 @@ use Rattle.stream_config.specs.declared.plan.Plan.{Plan}
 use Rattle.device_store.specs.Kept.{agree, is_kept, is_placed}
 use Rattle.device_store.specs.Stored.{find_view, spec_of, specs_of, views}
 use Rattle.device_store.proofs.Agree.{placed-parts}
-use Rattle.device_store.proofs.General.{get-passes}
+use Rattle.device_store.proofs.General.{drop-here, drop-over, get-passes}
 use Rattle.device_store.proofs.Views.{find-views}
 
 -- ---- the streams of the targets are known
@@ -77,22 +76,6 @@ known-rows plan rows each =
     all-where (is_kept (length (specs_of plan))) has_known_streams rows (λ row kept. known-row (length (specs_of plan)) row (few-specs plan) kept) each
 
 -- ---- a place of the rows
-
--- what is left from a place on, by what stands there
-pub drop-here : {X : Type 0} (xs : List X) (i : ℕ) (x : X) → slice_get xs i ≡ Some x → drop i xs ≡ x ∷ drop (i + 1) xs
-drop-here [] i x h = absurd (cc)
-drop-here (y ∷ xs) zero x h = let same : y ≡ x = cc in rw same refl
-drop-here (y ∷ xs) (suc i) x h = let next : suc i + 1 ≡ suc (i + 1) = omega arith in rw next (drop-here xs i x h)
-
-pub drop-over : {X : Type 0} (xs : List X) (i : ℕ) → slice_get xs i ≡ None → drop (i + 1) xs ≡ drop i xs
-drop-over [] zero h = refl
-drop-over [] (suc i) h = let next : suc i + 1 ≡ suc (i + 1) = omega arith in rw next refl
-drop-over (y ∷ xs) zero h = absurd (cc)
-drop-over (y ∷ xs) (suc i) h = let next : suc i + 1 ≡ suc (i + 1) = omega arith in rw next (drop-over xs i h)
-
-pub drop-all : {X : Type 0} (xs : List X) → drop (length xs) xs ≡ []
-drop-all [] = refl
-drop-all (x ∷ xs) = drop-all xs
 
 pub view-at : {B : Type 0} (rows : List (Row B)) (i : ℕ) (o : Option RowView) → option_map view_of (slice_get rows i) ≡ o → slice_get (views rows) i ≡ o
 view-at rows i o at = slice_get-map view_of rows i ∙ at

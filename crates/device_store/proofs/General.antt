@@ -30,6 +30,19 @@ get-passes p [] i x all h = absurd (cc)
 get-passes p (y ∷ xs) zero x all h = let parts = and_parts (p y) (list_all p xs) all in let same : y ≡ x = cc in rw same at parts.0
 get-passes p (y ∷ xs) (suc i) x all h = get-passes p xs i x (and_parts (p y) (list_all p xs) all).1 h
 
+-- what is left from a place on, by what stands there
+pub drop-here : {X : Type 0} (xs : List X) (i : ℕ) (x : X) → slice_get xs i ≡ Some x → drop i xs ≡ x ∷ drop (i + 1) xs
+drop-here [] i x h = absurd (cc)
+drop-here (y ∷ xs) zero x h = let same : y ≡ x = cc in rw same refl
+drop-here (y ∷ xs) (suc i) x h = let next : suc i + 1 ≡ suc (i + 1) = omega arith in rw next (drop-here xs i x h)
+
+-- and where nothing stands
+pub drop-over : {X : Type 0} (xs : List X) (i : ℕ) → slice_get xs i ≡ None → drop (i + 1) xs ≡ drop i xs
+drop-over [] zero h = refl
+drop-over [] (suc i) h = let next : suc i + 1 ≡ suc (i + 1) = omega arith in rw next refl
+drop-over (y ∷ xs) zero h = absurd (cc)
+drop-over (y ∷ xs) (suc i) h = let next : suc i + 1 ≡ suc (i + 1) = omega arith in rw next (drop-over xs i h)
+
 other-above : (k m n : ℕ) → (k == n) ≡ true → nat_lt k m ≡ true → (m == n) ≡ false
 other-above k m n here above = grind (arith, nat_tests, here, above)
 

@@ -1,3 +1,5 @@
+//! Whose turn it is among the rows: whose buffers and metadata may come, and which frame the sensor takes next.
+
 ghost use Rattle.std.specs.Prelude.{◌≡◌, ◌&&◌, None, Some, is_some, not, IfSome, IsTrue};
 ghost use Rattle.std.specs.List.{list_all};
 ghost use Rattle.notify_order.specs.Order.{book_of, each_below, has_known_streams, holds_back};
