@@ -121,9 +121,13 @@ fn one_frame_from_its_request_to_its_end(rt: HostRuntime) -> Result<(), Fail> {
         Some(waiter) => fences.scrap_waiter(waiter),
         None => panic!(rt; "no waiter of a fence that isn't signalled"),
     }
+    assert!(rt; store.view(frame).is_some());
     store.note_part(frame, 3);
-    store.retire(frame);
-    assert_eq!(rt; store.len(), 0);
+    match store.view(frame) {
+        Some(row) if !row.is_open() => store.retire(frame),
+        _ => panic!(rt; "the frame is done with"),
+    }
+    assert!(rt; store.len() == 0);
     store.scrap(&mut fences);
     fences.scrap_signaller(signaller);
     Ok(())
