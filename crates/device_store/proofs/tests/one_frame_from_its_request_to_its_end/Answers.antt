@@ -6,7 +6,6 @@ use Rattle.buffer_pool.specs.Blocks.{block_length}
 use Rattle.cam_types.specs.Picture.{length_in}
 use Rattle.cam_types.specs.Shown.{Shown}
 use Rattle.cam_types.specs.declared.number.BufferId.{BufferId}
-use Rattle.cam_types.specs.declared.row.RowView.{RowView}
 use Rattle.cam_types.specs.declared.stream.StreamSpec.{StreamSpec}
 use Rattle.device_rows.specs.Jobs.{has_job_out}
 use Rattle.fill_jobs.specs.Buffers.{IsBufferFor}
