@@ -1,7 +1,7 @@
 -- A row that is admitted, and what is held for it.
-use Rattle.std.proofs.Common.{◌≡◌, ◌≤◌, ◌<◌, ◌+◌, ℕ, ◌==◌, Bool, true, false, ◌&&◌, ◌||◌, not, is_some, is_none, nat_le, nat_lt, List, [], ◌∷◌, ◌++◌, length, map, option_to_list, slice_get, Option, Some, None, refl, sym, ap, ◌∙◌, arith, inl, inr}
-use Rattle.std.specs.List.{list_all, list_any}
-use Rattle.std.proofs.lemmas.Bool.{and_from, and_parts, cases_Bool, false≢true, not-true, or_right}
+use Rattle.std.proofs.Common.{◌≡◌, ◌≤◌, ◌<◌, ◌+◌, ℕ, true, false, ◌&&◌, not, is_some, is_none, nat_le, nat_lt, List, [], ◌∷◌, ◌++◌, length, option_to_list, slice_get, Option, Some, None, refl, sym, ap, ◌∙◌, arith}
+use Rattle.std.specs.List.{list_all}
+use Rattle.std.proofs.lemmas.Bool.{and_from, and_parts, false≢true, or_right}
 use Rattle.std.proofs.lemmas.Bool.Decides.{nat_tests}
 use Rattle.std.proofs.lemmas.List.{map-append}
 use Rattle.std.proofs.lemmas.Grind.{common_steps}
@@ -22,10 +22,10 @@ use Rattle.device_rows.specs.Ready.{is_state}
 use Rattle.device_store.specs.declared.buffers.Held.{Held}
 use Rattle.device_store.specs.declared.readouts.Slot.{Slot}
 use Rattle.device_store.specs.declared.readouts.Slot.TheVariants.{Spare}
-use Rattle.device_store.specs.Kept.{agree, agree_at, full, held_at, held_by, held_in, is_kept, is_placed, is_unbegun, is_waiting, IsKept, slot_by, slot_of, waiting_at, waiting_in, waiting_with, waits}
-use Rattle.device_store.specs.Stored.{AreParked, are_before, frame_number, is_some_target, rises, IsParkedAt, IsParkedIn, specs_of, views}
+use Rattle.device_store.specs.Kept.{agree, full, held_at, held_by, held_in, is_kept, is_placed, is_unbegun, IsKept, slot_of, waiting_at, waiting_in, waiting_with, waits}
+use Rattle.device_store.specs.Stored.{AreParked, are_before, frame_number, is_some_target, IsParkedAt, IsParkedIn, specs_of, views}
 use Rattle.inflight_table.specs.declared.row.Row.{Row}
-use Rattle.inflight_table.specs.Rows.{are_apart, are_below, are_both, frame_of, is_apart, is_for, is_one_each, view_of}
+use Rattle.inflight_table.specs.Rows.{are_apart, are_below, are_both, is_apart, is_for, is_one_each, view_of}
 use Rattle.stream_config.specs.declared.plan.Plan.{Plan}
 use Rattle.device_store.proofs.General.{rises-push}
 

@@ -1,11 +1,10 @@
 -- What the store keeps where a step moves a buffer or a readout.
-use Rattle.std.proofs.Common.{◌≡◌, ℕ, ◌+◌, ◌<◌, ◌==◌, [], ◌∷◌, filter, if◌then◌else◌, Bool, true, false, ◌&&◌, ◌||◌, not, is_some, is_none, List, length, map, Option, Some, None, slice_get, slice_set, refl, ap, ◌∙◌, sym, arith, inl, inr}
+use Rattle.std.proofs.Common.{◌≡◌, ℕ, ◌==◌, [], ◌∷◌, filter, if◌then◌else◌, Bool, true, false, ◌&&◌, ◌||◌, not, is_some, is_none, List, length, map, Option, Some, None, slice_get, slice_set, refl, ap, ◌∙◌, sym, arith, inl, inr}
 use Rattle.std.specs.List.{find, list_all, list_any}
-use Rattle.std.specs.Option.{option_and_then, option_map}
+use Rattle.std.specs.Option.{option_map}
 use Rattle.device_store.proofs.General.{find-passes}
-use Rattle.std.proofs.lemmas.Bool.{and_from, and_parts, both_ways, cases_Bool, eqb-true, false≢true, not-true, or_cases}
+use Rattle.std.proofs.lemmas.Bool.{and_from, and_parts, both_ways, cases_Bool, eqb-true, false≢true, not-true}
 use Rattle.cam_types.specs.Four.{four_list}
-use Rattle.cam_types.specs.declared.number.FrameNo.{FrameNo}
 use Rattle.cam_types.specs.declared.number.StreamIx.{StreamIx}
 use Rattle.cam_types.specs.declared.row.RowView.{RowView}
 use Rattle.cam_types.specs.declared.row.SensorPlace.{SensorPlace}
@@ -19,10 +18,10 @@ use Rattle.device_rows.specs.Ready.{is_home, is_sensor_out, is_state, may_return
 use Rattle.device_rows.specs.Rows.{exposed, fill_begun, fill_ended, filled_after, filled_from, row_at, sensor_home, target_at, with_row as with_view}
 use Rattle.device_store.specs.declared.buffers.Held.{Held}
 use Rattle.device_store.specs.declared.readouts.Slot.{Slot}
-use Rattle.device_store.specs.declared.readouts.Slot.TheVariants.{Spare, Home as SlotHome, Away}
-use Rattle.device_store.specs.Kept.{agree, agree_at, filled_for, fills_out, is_out, is_unbegun, is_waiting, waits, full, held_by, held_in, is_kept, is_kept_back, is_placed, IsKept, slot_of, waiting_for}
+use Rattle.device_store.specs.declared.readouts.Slot.TheVariants.{Home as SlotHome, Away}
+use Rattle.device_store.specs.Kept.{agree, agree_at, filled_for, fills_out, is_out, is_unbegun, is_waiting, waits, full, held_by, is_kept, is_kept_back, is_placed, IsKept, slot_of}
 use Rattle.device_store.specs.Steps.{is_dark, is_filled}
-use Rattle.device_store.specs.Stored.{is_some_target, specs_of, Stored, views}
+use Rattle.device_store.specs.Stored.{specs_of, Stored, views}
 use Rattle.inflight_table.specs.declared.mark.Mark.TheVariants.{Sensor, Shutter, Target}
 use Rattle.inflight_table.specs.declared.row.Row.{Row}
 use Rattle.inflight_table.specs.Marks.{in_state, marked}

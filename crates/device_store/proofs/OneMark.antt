@@ -1,5 +1,5 @@
 -- A row that is marked with what changes neither its targets nor where the sensor is.
-use Rattle.std.proofs.Common.{◌≡◌, ℕ, ◌≤◌, Bool, true, false, is_some, List, length, map, Option, Some, None, refl, ap, ◌∙◌, sym, arith}
+use Rattle.std.proofs.Common.{◌≡◌, ℕ, true, is_some, List, length, map, Option, Some, None, refl, ap, ◌∙◌, sym, arith}
 use Rattle.std.specs.List.{list_all}
 use Rattle.std.proofs.lemmas.List.{length-map}
 use Rattle.basic_lemmas.proofs.Lists.{all-mapped, all-where, map-map, map-same}
@@ -20,14 +20,14 @@ use Rattle.device_store.specs.declared.buffers.Held.{Held}
 use Rattle.device_store.specs.declared.readouts.Slot.{Slot}
 use Rattle.device_store.specs.Kept.{agree, agree_at, full, is_kept, is_placed, IsKept, slot_of}
 use Rattle.device_store.specs.Steps.{is_lit}
-use Rattle.device_store.specs.Stored.{frame_number, rises, specs_of, Stored, views}
+use Rattle.device_store.specs.Stored.{frame_number, specs_of, Stored, views}
 use Rattle.inflight_table.specs.declared.mark.Mark.{Mark}
 use Rattle.inflight_table.specs.declared.row.Row.{Row}
 use Rattle.inflight_table.specs.Marks.{marked}
 use Rattle.inflight_table.specs.Rows.{Rows, with_mark, with_row, with_rows}
 use Rattle.stream_config.specs.declared.plan.Plan.{Plan}
 use Rattle.device_store.proofs.Ops.{full-same, slot-same, store-same, table-1}
-use Rattle.device_store.proofs.Steps.{kept-stepped, slots-same, Stands, stands, Stepped, stepped-1}
+use Rattle.device_store.proofs.Steps.{kept-stepped, slots-same, Stands, stands, stepped-1}
 
 pub there : (o : Option RowView) → is_some o ≡ true → (row : RowView) × (o ≡ Some row)
 there (Some row) h = (row, refl)

@@ -1,15 +1,12 @@
 -- What each step of the store makes of one row, and of what is held for it.
-use Rattle.std.proofs.Common.{◌≡◌, ℕ, zero, suc, ◌+◌, ◌≤◌, ◌<◌, ◌==◌, Bool, true, false, ◌&&◌, ◌||◌, not, nat_le, nat_lt, is_some, if◌then◌else◌, List, [], ◌∷◌, ◌++◌, length, map, option_to_list, Option, Some, None, slice_get, refl, sym, ap, ◌∙◌, arith, inl, inr}
+use Rattle.std.proofs.Common.{◌≡◌, ℕ, zero, suc, ◌+◌, ◌<◌, ◌==◌, Bool, true, ◌&&◌, nat_le, nat_lt, List, [], ◌∷◌, length, Option, Some, None, slice_get, refl, sym, ap, ◌∙◌, arith, inl, inr}
 use Rattle.std.specs.List.{find, list_all}
 use Rattle.std.specs.Option.{option_and_then, option_map}
-use Rattle.std.proofs.lemmas.Bool.{and_from, and_parts, both_ways, cases_Bool, false≢true, not-true, eqb-true}
+use Rattle.std.proofs.lemmas.Bool.{and_parts, cases_Bool, false≢true, eqb-true}
 use Rattle.std.proofs.lemmas.Bool.Decides.{nat_tests}
-use Rattle.std.proofs.lemmas.Option.{slice_get_cases}
 use Rattle.cam_types.specs.Four.{four_list}
 use Rattle.cam_types.specs.Picture.{is_offered}
 use Rattle.cam_types.specs.declared.four.Four.{Four}
-use Rattle.cam_types.specs.declared.item.Settings.{Settings}
-use Rattle.cam_types.specs.declared.number.FrameNo.{FrameNo}
 use Rattle.cam_types.specs.declared.number.StreamIx.{StreamIx}
 use Rattle.cam_types.specs.declared.row.RowView.{RowView}
 use Rattle.cam_types.specs.declared.row.SensorPlace.{SensorPlace}
@@ -19,23 +16,22 @@ use Rattle.cam_types.specs.declared.row.TargetState.TheVariants.{Waiting, Out, F
 use Rattle.cam_types.specs.declared.row.TargetView.{TargetView}
 use Rattle.cam_types.specs.declared.stream.StreamSpec.{StreamSpec}
 use Rattle.device_rows.specs.Kept.{rise_from}
-use Rattle.device_rows.specs.Ready.{is_state, passes_at, target_passes}
-use Rattle.device_rows.specs.Rows.{row_at, target_at, with_row as with_view}
+use Rattle.device_rows.specs.Ready.{passes_at, target_passes}
+use Rattle.device_rows.specs.Rows.{target_at}
 use Rattle.device_store.specs.declared.buffers.Held.{Held}
-use Rattle.device_store.specs.declared.readouts.Slot.{Slot}
-use Rattle.device_store.specs.Kept.{agree, full, held_at, held_by, held_for, held_in, is_kept, is_placed, IsKept, slot_by, slot_of}
+use Rattle.device_store.specs.Kept.{agree, full, held_at, held_by, held_for, held_in, is_placed, slot_by, slot_of}
 use Rattle.device_store.specs.Stored.{rises, specs_of, Stored, views}
 use Rattle.inflight_table.specs.declared.mark.Mark.{Mark}
-use Rattle.inflight_table.specs.declared.mark.Mark.TheVariants.{Shutter, Part, RequestError, ResultError, Announced, Target, Sensor, Stopped}
+use Rattle.inflight_table.specs.declared.mark.Mark.TheVariants.{Announced, Target}
 use Rattle.inflight_table.specs.declared.row.Row.{Row}
-use Rattle.inflight_table.specs.Marks.{as_announced, if_of_stream, in_state, marked, with_target}
-use Rattle.inflight_table.specs.Rows.{are_apart, has_place, has_target, is_of, parked_at, parked_for, passes, placed_at, row_of, Rows, with_mark, with_parked, with_row, with_rows}
+use Rattle.inflight_table.specs.Marks.{as_announced, in_state, marked, with_target}
+use Rattle.inflight_table.specs.Rows.{are_apart, has_place, parked_for, passes, placed_at, row_of, Rows, with_mark, with_parked, with_row, with_rows}
 use Rattle.stream_config.specs.declared.plan.Plan.{Plan}
 use Rattle.device_store.proofs.Admission.{rise-apart}
-use Rattle.device_store.proofs.Agree.{Placed, placed-parts}
+use Rattle.device_store.proofs.Agree.{placed-parts}
 use Rattle.device_store.proofs.General.{found-is, get-passes}
 use Rattle.device_store.proofs.Steps.{Stands}
-use Rattle.device_store.proofs.Targets.{find_in, has-found, parked-found, placed, placed-same, stream_number}
+use Rattle.device_store.proofs.Targets.{has-found, parked-found, placed, placed-same, stream_number}
 use Rattle.device_store.proofs.Views.{find-full}
 
 -- ---- what is held depends on the frame, the settings and the targets alone

@@ -1,8 +1,7 @@
 -- What comes out of the store.
-use Rattle.std.proofs.Common.{◌≡◌, ℕ, ◌<◌, ◌==◌, ◌||◌, Bool, true, false, not, nat_lt, is_some, if◌then◌else◌, List, length, Option, Some, None, slice_get, IfSome, IsTrue, refl, ap, subst, ◌∙◌, sym, arith, inl, inr}
-use Rattle.std.specs.Option.{option_and_then, option_map}
-use Rattle.std.proofs.lemmas.Bool.{and_parts, cases_Bool, eqb-true, false≢true, ltb-true, or_parts}
-use Rattle.std.proofs.lemmas.Bool.Decides.{nat_tests}
+use Rattle.std.proofs.Common.{◌≡◌, ℕ, ◌<◌, ◌==◌, ◌||◌, Bool, true, not, if◌then◌else◌, List, length, Option, Some, None, slice_get, IfSome, IsTrue, refl, ap, subst, ◌∙◌, sym, inl, inr}
+use Rattle.std.specs.Option.{option_and_then}
+use Rattle.std.proofs.lemmas.Bool.{and_parts, cases_Bool, eqb-true, false≢true, ltb-true}
 use Rattle.buffer_pool.specs.declared.parked.Parked.{Parked}
 use Rattle.cam_types.proofs.PictureLemmas.{length-picture-Raw16, length-picture-Yuv}
 use Rattle.cam_types.specs.Picture.{is_offered, is_size_of, length_in, picture}
@@ -11,20 +10,19 @@ use Rattle.cam_types.specs.declared.item.Settings.{Settings}
 use Rattle.cam_types.specs.declared.number.BufferId.{BufferId}
 use Rattle.cam_types.specs.declared.stream.Format.{Format}
 use Rattle.cam_types.specs.declared.stream.Format.TheVariants.{Raw16, Yuv, Other}
-use Rattle.device_store.specs.Unpacked.{IsMadeHeld, IsShown, IsUnpacked}
+use Rattle.device_store.specs.Unpacked.{IsMadeHeld, IsUnpacked}
 use Rattle.cam_types.specs.declared.job.FillTarget.{FillTarget}
 use Rattle.cam_types.specs.declared.job.JobView.{JobView}
 use Rattle.cam_types.specs.declared.number.FenceNo.{FenceNo}
-use Rattle.cam_types.specs.declared.number.StreamIx.{StreamIx}
 use Rattle.cam_types.specs.declared.row.RowView.{RowView}
 use Rattle.cam_types.specs.declared.row.TargetState.{TargetState}
 use Rattle.cam_types.specs.declared.row.TargetState.TheVariants.{Waiting, Out, Filled, ReturnedEarly, EarlyFilled, ReturnedOk, ReturnedFailed}
 use Rattle.cam_types.specs.declared.row.TargetView.{TargetView}
 use Rattle.cam_types.specs.declared.stream.StreamSpec.{StreamSpec}
-use Rattle.fence_tokens.specs.Fences.{FencesMade, is_signalled, made}
+use Rattle.fence_tokens.specs.Fences.{FencesMade, is_signalled}
 use Rattle.fill_jobs.specs.Buffers.{IsBufferFor, IsPictureFor, IsPictureOf}
-use Rattle.device_rows.specs.Jobs.{fill_job, fill_job_in, fill_job_of, is_fill_out, IsFillJobOut, IsFillOutFor, IsSensorJobOut, sensor_job, sensor_job_of}
-use Rattle.device_rows.specs.Kept.{has_made_fence, is_made}
+use Rattle.device_rows.specs.Jobs.{fill_job, fill_job_in, fill_job_of, is_fill_out, IsFillJobOut, IsFillOutFor, sensor_job, sensor_job_of}
+use Rattle.device_rows.specs.Kept.{is_made}
 use Rattle.device_rows.specs.Ready.{is_passed, is_sensor_out, is_state, target_passes}
 use Rattle.device_rows.specs.Rows.{row_at, target_at}
 use Rattle.device_store.specs.declared.buffers.Held.{Held}
@@ -35,9 +33,8 @@ use Rattle.cam_types.specs.declared.row.SensorPlace.TheVariants.{NotYet, Home}
 use Rattle.device_store.specs.declared.readouts.Slot.{Slot}
 use Rattle.device_store.specs.declared.readouts.Slot.TheVariants.{Spare, Home as SlotHome, Away}
 use Rattle.device_store.specs.Kept.{fence_number, filled_for, held_by, IsKept, slot_by, slot_of, waiting_for}
-use Rattle.device_store.specs.Steps.{fill_job_for, IsBack, IsBackAt, ShowsAt, waiter_kept, waiter_left}
+use Rattle.device_store.specs.Steps.{fill_job_for, IsBackAt, ShowsAt, waiter_kept}
 use Rattle.device_store.specs.Stored.{specs_of, views}
-use Rattle.inflight_table.specs.declared.row.Row.{Row}
 use Rattle.inflight_table.specs.Rows.{parked_for, row_of, Rows}
 use Rattle.stream_config.specs.declared.plan.Plan.{Plan}
 use Rattle.device_store.proofs.Ops.{is-target, IsTarget, met, taken-is}

@@ -1,13 +1,12 @@
 -- A row that the device is done with: nothing is held for it but its readout, and that is here.
-use Rattle.std.proofs.Common.{◌≡◌, ℕ, zero, suc, ◌+◌, ◌<◌, ◌≤◌, ◌==◌, Bool, true, false, ◌&&◌, ◌||◌, not, is_some, if◌then◌else◌, List, [], ◌∷◌, ◌++◌, length, map, filter, option_to_list, Option, Some, None, slice_get, slice_index_or, refl, sym, ap, ◌∙◌, arith, inl, inr}
+use Rattle.std.proofs.Common.{◌≡◌, ℕ, zero, suc, ◌+◌, ◌==◌, Bool, true, false, ◌&&◌, not, is_some, if◌then◌else◌, List, [], ◌∷◌, ◌++◌, length, map, filter, option_to_list, Option, Some, None, slice_get, slice_index_or, refl, sym, ap, ◌∙◌, arith, inl, inr}
 use Rattle.std.specs.List.{list_all, list_any, remove}
 use Rattle.std.specs.Option.{option_map}
 use Rattle.std.proofs.lemmas.Bool.{and_parts, both_ways, cases_Bool, false≢true}
-use Rattle.std.proofs.lemmas.Bool.Decides.{nat_tests}
 use Rattle.std.proofs.lemmas.Option.{slice_get-map}
 use Rattle.basic_lemmas.proofs.Lists.{all-append, all-filtered}
 use Rattle.cam_types.specs.Four.{four_list}
-use Rattle.cam_types.specs.Rows.{are_settled, awaits_metadata, is_open, is_settled, is_settled_at}
+use Rattle.cam_types.specs.Rows.{are_settled, awaits_metadata, is_settled, is_settled_at}
 use Rattle.cam_types.specs.declared.four.Four.{Four}
 use Rattle.cam_types.specs.declared.row.RowView.{RowView}
 use Rattle.cam_types.specs.declared.row.SensorPlace.{SensorPlace}
@@ -21,7 +20,7 @@ use Rattle.device_rows.specs.Ready.{is_done}
 use Rattle.device_rows.specs.Rows.{row_at, without as without_view}
 use Rattle.device_store.specs.declared.buffers.Held.{Held}
 use Rattle.device_store.specs.declared.readouts.Slot.{Slot}
-use Rattle.device_store.specs.declared.readouts.Slot.TheVariants.{Spare, Home as SlotHome, Away}
+use Rattle.device_store.specs.declared.readouts.Slot.TheVariants.{Away}
 use Rattle.device_store.specs.Kept.{agree, agree_at, fills_out, full, held_at, held_by, is_kept, is_out, is_placed, is_waiting, IsKept, slot_by, slot_of, waits}
 use Rattle.device_store.specs.Stored.{frame_number, specs_of, Stored, views}
 use Rattle.inflight_table.specs.declared.row.Row.{Row}
@@ -29,8 +28,8 @@ use Rattle.inflight_table.specs.Rows.{is_cleared, is_of, passes, row_of, Rows, v
 use Rattle.stream_config.specs.declared.plan.Plan.{Plan}
 use Rattle.device_store.proofs.General.{map-removed, removed-at, rises-filtered}
 use Rattle.device_store.proofs.Ops.{store-same}
-use Rattle.device_store.proofs.Steps.{Stands, stands}
-use Rattle.device_store.proofs.Views.{find-full, views-full}
+use Rattle.device_store.proofs.Steps.{stands}
+use Rattle.device_store.proofs.Views.{find-full}
 
 -- ---- the row
 

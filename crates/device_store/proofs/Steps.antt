@@ -1,22 +1,20 @@
 -- What the store meets once one row is changed.
-use Rattle.std.proofs.Common.{◌≡◌, ℕ, ◌+◌, ◌≤◌, ◌<◌, ◌==◌, Bool, true, false, if◌then◌else◌, List, [], ◌∷◌, length, map, Option, Some, None, slice_get, slice_set, refl, sym, ap, ◌∙◌, arith, inl, inr}
-use Rattle.std.specs.List.{list_all}
+use Rattle.std.proofs.Common.{◌≡◌, ℕ, ◌<◌, ◌==◌, Bool, true, false, if◌then◌else◌, List, length, map, Some, slice_get, slice_set, refl, sym, ap, ◌∙◌, arith}
 use Rattle.std.specs.Option.{option_map}
 use Rattle.std.proofs.lemmas.List.{length-map, map-set}
 use Rattle.std.proofs.lemmas.Option.{slice_get-map, slice_get_within}
 use Rattle.basic_lemmas.proofs.Lists.{map-map}
 use Rattle.cam_types.specs.declared.row.RowView.{RowView}
-use Rattle.cam_types.specs.declared.stream.StreamSpec.{StreamSpec}
 use Rattle.device_rows.specs.Rows.{row_at, with_row as with_view}
 use Rattle.device_store.specs.declared.buffers.Held.{Held}
 use Rattle.device_store.specs.declared.readouts.Slot.{Slot}
 use Rattle.device_store.specs.Kept.{full, is_kept, IsKept, slot_of}
-use Rattle.device_store.specs.Stored.{find_view, frame_number, rises, specs_of, views}
+use Rattle.device_store.specs.Stored.{frame_number, rises, specs_of, views}
 use Rattle.inflight_table.specs.declared.row.Row.{Row}
-use Rattle.inflight_table.specs.Rows.{are_in_order, if_of, is_of, view_of, with_row}
+use Rattle.inflight_table.specs.Rows.{if_of, is_of, view_of, with_row}
 use Rattle.stream_config.specs.declared.plan.Plan.{Plan}
 use Rattle.device_store.proofs.General.{all-at, changed-at, find-passes, map-at, rises-mapped}
-use Rattle.device_store.proofs.Views.{find-views, found-own, step-full, views-full}
+use Rattle.device_store.proofs.Views.{found-own, step-full, views-full}
 
 -- the row that a step changes, as it stands
 pub record Stands (plan : Plan) (rows : List (Row Held)) (n : ℕ) (row : RowView) : Type 0 where

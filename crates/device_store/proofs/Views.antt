@@ -1,6 +1,5 @@
 -- The rows with what is parked for them, and the rows alone.
-use Rattle.std.proofs.Common.{◌≡◌, ℕ, ◌==◌, Bool, true, false, if◌then◌else◌, List, [], ◌∷◌, map, Option, Some, None, nat_lt, refl, sym, ◌∙◌, ap, inl, inr}
-use Rattle.std.specs.List.{find, list_all}
+use Rattle.std.proofs.Common.{◌≡◌, ℕ, ◌==◌, true, false, if◌then◌else◌, List, [], ◌∷◌, map, Some, refl, sym, ◌∙◌}
 use Rattle.std.specs.Option.{option_map}
 use Rattle.basic_lemmas.proofs.Lists.{find-mapped, map-map}
 use Rattle.cam_types.specs.declared.row.RowView.{RowView}

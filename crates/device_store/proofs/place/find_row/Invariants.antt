@@ -1,5 +1,4 @@
 use Rattle.std.proofs.Common.{◌≡◌, drop}
-use Rattle.std.specs.Option.{option_map}
 use Rattle.inflight_table.specs.Rows.{row_of}
 use Rattle.device_store.proofs.place.find_row.Given as goal
 

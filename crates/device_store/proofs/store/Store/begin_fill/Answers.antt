@@ -1,15 +1,13 @@
-use Rattle.std.proofs.Common.{◌≡◌, ℕ, Some, None, length, refl, sym, ◌∙◌, ap}
+use Rattle.std.proofs.Common.{Some, length, refl, sym, ◌∙◌, ap}
 use Rattle.std.specs.Vec.{vec_capacity}
 use Rattle.std.proofs.lemmas.Bool.{and_parts}
 use Rattle.cam_types.specs.declared.job.JobView.{JobView}
-use Rattle.cam_types.specs.declared.number.BufferId.{BufferId}
 use Rattle.cam_types.specs.declared.row.RowView.{RowView}
 use Rattle.cam_types.specs.declared.row.TargetState.{TargetState}
 use Rattle.cam_types.specs.declared.row.TargetState.TheVariants.{Waiting}
 use Rattle.cam_types.specs.declared.row.TargetView.{TargetView}
-use Rattle.cam_types.specs.declared.stream.StreamSpec.{StreamSpec}
 use Rattle.cam_types.specs.Picture.{is_offered}
-use Rattle.device_rows.specs.Jobs.{fill_job, sensor_job}
+use Rattle.device_rows.specs.Jobs.{sensor_job}
 use Rattle.device_rows.specs.Kept.{is_made}
 use Rattle.device_rows.specs.Ready.{is_home, is_passed, is_state}
 use Rattle.device_rows.specs.Rows.{row_at, target_at}

@@ -1,4 +1,4 @@
-use Rattle.std.proofs.Common.{◌≡◌, ℕ, if◌then◌else◌, Some, None, length, refl, subst, sym, ◌∙◌, ap}
+use Rattle.std.proofs.Common.{◌≡◌, if◌then◌else◌, Some, None, length, refl, subst, sym, ◌∙◌, ap}
 use Rattle.std.specs.Vec.{vec_capacity}
 use Rattle.cam_types.specs.declared.job.JobView.{JobView}
 use Rattle.cam_types.specs.declared.row.RowView.{RowView}

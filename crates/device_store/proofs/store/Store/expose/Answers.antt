@@ -1,14 +1,12 @@
-use Rattle.std.proofs.Common.{◌≡◌, ℕ, Some, None, length, refl, sym, ◌∙◌, ap}
+use Rattle.std.proofs.Common.{◌≡◌, Some, length, refl, sym, ◌∙◌, ap}
 use Rattle.std.specs.Vec.{vec_capacity}
-use Rattle.std.specs.Option.{option_map}
 use Rattle.cam_types.specs.declared.row.RowView.{RowView}
-use Rattle.cam_types.specs.declared.row.SensorPlace.{SensorPlace}
 use Rattle.device_rows.specs.Jobs.{sensor_job}
 use Rattle.device_rows.specs.Rows.{row_at}
 use Rattle.cam_types.specs.declared.job.JobView.{JobView}
 use Rattle.device_store.specs.Kept.{slot_of}
 use Rattle.device_store.specs.Stored.{specs_of, views}
-use Rattle.device_store.proofs.Agree.{placed-parts, range-none}
+use Rattle.device_store.proofs.Agree.{range-none}
 use Rattle.device_store.proofs.Moves.{dark-at, dark-row, exposed-moved}
 use Rattle.device_store.proofs.Outs.{slot-spare, some-none, some-same, spare-away, spare-home}
 use Rattle.device_store.proofs.Steps.{slot-at, slot-within, stands}

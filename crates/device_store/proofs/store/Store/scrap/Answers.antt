@@ -1,5 +1,5 @@
-use Rattle.std.proofs.Common.{◌≡◌, ◌∙◌, refl, ap}
-use Rattle.fence_tokens.specs.Fences.{FencesMade, made}
+use Rattle.std.proofs.Common.{◌∙◌, refl, ap}
+use Rattle.fence_tokens.specs.Fences.{made}
 use Rattle.device_store.specs.Stored.{specs_of}
 use Rattle.device_store.specs.Unpacked.{is_made_row}
 use Rattle.device_store.proofs.Scrapped.{all-last, made-rows}

@@ -1,9 +1,8 @@
-use Rattle.std.proofs.Common.{◌≡◌, ℕ, Some, None, length, refl, sym, ◌∙◌, ap}
+use Rattle.std.proofs.Common.{◌≡◌, Some, length, refl, sym, ◌∙◌, ap}
 use Rattle.std.specs.Vec.{vec_capacity}
 use Rattle.cam_types.specs.declared.job.JobView.{JobView}
-use Rattle.cam_types.specs.declared.number.FrameNo.{FrameNo}
 use Rattle.cam_types.specs.declared.row.RowView.{RowView}
-use Rattle.device_rows.specs.Rows.{row_at, sensor_home, with_row}
+use Rattle.device_rows.specs.Rows.{row_at}
 use Rattle.device_store.specs.Held.{as_exposed}
 use Rattle.device_store.specs.Stored.{views}
 use Rattle.device_store.specs.declared.readouts.Slot.TheVariants.{Home}

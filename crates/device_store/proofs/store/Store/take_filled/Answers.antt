@@ -1,4 +1,4 @@
-use Rattle.std.proofs.Common.{◌≡◌, Some, None, length, slice_get, if◌then◌else◌, refl, sym, ◌∙◌, ap}
+use Rattle.std.proofs.Common.{length, ◌∙◌}
 use Rattle.std.specs.Vec.{vec_capacity}
 use Rattle.device_store.specs.Kept.{filled_for}
 use Rattle.device_store.specs.Steps.{is_filled}
