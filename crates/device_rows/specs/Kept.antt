@@ -1,6 +1,7 @@
-use Rattle.std.specs.Prelude.{ℕ, ◌==◌, ◌+◌, Bool, true, false, ◌&&◌, not, List, [], ◌∷◌, is_none, nat_le, nat_lt}
+use Rattle.std.specs.Prelude.{ℕ, ◌==◌, ◌+◌, Bool, true, false, ◌&&◌, ◌||◌, not, List, [], ◌∷◌, Option, Some, None, is_none, nat_le, nat_lt}
 use Rattle.std.specs.List.{list_all}
 use Rattle.cam_types.specs.Four.{four_list}
+use Rattle.cam_types.specs.declared.number.FenceNo.{FenceNo}
 use Rattle.cam_types.specs.declared.row.RowView.{RowView}
 use Rattle.cam_types.specs.declared.row.SensorPlace.{SensorPlace}
 use Rattle.cam_types.specs.declared.row.SensorPlace.TheVariants.{NotYet, WithFill}
@@ -31,3 +32,17 @@ is_fresh row =
 abbrev pub rise_from : ℕ → ℕ → List TargetView → Bool
 rise_from low streams [] = true
 rise_from low streams (target ∷ targets) = (nat_le low target.stream.0 && nat_lt target.stream.0 streams) && rise_from (target.stream.0 + 1) streams targets
+
+-- ---- fences (camera3.h, camera3_stream_buffer, acquire_fence)
+
+-- the fence is none, or one of so many that were made
+abbrev pub is_made : ℕ → Option FenceNo → Bool
+is_made made (Some f) = nat_lt f.0 made
+is_made made None = true
+
+-- a buffer that waits has the waiter of such a fence
+abbrev pub has_made_fence : ℕ → TargetView → Bool
+has_made_fence made target = not (is_state target.state Waiting) || is_made made target.fence
+
+abbrev pub have_made_fences : ℕ → RowView → Bool
+have_made_fences made row = list_all (has_made_fence made) (four_list row.targets)

@@ -1,6 +1,6 @@
 use Rattle.std.specs.Prelude.{ℕ, ◌==◌, ◌+◌, Bool, true, false, ◌&&◌, ◌||◌, not, if◌then◌else◌, List, find, Option, Some, None, is_some}
 use Rattle.cam_types.specs.Metadata.{part_at}
-use Rattle.cam_types.specs.Rows.{awaits_metadata}
+use Rattle.cam_types.specs.Rows.{awaits_metadata, is_open}
 use Rattle.cam_types.specs.declared.number.FenceNo.{FenceNo}
 use Rattle.cam_types.specs.declared.part.Part.{Part}
 use Rattle.cam_types.specs.declared.row.RowView.{RowView}
@@ -159,3 +159,13 @@ may_return_failed row target =
 
 abbrev pub is_failed_return_ready : List RowView → ℕ → ℕ → Bool
 is_failed_return_ready rows n s = target_passes may_return_failed s (row_at n rows)
+
+-- ---- the end of a frame (camera3.h, process_capture_result: its metadata and all its buffers came back)
+
+-- the row stands, and its frame isn't open any more
+abbrev pub is_done : Option RowView → Bool
+is_done (Some row) = not (is_open row)
+is_done None = false
+
+abbrev pub is_retire_ready : List RowView → ℕ → Bool
+is_retire_ready rows n = is_done (row_at n rows)

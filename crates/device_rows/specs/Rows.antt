@@ -1,4 +1,4 @@
-use Rattle.std.specs.Prelude.{ℕ, ◌==◌, if◌then◌else◌, List, map, find, Option, Some, None}
+use Rattle.std.specs.Prelude.{ℕ, ◌==◌, not, if◌then◌else◌, List, filter, map, find, Option, Some, None}
 use Rattle.std.specs.Option.{option_and_then}
 use Rattle.cam_types.specs.Four.{four_list}
 use Rattle.cam_types.specs.declared.number.StreamIx.{StreamIx}
@@ -29,6 +29,10 @@ target_in n s rows = option_and_then (target_at s) (row_at n rows)
 -- the rows with the one of frame n changed
 abbrev pub with_row : ℕ → (RowView → RowView) → List RowView → List RowView
 with_row n change rows = map (λ row. if row.frame.0 == n then change row else row) rows
+
+-- the rows without the one of frame n
+abbrev pub without : ℕ → List RowView → List RowView
+without n rows = filter (λ row. not (row.frame.0 == n)) rows
 
 -- ---- what a step makes of its frame's row
 

@@ -3,3 +3,4 @@ pub mod Reach
 pub mod RowsLemmas
 pub mod Places
 pub mod Marked
+pub mod Front

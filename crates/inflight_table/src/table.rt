@@ -1,4 +1,4 @@
-ghost use Rattle.std.specs.Prelude.{◌≡◌, ◌+◌, ◌<◌, ◌≤◌, ◌↔◌, [], ◌∷◌, ◌++◌, length, map, position, if◌then◌else◌, is_some, slice_get, IfErr, IfOk, IfSome, IsErr, IsTrue, OnErr, OnOk};
+ghost use Rattle.std.specs.Prelude.{◌≡◌, ◌+◌, ◌<◌, ◌≤◌, ◌↔◌, [], ◌∷◌, ◌++◌, length, map, position, if◌then◌else◌, is_some, slice_get, IfErr, IfOk, IfSome, IsErr, IsNone, IsTrue, OnErr, OnOk};
 ghost use Rattle.std.specs.List.{list_all};
 ghost use Rattle.std.specs.Option.{option_and_then, option_map};
 ghost use Rattle.inflight_table.specs.Rows.{are_apart, are_below, are_in_order, has_place, is_cleared, is_of, is_one_each, is_sound, parked_for, passes, row_of, view_of, with_mark, with_parked, with_row, with_rows, without};
@@ -156,6 +156,16 @@ impl<B> Table<B> {
         }
         discard(self.rows.remove(place));
         true
+    }
+
+    /// Takes out the last row, with what is parked in it. None exactly where no row stands.
+    pub fn pop(&mut self) -> Option<Row<B>>
+        ensures none { IsNone result ↔ (self.old.rows ≡ []) }
+        ensures last { IfSome result (λ row. self.old.rows ≡ self.new.rows ++ row ∷ []) }
+        ensures capacity { self.new.capacity ≡ self.old.capacity }
+        ensures unchanged { IsNone result → self.new ≡ self.old }
+    {
+        self.rows.pop()
     }
 
     /// Whether no row stands.

@@ -1,15 +1,14 @@
-use Rattle.std.specs.Prelude.{◌≡◌, ℕ, ◌==◌, Bool, true, false, ◌&&◌, ◌||◌, not, List, [], ◌∷◌, Option, Some, None, is_none, nat_le, nat_lt, count_by, if◌then◌else◌}
+use Rattle.std.specs.Prelude.{◌≡◌, ℕ, ◌==◌, Bool, true, false, ◌&&◌, ◌||◌, not, List, [], ◌∷◌, is_none, nat_le, nat_lt, count_by, if◌then◌else◌}
 use Rattle.std.specs.List.{list_all, list_any}
 use Rattle.cam_types.specs.Four.{four_list}
 use Rattle.cam_types.specs.Metadata.{range_fault}
-use Rattle.cam_types.specs.declared.number.FenceNo.{FenceNo}
 use Rattle.cam_types.specs.declared.row.RowView.{RowView}
 use Rattle.cam_types.specs.declared.row.SensorPlace.{SensorPlace}
 use Rattle.cam_types.specs.declared.row.SensorPlace.TheVariants.{Home, WithFill}
 use Rattle.cam_types.specs.declared.row.TargetState.{TargetState}
 use Rattle.cam_types.specs.declared.row.TargetState.TheVariants.{Filled, EarlyFilled, ReturnedOk}
 use Rattle.device_rows.specs.Jobs.{is_fill_out}
-use Rattle.device_rows.specs.Kept.{is_with_fill, rise_from}
+use Rattle.device_rows.specs.Kept.{is_made, is_with_fill, rise_from}
 
 -- What the rows of a run meet, which the device asks of those that it is given.
 
@@ -51,13 +50,9 @@ is_in_range row = is_none (range_fault row.settings)
 abbrev pub has_few_parts : RowView → Bool
 has_few_parts row = nat_le row.parts 3
 
--- the acquire fence is none, or one of so many that were released (camera3.h, camera3_stream_buffer, acquire_fence)
-abbrev pub is_given_by : ℕ → Option FenceNo → Bool
-is_given_by released (Some f) = nat_lt f.0 released
-is_given_by released None = true
-
+-- each acquire fence is one of so many that were released (camera3.h, camera3_stream_buffer, acquire_fence)
 abbrev pub has_given_fences : ℕ → RowView → Bool
-has_given_fences released row = list_all (λ target. is_given_by released target.fence) (four_list row.targets)
+has_given_fences released row = list_all (λ target. is_made released target.fence) (four_list row.targets)
 
 -- how many buffers of the row a stage fills
 abbrev pub fills_out : RowView → ℕ

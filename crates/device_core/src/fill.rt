@@ -1,0 +1,59 @@
+ghost use Rattle.std.specs.Prelude.{◌≡◌, ◌↔◌, None, Some, IfSome, IsNone, IsSome, IsTrue};
+ghost use Rattle.std.specs.List.{list_all};
+ghost use Rattle.device_rows.specs.Kept.{have_made_fences};
+ghost use Rattle.device_rows.specs.Ready.{is_fill_ready, is_passed, may_fill};
+ghost use Rattle.device_rows.specs.Rows.{fill_begun, row_at, with_row};
+ghost use Rattle.device_store.specs.Steps.{fill_job_for};
+ghost use Rattle.device_store.specs.Stored.{specs_of};
+ghost use Rattle.fence_tokens.specs.Fences.{is_signalled, made};
+ghost use Rattle.device_core.specs.View.{with_rows};
+
+use crate::device::Device;
+use cam_types::{Fault, FenceNo, FrameNo, RowView, StreamIx, TargetState, TargetView};
+use device_rows::{is_home, is_sound, is_state, target_at};
+use fence_tokens::Fences;
+use fill_jobs::FillJob;
+
+impl Device {
+    /// Gives a stage the job of filling a target's buffer, with the frame's readout. None exactly where the buffer can't
+    /// be taken: it or its frame failed or will, it doesn't wait, the readout isn't home, or its acquire fence isn't
+    /// signalled. The fences of buffers that wait were made by these.
+    pub fn take_fill(
+        &mut self,
+        frame: FrameNo,
+        stream: StreamIx,
+        fences: &mut Fences,
+    ) -> Option<FillJob>
+        requires { IsTrue (list_all (have_made_fences (made fences.old)) self.old.rows) }
+        ensures ready { IsSome result ↔ IsTrue (is_fill_ready self.old.faults (λ f. is_signalled f fences.old) self.old.rows frame.0 stream.0) }
+        ensures job { IfSome result (λ job. fill_job_for (specs_of self.old.plan) stream.0 (row_at frame.0 self.old.rows) ≡ Some job) }
+        ensures rows { IsSome result → self.new ≡ with_rows (with_row frame.0 (fill_begun stream) self.old.rows) self.old }
+        ensures unchanged { IsNone result → self.new ≡ self.old }
+        ensures fences { fences.new ≡ fences.old }
+    {
+        let row = self.store.view(frame)?;
+        let target = target_at(row, stream)?;
+        if !may_fill(self.faults.as_slice(), row, target, fences) {
+            return None;
+        }
+        Some(self.store.begin_fill(frame, stream, fences))
+    }
+}
+
+/// Whether the acquire fence is none or signalled.
+fn is_passed(fence: Option<FenceNo>, fences: &Fences) -> bool
+    ensures { result ≡ is_passed (λ f. is_signalled f fences.now) fence }
+{
+    match fence {
+        Some(fence) => fences.signalled(fence.0),
+        None => true,
+    }
+}
+
+/// Whether a stage may take the buffer.
+fn may_fill(faults: &[Fault], row: RowView, target: TargetView, fences: &Fences) -> bool
+    ensures { result ≡ may_fill faults.now (λ f. is_signalled f fences.now) row target }
+{
+    (is_sound(faults, row, target) && is_state(target.state, TargetState::Waiting))
+        && (is_home(row.sensor) && is_passed(target.fence, fences))
+}

@@ -1,0 +1,13 @@
+pub mod General
+pub mod Views
+pub mod Targets
+pub mod Admission
+pub mod Agree
+pub mod Steps
+pub mod Ops
+pub mod OneMark
+pub mod Moves
+pub mod Outs
+pub mod Books
+pub mod Retired
+pub mod Scrapped

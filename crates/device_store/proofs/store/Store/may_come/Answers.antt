@@ -1,0 +1,14 @@
+use Rattle.std.proofs.Common.{◌∙◌, ap}
+use Rattle.notify_order.proofs.Books.{streams-all}
+use Rattle.notify_order.specs.Order.{Order, may_come}
+use Rattle.device_store.specs.Stored.{views}
+use Rattle.device_store.proofs.Books.{known-rows}
+use Rattle.device_store.proofs.store.Store.may_come.Goals as goal
+
+pub book_of-requires : goal.book_of-requires
+book_of-requires c = known-rows c.self.inside.plan (views c.self.inside.table.rows) c.self.invariant.each
+
+pub returns : goal.returns
+returns c =
+    let known = known-rows c.self.inside.plan (views c.self.inside.table.rows) c.self.invariant.each in
+    rw (← c.self.view_is) (c.may_deliver.ensures ∙ (ap (λ (z : Order). may_come c.args.frame.0 c.args.stream.0 z) c.book_of.ensures ∙ streams-all (views c.self.inside.table.rows) c.args.frame.0 c.args.stream.0 known))

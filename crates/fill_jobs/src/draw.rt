@@ -1,0 +1,22 @@
+ghost use Rattle.std.specs.Prelude.{◌≡◌, ◌≤◌, length, IsTrue};
+ghost use Rattle.std.specs.List.{All};
+ghost use Rattle.cam_types.specs.Picture.{is_offered, length_in, picture_of};
+ghost use Rattle.sha2.specs.Sha256.{sha256};
+
+use cam_types::{Format, PixelBuf, Readout, StreamSpec};
+use raw_stage::fill_raw;
+use yuv_stage::fill_yuv;
+
+/// Draws a stream's picture of the readout into a buffer of its length, and answers the SHA-256 of it.
+pub(crate) fn draw(readout: &Readout, spec: StreamSpec, pixels: &mut PixelBuf) -> [u8; 32]
+    requires values { All (λ v. (64 ≤ v) × (v ≤ 1023)) readout.now }
+    requires offered { IsTrue (is_offered spec) }
+    requires room { length pixels.old.bytes ≡ length_in spec.format spec.width spec.height }
+    ensures picture { pixels.new ≡ record { id = pixels.old.id; bytes = picture_of spec.format spec.width spec.height readout.now; block = pixels.old.block } }
+    ensures digest { result ≡ sha256 (picture_of spec.format spec.width spec.height readout.now) }
+{
+    match spec.format {
+        Format::Raw16 => fill_raw(readout, pixels),
+        _ => fill_yuv(readout, spec.width, spec.height, pixels),
+    }
+}

@@ -1,0 +1,165 @@
+ghost use Rattle.std.specs.Prelude.{◌≡◌, ◌≤◌, Some, None, IsTrue};
+ghost use Rattle.cam_types.specs.Metadata.{range_fault};
+ghost use Rattle.cam_types.specs.Picture.{is_offered, readout as readout_of};
+ghost use Rattle.fill_jobs.specs.Buffers.{IsBufferFor, IsPictureOf, IsStreamAt};
+
+use crate::draw::draw;
+use cam_types::{FillTarget, FrameNo, PixelBuf, Readout, Settings, StreamIx};
+use sensor_sim::a_readout_lies_between_dark_and_full;
+use std::marker::Model;
+
+/// A buffer that a stage is to fill with the picture of a frame, with the frame's readout. It must be spent: it is
+/// neither dropped nor copied, and ends by `fill` alone.
+pub struct FillJob {
+    frame: FrameNo,
+    settings: Settings,
+    target: FillTarget,
+    readout: Readout,
+    pixels: PixelBuf,
+}
+
+impl Model for FillJob {
+    ghost use Rattle.std.specs.Prelude.{Some};
+    ghost use Rattle.cam_types.specs.declared.job.JobView.{JobView};
+    ghost use Rattle.fill_jobs.specs.Buffers.{IsFillOf};
+
+    ghost Value = { JobView };
+
+    ghost view = { λ j. record { frame = j.frame; settings = j.settings; fill = Some j.target } };
+
+    ghost invariant = { λ j. IsFillOf j.settings j.frame.0 j.target j.readout j.pixels };
+}
+
+/// A buffer that a stage filled: it shows the picture of its frame, settings and stream, and its digest is that
+/// picture's. It must be spent: it is neither dropped nor copied, and ends by `into_parts` alone.
+pub struct FilledJob {
+    frame: FrameNo,
+    settings: Settings,
+    target: FillTarget,
+    readout: Readout,
+    pixels: PixelBuf,
+    digest: [u8; 32],
+}
+
+impl Model for FilledJob {
+    ghost use Rattle.std.specs.Prelude.{Some};
+    ghost use Rattle.cam_types.specs.declared.job.JobView.{JobView};
+    ghost use Rattle.fill_jobs.specs.Buffers.{IsFilledOf};
+
+    ghost Value = { JobView };
+
+    ghost view = { λ j. record { frame = j.frame; settings = j.settings; fill = Some j.target } };
+
+    ghost invariant = { λ j. IsFilledOf j.settings j.frame.0 j.target j.readout j.pixels j.digest };
+}
+
+impl FillJob {
+    /// A job for a frame whose settings are in range and a stream that is offered: with the frame's readout, and with
+    /// the target's buffer, which has the picture's length and a whole block. What the buffer shows doesn't matter.
+    pub fn new(
+        frame: FrameNo,
+        settings: Settings,
+        target: FillTarget,
+        readout: Readout,
+        pixels: PixelBuf,
+    ) -> FillJob
+        requires range { range_fault settings ≡ None }
+        requires offered { IsTrue (is_offered target.spec) }
+        requires values { readout ≡ readout_of settings frame.0 }
+        requires pixels { IsBufferFor target.spec target.buffer pixels }
+        ensures { result ≡ record { frame = frame; settings = settings; fill = Some target } }
+    {
+        FillJob {
+            frame,
+            settings,
+            target,
+            readout,
+            pixels,
+        }
+    }
+
+    /// The number of the frame.
+    pub fn frame(&self) -> FrameNo
+        ensures { result ≡ self.now.frame }
+    {
+        self.frame
+    }
+
+    /// The stream whose buffer is filled.
+    pub fn stream(&self) -> StreamIx
+        ensures { IsStreamAt result.0 self.now.fill }
+    {
+        self.target.stream
+    }
+
+    /// Fills the buffer with the picture. It takes no lock and no memory.
+    pub fn fill(self) -> FilledJob
+        ensures { result ≡ self }
+    {
+        a_readout_lies_between_dark_and_full();
+        let FillJob {
+            frame,
+            settings,
+            target,
+            readout,
+            mut pixels,
+        } = self;
+        let digest = draw(&readout, target.spec, &mut pixels);
+        FilledJob {
+            frame,
+            settings,
+            target,
+            readout,
+            pixels,
+            digest,
+        }
+    }
+}
+
+impl FilledJob {
+    /// The number of the frame.
+    pub fn frame(&self) -> FrameNo
+        ensures { result ≡ self.now.frame }
+    {
+        self.frame
+    }
+
+    /// The settings of the frame.
+    pub fn settings(&self) -> Settings
+        ensures { result ≡ self.now.settings }
+    {
+        self.settings
+    }
+
+    /// The buffer that was filled.
+    pub fn target(&self) -> FillTarget
+        ensures { self.now.fill ≡ Some result }
+    {
+        self.target
+    }
+
+    /// The stream whose buffer was filled.
+    pub fn stream(&self) -> StreamIx
+        ensures { IsStreamAt result.0 self.now.fill }
+    {
+        self.target.stream
+    }
+
+    /// The frame's readout, and the buffer with its digest: it is the target's, over a whole block, and shows the
+    /// frame's picture.
+    pub fn into_parts(self) -> (Readout, PixelBuf, [u8; 32])
+        ensures values { result.0 ≡ readout_of self.settings self.frame.0 }
+        ensures picture { IsPictureOf self result.1 result.2 }
+        ensures range { range_fault self.settings ≡ None }
+    {
+        let FilledJob {
+            frame: _,
+            settings: _,
+            target: _,
+            readout,
+            pixels,
+            digest,
+        } = self;
+        (readout, pixels, digest)
+    }
+}
