@@ -1,3 +1,4 @@
+//! The device, and the calls that take in what comes to it.
 ghost use Rattle.std.specs.Prelude.{◌≡◌, ◌<◌, ◌≤◌, ◌↔◌, [], ◌∷◌, ◌++◌, None, Some, IfErr, IfOk, IfSome, IsErr, IsTrue, OnErr, OnOk, length, slice_get};
 ghost use Rattle.std.specs.List.{list_all};
 ghost use Rattle.cam_types.specs.Four.{four_list};

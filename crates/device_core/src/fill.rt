@@ -1,3 +1,4 @@
+//! A stage takes a buffer.
 ghost use Rattle.std.specs.Prelude.{◌≡◌, ◌↔◌, None, Some, IfSome, IsNone, IsSome, IsTrue};
 ghost use Rattle.std.specs.List.{list_all};
 ghost use Rattle.device_rows.specs.Kept.{have_made_fences};

@@ -1,3 +1,4 @@
+//! Rows that are done with go, and the device ends.
 ghost use Rattle.std.specs.Prelude.{◌≡◌, not, IsFalse, IsTrue};
 ghost use Rattle.std.specs.List.{list_all};
 ghost use Rattle.fence_tokens.specs.Fences.{made};

@@ -1,3 +1,4 @@
+//! The faults that a device shall have at a frame.
 ghost use Rattle.std.specs.Prelude.{◌≡◌};
 ghost use Rattle.device_rows.specs.Faults.{fault_at, fault_of_buffer, fault_of_device, fault_of_request, fault_of_result, faults_of};
 ghost use Rattle.trace_model.specs.Faults.{fails_buffer, fails_device, fails_request, fails_result};

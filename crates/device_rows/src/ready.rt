@@ -1,3 +1,4 @@
+//! Which step a row is ready for.
 ghost use Rattle.std.specs.Prelude.{◌≡◌, ◌&&◌, ◌||◌, not};
 ghost use Rattle.device_rows.specs.Ready.{is_home, is_sensor_out, is_sound, is_state, may_expose, may_return_failed};
 

@@ -1,3 +1,4 @@
+//! The target of a stream in a row.
 ghost use Rattle.std.specs.Prelude.{◌≡◌, ◌==◌, option_to_list};
 ghost use Rattle.std.specs.List.{find};
 ghost use Rattle.device_rows.specs.Rows.{target_at};

@@ -1,3 +1,4 @@
+//! Buffers as the store holds them: waiting, with the waiter of their fence, or filled, with the digest.
 ghost use Rattle.std.specs.Prelude.{◌≡◌, Some};
 ghost use Rattle.fill_jobs.specs.Buffers.{IsBufferFor, IsPictureFor, IsPictureOf};
 

@@ -1,3 +1,4 @@
+//! The sensor takes a readout and gives it back.
 ghost use Rattle.std.specs.Prelude.{◌≡◌, Some, IsTrue};
 ghost use Rattle.std.specs.Option.{option_map};
 ghost use Rattle.device_rows.specs.Jobs.{IsSensorJobOut, sensor_job};

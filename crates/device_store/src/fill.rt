@@ -1,3 +1,4 @@
+//! A stage takes a buffer with the readout, and gives both back.
 ghost use Rattle.std.specs.Prelude.{◌≡◌, ◌<◌, None, Some, true, IfSome, IsTrue};
 ghost use Rattle.cam_types.specs.Metadata.{range_fault};
 ghost use Rattle.cam_types.specs.Picture.{is_offered};

@@ -1,3 +1,4 @@
+//! Buffers leave the store: filled, early or failed.
 ghost use Rattle.std.specs.Prelude.{◌≡◌, ◌<◌, None, Some, true, IfSome, IsTrue};
 ghost use Rattle.std.specs.Option.{option_and_then, option_map};
 ghost use Rattle.fence_tokens.specs.Fences.{is_signalled, made};

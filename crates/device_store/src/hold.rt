@@ -1,3 +1,4 @@
+//! The buffers of a request, as they are held at first.
 ghost use Rattle.std.specs.Prelude.{◌≡◌};
 ghost use Rattle.device_store.specs.Kept.{waiting_at, waiting_in};
 ghost use Rattle.device_store.specs.Stored.{AreParked, IsParkedAt, specs_of};

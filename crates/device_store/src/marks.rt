@@ -1,3 +1,4 @@
+//! What is noted of a row: parts, errors, a stop.
 ghost use Rattle.std.specs.Prelude.{◌≡◌, is_some, IsTrue};
 ghost use Rattle.device_rows.specs.Rows.{all_stopped, row_at, with_error, with_part, with_row};
 ghost use Rattle.device_store.specs.Steps.{is_lit, is_timely};

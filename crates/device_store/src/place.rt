@@ -1,3 +1,4 @@
+//! Where the row of a frame stands, and the readout beside it.
 ghost use Rattle.std.specs.Prelude.{◌≡◌, ◌<◌, IfSome, IsNone, IsTrue, None, Some, length, slice_get, slice_set, vec_capacity};
 ghost use Rattle.std.specs.Option.{option_map};
 ghost use Rattle.device_rows.specs.Rows.{row_at};

@@ -1,3 +1,4 @@
+//! The specification of a stream of the plan.
 ghost use Rattle.std.specs.Prelude.{◌≡◌, ◌++◌, List, Some, IfErr, IfOk, map, option_to_list, slice_get};
 ghost use Rattle.device_store.specs.Stored.{spec_of, specs_of};
 ghost use Rattle.stream_config.specs.declared.plan.PlanStream.{PlanStream as AStream};

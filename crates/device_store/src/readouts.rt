@@ -1,3 +1,4 @@
+//! Readouts as the store holds them: spare, home or away.
 ghost use Rattle.std.specs.Prelude.{◌≡◌, None};
 ghost use Rattle.cam_types.specs.Picture.{readout as readout_of};
 ghost use Rattle.device_store.specs.Held.{as_exposed};

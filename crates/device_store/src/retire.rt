@@ -1,3 +1,4 @@
+//! The row of a frame that is done with goes, and its readout is spare again.
 ghost use Rattle.std.specs.Prelude.{◌≡◌, IsTrue};
 ghost use Rattle.device_rows.specs.Ready.{is_retire_ready};
 ghost use Rattle.device_rows.specs.Rows.{without};

@@ -1,3 +1,4 @@
+//! The store ends, and spends all that it holds.
 ghost use Rattle.std.specs.Prelude.{◌≡◌, ◌<◌, not, IfSome, IsTrue};
 ghost use Rattle.std.specs.List.{list_all};
 ghost use Rattle.fence_tokens.specs.Fences.{made};

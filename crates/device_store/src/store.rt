@@ -1,3 +1,4 @@
+//! The store: rows of the open frames with all that is held for them.
 ghost use Rattle.std.specs.Prelude.{◌≡◌, ◌<◌, ◌≤◌, ◌↔◌, [], ◌∷◌, ◌++◌, None, true, IfErr, IfOk, IfSome, IsErr, IsTrue, OnErr, OnOk, length, slice_get, vec_capacity};
 ghost use Rattle.std.specs.List.{list_all, list_any};
 ghost use Rattle.cam_types.specs.Four.{four_list};

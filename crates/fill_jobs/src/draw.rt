@@ -1,3 +1,4 @@
+//! Draws a picture into a buffer, by the stage of its format.
 ghost use Rattle.std.specs.Prelude.{◌≡◌, ◌≤◌, length, IsTrue};
 ghost use Rattle.std.specs.List.{All};
 ghost use Rattle.cam_types.specs.Picture.{is_offered, length_in, picture_of};

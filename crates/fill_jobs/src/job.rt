@@ -1,3 +1,4 @@
+//! Jobs of stages: to be filled, and filled.
 ghost use Rattle.std.specs.Prelude.{◌≡◌, ◌≤◌, Some, None, IsTrue};
 ghost use Rattle.cam_types.specs.Metadata.{range_fault};
 ghost use Rattle.cam_types.specs.Picture.{is_offered, readout as readout_of};

@@ -1,3 +1,4 @@
+//! The laws on the device's rows can be called.
 use super::{
     deliveries_are_read, each_move_changes_the_rows, early_returns_are_read, errors_are_read,
     failed_returns_are_read, fill_jobs_are_read, fills_are_read, frames_are_in_order,
