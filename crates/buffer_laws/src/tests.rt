@@ -1,3 +1,4 @@
+//! The laws on buffers can be called.
 use super::{
     breaches_are_seen, buffers_are_conserved, buffers_end_once, deliveries_are_in_order,
     fences_are_released_and_signalled_once,

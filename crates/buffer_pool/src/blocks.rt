@@ -1,3 +1,4 @@
+//! The memory of buffers: blocks that pools lend and give back.
 ghost use Rattle.std.specs.Prelude.{◌≡◌, ◌<◌, length, IfOk};
 ghost use Rattle.buffer_pool.specs.Blocks.{block_length, free_of, full_blocks, lent_of, with_lent, with_returned};
 

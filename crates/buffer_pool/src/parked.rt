@@ -1,3 +1,4 @@
+//! A buffer at rest, with the waiter of its fence.
 ghost use Rattle.std.specs.Prelude.{◌≡◌, ◌<◌, length, IfSome, IsTrue};
 ghost use Rattle.fence_tokens.specs.Fences.{made};
 ghost use Rattle.buffer_pool.specs.Parked.{has_made_waiter};

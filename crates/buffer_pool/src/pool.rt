@@ -1,3 +1,4 @@
+//! The pool of a stream: its buffers that are at home.
 ghost use Rattle.std.specs.Prelude.{◌≡◌, ◌↔◌, ◌+◌, ◌^◌, ◌<◌, ◌≤◌, [], IfOk, IfSome, IsNone, IsTrue, drop, nat_le, slice_get, false};
 ghost use Rattle.std.specs.List.{list_all};
 ghost use Rattle.cam_types.specs.Picture.{is_offered, length_in};

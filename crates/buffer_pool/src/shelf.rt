@@ -1,3 +1,4 @@
+//! Blocks of one length, lent one by one.
 ghost use Rattle.std.specs.Prelude.{◌≡◌, ◌+◌, ◌-◌, ◌<◌, length, IfOk};
 ghost use Rattle.buffer_pool.specs.Shelf.{full_shelf};
 

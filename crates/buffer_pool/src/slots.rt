@@ -1,3 +1,4 @@
+//! The places of a pool, one for each of its buffers.
 ghost use Rattle.std.specs.Prelude.{◌≡◌, ◌<◌, ℕ, None, Some, true, IfSome, drop, is_some, length, slice_get, slice_index_or, slice_set};
 ghost use Rattle.std.specs.List.{position_from};
 ghost use Rattle.buffer_pool.specs.Slots.{empty_slots, homes, stand_in};

@@ -1,3 +1,4 @@
+//! Up to four values, in places.
 /// Up to four values, filled from `a` on.
 #[derive(Clone, Copy, Debug, PartialEq, Eq)]
 pub struct Four<T> {

@@ -1,3 +1,4 @@
+//! What a capture asks for: settings and targets.
 ghost use Rattle.std.specs.Prelude.{◌≡◌, ◌==◌};
 ghost use Rattle.std.specs.List.{list_all};
 ghost use Rattle.cam_types.specs.Script.{item_fits, settings_fit, targets_fit};

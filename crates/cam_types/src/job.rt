@@ -1,3 +1,4 @@
+//! What contracts see of the jobs of sensor and stages.
 use crate::item::Settings;
 use crate::number::{BufferId, FrameNo, StreamIx};
 use crate::stream::StreamSpec;

@@ -1,3 +1,4 @@
+//! The limits and fixed numbers of the camera.
 /// The most bytes that a script's text may have.
 pub const SCRIPT_BYTES: usize = 65_536;
 

@@ -1,3 +1,4 @@
+//! Lists that contracts see as their entries.
 ghost use Rattle.std.specs.Prelude.{◌≡◌, ◌+◌, ◌<◌, ◌++◌, ◌∷◌, [], length, OnOk, OnErr, slice_get, option_copied, is_some, nat_lt};
 
 use std::alloc::{AllocError, Global};

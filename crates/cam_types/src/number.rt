@@ -1,3 +1,4 @@
+//! Numbers of frames, buffers, fences, streams and requests, each a type of its own.
 /// The number of a frame: frames are numbered as they are sent or dropped, from 0 on.
 #[derive(Clone, Copy, Debug, PartialEq, Eq, PartialOrd, Ord)]
 pub struct FrameNo(pub u32);

@@ -1,3 +1,4 @@
+//! The metadata results of a frame.
 /// One of the three metadata results of a frame.
 #[derive(Clone, Copy, Debug, PartialEq, Eq)]
 pub enum Part {

@@ -1,3 +1,4 @@
+//! A buffer of pixels, owned by one place at a time.
 ghost use Rattle.std.specs.Prelude.{◌≡◌, ◌≤◌, length, take};
 ghost use Rattle.std.specs.Borrow.{sem};
 ghost use Rattle.cam_types.specs.Pixels.{LendsBytes};

@@ -1,3 +1,4 @@
+//! What a device can do: depth, and buffers of each format.
 ghost use Rattle.std.specs.Prelude.{◌≡◌, ◌&&◌, nat_le, nat_lt, IsTrue};
 ghost use Rattle.cam_types.specs.Limits.{profile_limit};
 ghost use Rattle.cam_types.specs.Profile.{is_profile, is_profile_number, max_buffers, pool_size, profile_fits};

@@ -1,3 +1,4 @@
+//! The values of the sensor, owned by one place at a time.
 ghost use Rattle.std.specs.Prelude.{◌≡◌, length};
 ghost use Rattle.std.specs.Borrow.{sem};
 ghost use Rattle.cam_types.specs.Readouts.{LendsValues};

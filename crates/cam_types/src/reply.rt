@@ -1,3 +1,4 @@
+//! The replies of the service to calls.
 use crate::four::Four;
 use crate::number::{BufferId, RequestId};
 

@@ -1,3 +1,4 @@
+//! Items of the queue, as they wait and as their turn is.
 use crate::item::Item;
 use crate::number::RequestId;
 

@@ -1,3 +1,4 @@
+//! An open frame as the device keeps it: its row and targets.
 ghost use Rattle.std.specs.Prelude.{◌≡◌};
 ghost use Rattle.cam_types.specs.Rows.{are_settled, awaits_metadata, is_open, is_returned, is_settled, is_settled_at};
 

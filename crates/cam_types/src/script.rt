@@ -1,3 +1,4 @@
+//! Scripts: commands, faults and picks.
 ghost use Rattle.std.specs.Prelude.{◌≡◌, ◌&&◌, nat_le, nat_lt, sum_by};
 ghost use Rattle.std.specs.List.{list_all, list_any};
 ghost use Rattle.cam_types.specs.Limits.{awaited_limit};

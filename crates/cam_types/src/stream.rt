@@ -1,3 +1,4 @@
+//! Streams as a client asks for them.
 ghost use Rattle.std.specs.Prelude.{◌≡◌, ℕ, ◌↔◌, length, IsSome, IfSome, IsTrue};
 ghost use Rattle.cam_types.specs.Picture.{frame_length, is_offered, picture};
 ghost use Rattle.cam_types.specs.declared.item.Settings.{Settings as SomeSettings};

@@ -1,3 +1,4 @@
+//! Measures what a frame takes, by kinds of work.
 ghost use Rattle.std.specs.Prelude.{◌≡◌, ◌*◌, ◌/◌, ◌<◌, ◌≤◌, ◌^◌, None, IfOk, IsTrue, length};
 ghost use Rattle.std.specs.List.{All};
 ghost use Rattle.cam_types.specs.Metadata.{range_fault};

@@ -1,3 +1,4 @@
+//! Prints what was measured, beside the digest of as many bytes.
 use crate::measure::{Cost, exposed, ramp, time_digest, time_expose, time_raw, time_yuv};
 use cam_types::FrameNo;
 use std::io;

@@ -1,3 +1,4 @@
+//! The pictures that are measured are the defined ones, at chosen bytes.
 ghost use Rattle.std.specs.Prelude.{◌≡◌, None, IsTrue};
 ghost use Rattle.cam_types.specs.Metadata.{range_fault};
 ghost use Rattle.cam_types.specs.Picture.{is_yuv_size};

@@ -1,3 +1,4 @@
+//! How the program ends, and the answer that is written.
 ghost use Rattle.std.specs.Prelude.{◌≡◌, ◌⊎◌, ◌<◌, length};
 ghost use Rattle.io_edge.specs.States.{Writes};
 ghost use Rattle.camera_top.specs.Answers.{Answers};

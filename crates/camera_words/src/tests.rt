@@ -1,3 +1,4 @@
+//! Words have their forms.
 use super::*;
 use std::test::Fail;
 

@@ -1,3 +1,4 @@
+//! The errors that a device tells.
 use cam_types::{FrameNo, StreamIx};
 
 /// An error message (camera3.h, camera3_error_msg).

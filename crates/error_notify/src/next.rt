@@ -1,3 +1,4 @@
+//! Which of the errors that are due is told next.
 ghost use Rattle.std.specs.Prelude.{◌≡◌, ◌↔◌, IfSome, IsNone};
 ghost use Rattle.std.specs.Option.{option_map};
 ghost use Rattle.cam_types.specs.declared.number.FrameNo.{FrameNo as AFrame};

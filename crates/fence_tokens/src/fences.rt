@@ -1,3 +1,4 @@
+//! The fences that were made, and which are signalled.
 ghost use Rattle.std.specs.Prelude.{◌≡◌, ◌↔◌, ◌<◌, IfOk, IfErr, IsOk, IsTrue, OnOk, OnErr};
 ghost use Rattle.fence_tokens.specs.Fences.{is_signalled, made, no_fences, with_fence, with_signal};
 

@@ -1,3 +1,4 @@
+//! The two ends of a fence, which can only be spent.
 ghost use Rattle.std.specs.Prelude.{◌≡◌};
 
 use std::marker::Model;

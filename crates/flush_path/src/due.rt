@@ -1,3 +1,4 @@
+//! Which errors are due for an open frame.
 ghost use Rattle.std.specs.Prelude.{◌≡◌, ◌↔◌, IsTrue};
 ghost use Rattle.flush_path.specs.Due.{fails_in_part, fails_whole, is_awaited, is_bare, is_cut_short, is_some_true, is_true_at, is_untouched, misses_at, misses_buffer, misses_metadata, missing_buffers, verdict_of};
 

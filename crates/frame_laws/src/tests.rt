@@ -1,3 +1,4 @@
+//! The laws on frames can be called.
 use super::{
     items_end_once, metadata_ends_in_order, metadata_ends_once, partials_count_up, shutters_rise,
 };

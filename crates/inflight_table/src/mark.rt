@@ -1,3 +1,4 @@
+//! One change of a row.
 ghost use Rattle.std.specs.Prelude.{◌≡◌};
 ghost use Rattle.inflight_table.specs.Marks.{as_announced, if_of_stream, in_state, marked, with_target};
 

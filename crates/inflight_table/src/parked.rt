@@ -1,3 +1,4 @@
+//! What is parked for the targets of a row: put and taken by stream.
 ghost use Rattle.std.specs.Prelude.{◌≡◌, ◌&&◌, not, is_some, if◌then◌else◌};
 ghost use Rattle.inflight_table.specs.Rows.{has_target, is_for, parked_at, placed_at};
 

@@ -1,3 +1,4 @@
+//! The table of open frames.
 ghost use Rattle.std.specs.Prelude.{◌≡◌, ◌+◌, ◌<◌, ◌≤◌, ◌↔◌, [], ◌∷◌, ◌++◌, length, map, position, if◌then◌else◌, is_some, slice_get, IfErr, IfOk, IfSome, IsErr, IsNone, IsTrue, OnErr, OnOk};
 ghost use Rattle.std.specs.List.{list_all};
 ghost use Rattle.std.specs.Option.{option_and_then, option_map};

@@ -1,3 +1,4 @@
+//! The calls of an end in memory, some of which are to fail.
 // The calls of an end over memory, of which some are to fail.
 ghost use Rattle.std.specs.Prelude.{◌≡◌, ◌↔◌, [], OnOk, OnErr, IsOk, IsErr, IsTrue, Contains};
 ghost use Rattle.io_edge.specs.Faults.{Rose, one_more};

@@ -1,3 +1,4 @@
+//! A count of faults that never wraps.
 // How an end counts its faults.
 ghost use Rattle.std.specs.Prelude.{◌≡◌};
 ghost use Rattle.io_edge.specs.Faults.{Rose, one_more};

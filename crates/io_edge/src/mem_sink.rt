@@ -1,3 +1,4 @@
+//! A sink in memory, for tests: pieces, faults, full rooms.
 // A sink over memory, with room and pieces of a chosen size, and with calls that are to fail.
 ghost use Rattle.std.specs.Prelude.{ℕ, ◌≡◌, ◌↔◌, ◌⊎◌, ◌++◌, ◌-◌, ◌≤◌, ◌<◌, [], Some, IfOk, OnOk, OnErr, IsOkAnd, IsErr, Contains, length, take, min};
 ghost use Rattle.std.specs.Io.KnownBytes.{WriteAppends};

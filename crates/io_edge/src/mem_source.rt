@@ -1,3 +1,4 @@
+//! A source in memory, for tests: pieces and faults.
 // A source over memory, in pieces of a chosen size, with calls that are to fail.
 ghost use Rattle.std.specs.Prelude.{◌≡◌, ◌↔◌, ◌++◌, ◌≤◌, ◌<◌, [], Some, IfOk, OnOk, OnErr, IsOk, IsErr, Contains, length, drop, min};
 ghost use Rattle.std.specs.Io.KnownBytes.{ReadConsumes};

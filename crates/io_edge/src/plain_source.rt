@@ -1,3 +1,4 @@
+//! A source in memory that never fails.
 // A source over memory that never fails.
 ghost use Rattle.std.specs.Prelude.{◌≡◌, ◌≤◌, ◌++◌, Some, Ok, IfOk, IsOk, length, take, drop, min};
 ghost use Rattle.std.specs.Io.KnownBytes.{ReadConsumes};

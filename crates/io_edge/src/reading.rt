@@ -1,3 +1,4 @@
+//! Reads a source to its end, or to a limit.
 // Reads a source to its end.
 ghost use Rattle.std.specs.Prelude.{◌≡◌, ℕ, List, IfOk, IsErrOf};
 ghost use Rattle.std.specs.Io.KnownBytes.{Consumes};

@@ -1,3 +1,4 @@
+//! What bytes are written to.
 // What bytes are written to.
 ghost use Rattle.std.specs.Prelude.{◌≡◌, ◌≤◌, ◌<◌, ◌-◌, ℕ, length, IfOk, IsOkAnd};
 ghost use Rattle.std.specs.Io.KnownBytes.{WriteAppends};

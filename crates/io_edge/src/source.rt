@@ -1,3 +1,4 @@
+//! What bytes are read from.
 // What bytes are read from.
 ghost use Rattle.std.specs.Prelude.{◌≡◌, ◌≤◌, ℕ, List, Option, length, IfOk, IsOk};
 ghost use Rattle.std.specs.Io.KnownBytes.{ReadConsumes};

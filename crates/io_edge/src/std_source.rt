@@ -1,3 +1,4 @@
+//! Standard input as a source.
 // Standard input as a source.
 ghost use Rattle.std.specs.Prelude.{◌≡◌, IsOk, IfOk};
 

@@ -1,3 +1,4 @@
+//! Whole reads and writes, in pieces, with faults and full rooms.
 // Whole reads and writes over the ends, in pieces and with faults.
 ghost use Rattle.std.specs.Prelude.{◌≡◌, IfOk};
 

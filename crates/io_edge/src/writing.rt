@@ -1,3 +1,4 @@
+//! Writes all bytes to a sink.
 // Writes a whole piece.
 ghost use Rattle.std.specs.Prelude.{ℕ, ◌-◌, ◌≤◌, length, IsOk, OnOk, OnErr};
 ghost use Rattle.io_edge.specs.Faults.{Counts};

@@ -1,3 +1,4 @@
+//! The first refusal of one item: its targets, then its settings.
 ghost use Rattle.std.specs.Prelude.{◌≡◌, ◌==◌, ◌<◌, ◌^◌, [], not, nat_lt, find, take, length, reverse, option_copied};
 ghost use Rattle.std.specs.List.{list_any};
 ghost use Rattle.cam_types.specs.Refusals.{first_repeated, targets_refusal, item_refusal, items_refusal, list_refusal};

@@ -1,3 +1,4 @@
+//! Calls that wait are due once what they wait for is there.
 use crate::answer::is_call_due;
 use cam_types::{
     BufferId, Command, CommandList, FaultList, FenceNo, Format, Four, FrameNo, Item, ItemList,

@@ -1,3 +1,4 @@
+//! Entries say which buffers and fences they touch.
 use crate::command::{is_waiting_command, word_of};
 use crate::entry::{brings, is_early_with, is_late_with, returns_of_frame, returns_target};
 use crate::number::{next_early, next_fence};

@@ -1,3 +1,4 @@
+//! What a past says, entry by entry.
 use crate::call::begun;
 use crate::fence::fence_of;
 use crate::open::open_count;

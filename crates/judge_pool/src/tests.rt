@@ -1,3 +1,4 @@
+//! The pool and the room at the device, along a run.
 use crate::pool::all_in_pool;
 use crate::room::is_room_left;
 use cam_types::{

@@ -1,3 +1,4 @@
+//! Replies to commands, with each refusal.
 use crate::reply::{is_refused, is_reply};
 use cam_types::{
     BufferId, Command, CommandList, FaultList, Format, Four, FrameNo, Item, ItemList, Listing,

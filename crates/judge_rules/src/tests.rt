@@ -1,3 +1,4 @@
+//! Which entries of a run are due, and where.
 use crate::rule::{
     is_begin_due, is_early_due, is_partial_due, is_release_due, is_shutter_due, is_signal_due,
     late_due,

@@ -1,3 +1,4 @@
+//! Which sends are allowed, with mark and buffers.
 use crate::rule::is_send_due;
 use cam_types::{
     BufferId, Command, CommandList, FaultList, FenceNo, Format, Four, FrameNo, Item, ItemList,

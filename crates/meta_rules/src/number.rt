@@ -1,3 +1,4 @@
+//! Single numbers out of the values of an entry, and back.
 ghost use Rattle.std.specs.Prelude.{◌≡◌, Some};
 ghost use Rattle.metadata.specs.Entries.{values_at};
 ghost use Rattle.meta_rules.specs.Numbers.{one_byte as byte_of, one_int32 as int32_of, one_int64 as int64_of};

@@ -1,3 +1,4 @@
+//! The packed form of a metadata result, and what it is read as.
 ghost use Rattle.std.specs.Prelude.{◌≡◌, ◌≢◌, ◌-◌, ◌++◌, length, replicate, IfSome, IfNone};
 ghost use Rattle.cam_types.specs.declared.part.Part.{Part as APart};
 ghost use Rattle.metadata.specs.Spelling.{bytes_of};

@@ -1,3 +1,4 @@
+//! The settings that templates stand for.
 ghost use Rattle.std.specs.Prelude.{◌≡◌, None};
 ghost use Rattle.cam_types.specs.Metadata.{range_fault};
 ghost use Rattle.meta_rules.specs.Templates.{template_of};

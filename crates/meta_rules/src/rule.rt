@@ -1,3 +1,4 @@
+//! The tags of settings and results, with their types and ranges.
 ghost use Rattle.std.specs.Prelude.{◌≡◌};
 ghost use Rattle.cam_types.specs.Metadata.{range_fault as fault_of, is_pattern as is_right_pattern, is_level as is_right_level, is_exposure as is_right_exposure, is_sensitivity as is_right_sensitivity};
 

@@ -1,3 +1,4 @@
+//! Settings as a packed list, and back.
 ghost use Rattle.std.specs.Prelude.{◌≡◌, ◌∷◌, [], ◌<◌, ◌^◌, pos, None, Ok, OnOk, IfOk};
 ghost use Rattle.metadata.specs.Entries.{add_refusal, with_entry};
 ghost use Rattle.meta_rules.specs.Numbers.{settings_entries, settings_in, pattern_in, level_in, exposure_in, sensitivity_in};

@@ -1,3 +1,4 @@
+//! Worked bytes of settings and results.
 use super::*;
 use cam_types::{Part, Settings};
 use metadata::{AddRefused, ByteList, Int32List, Packed, PackedRefused, Values};

@@ -1,3 +1,4 @@
+//! The types of elements.
 ghost use Rattle.std.specs.Prelude.{◌≡◌};
 ghost use Rattle.metadata.specs.Values.{type_number, type_numbered, element_len};
 

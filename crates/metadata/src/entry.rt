@@ -1,3 +1,4 @@
+//! An entry: a tag and its values.
 use crate::values::Values;
 
 /// A tag and its values.

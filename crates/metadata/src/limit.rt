@@ -1,3 +1,4 @@
+//! The limits of packed metadata.
 /// The most elements of an entry.
 pub const COUNT_LIMIT: u32 = 1_024;
 

@@ -1,3 +1,4 @@
+//! Reads the packed form, with the first refusal.
 ghost use Rattle.std.specs.Prelude.{◌≡◌, ◌≤◌, ◌<◌, ◌*◌, ◌+◌, ◌==◌, ◌||◌, ◌^◌, length, take, drop, IfOk, IfSome, MatchResult, option_map, None, Some, Ok, Err};
 ghost use Rattle.std.specs.Option.{option_copied};
 ghost use Rattle.metadata.specs.Values.{element_len, pieces, values_from, int32_of, int64_of, ratio_of};

@@ -1,3 +1,4 @@
+//! Why values or bytes are refused.
 ghost use Rattle.std.specs.Prelude.{◌≡◌};
 ghost use Rattle.metadata.specs.declared.refused.AddRefused.TheVariants.{NoMemory as NoMemoryToAdd};
 ghost use Rattle.metadata.specs.declared.refused.PackedRefused.TheVariants.{NoMemory as NoMemoryToRead};

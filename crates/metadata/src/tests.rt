@@ -1,3 +1,4 @@
+//! Worked bytes of packed metadata, and each refusal.
 use super::*;
 use std::alloc::{AllocError, Global};
 use std::test::*;

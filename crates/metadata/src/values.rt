@@ -1,3 +1,4 @@
+//! The values of an entry, by type.
 ghost use Rattle.std.specs.Prelude.{◌≡◌, ◌<◌, ◌^◌, length};
 ghost use Rattle.metadata.specs.Spelling.{rounded as rounded_up, data_of};
 ghost use Rattle.metadata.specs.Values.{type_of, count_of, payload};

@@ -1,3 +1,4 @@
+//! Writes the packed form.
 ghost use Rattle.std.specs.Prelude.{◌≡◌, ◌≤◌, ◌<◌, ◌+◌, ◌++◌, ◌^◌, [], ◌∷◌, length, replicate, false, OnOk, IfOk, IsTrue, FitsSigned};
 ghost use Rattle.std.specs.Int.{w32, w64};
 ghost use Rattle.std.specs.List.{flat_map, AllByRecursion};

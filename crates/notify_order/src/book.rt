@@ -1,3 +1,4 @@
+//! Which callback may come: a book over the frames that were noted.
 ghost use Rattle.std.specs.Prelude.{◌≡◌, IsTrue};
 ghost use Rattle.notify_order.specs.Order.{empty_order, has_known_streams, held_with, is_none_below, least_with, lesser, may_come, may_end, noted};
 

@@ -1,3 +1,4 @@
+//! Which streams a frame holds back.
 ghost use Rattle.std.specs.Prelude.{◌≡◌};
 ghost use Rattle.notify_order.specs.Order.{holds_back, is_held_for};
 

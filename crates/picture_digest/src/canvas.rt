@@ -1,3 +1,4 @@
+//! Draws a picture that nobody keeps, for its digest.
 ghost use Rattle.std.specs.Prelude.{◌≡◌, ◌+◌, ◌*◌, ◌/◌, ◌≤◌, None, length, IsTrue};
 ghost use Rattle.std.specs.List.{All};
 ghost use Rattle.cam_types.specs.Metadata.{range_fault};

@@ -1,3 +1,4 @@
+//! The RAW16 stage: fills a buffer and hashes it.
 ghost use Rattle.std.specs.Prelude.{◌≡◌, ◌*◌, ◌≤◌, length};
 ghost use Rattle.std.specs.List.{All};
 ghost use Rattle.cam_types.specs.Picture.{raw_picture};

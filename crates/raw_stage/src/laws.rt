@@ -1,3 +1,4 @@
+//! What a RAW16 stream shows.
 ghost use Rattle.std.specs.Prelude.{◌≡◌, ℕ};
 ghost use Rattle.cam_types.specs.Picture.{picture, raw_picture, readout};
 ghost use Rattle.cam_types.specs.declared.item.Settings.{Settings as SomeSettings};

@@ -1,3 +1,4 @@
+//! An item of the queue as its turn comes, and the refusal of a full queue.
 ghost use Rattle.std.specs.Prelude.{◌≡◌};
 ghost use Rattle.request_queue.specs.Requests.{as_queued};
 

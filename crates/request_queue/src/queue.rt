@@ -1,3 +1,4 @@
+//! The queue of captures and the list that repeats.
 ghost use Rattle.std.specs.Prelude.{◌≡◌, ◌↔◌, ◌+◌, ◌<◌, ◌≤◌, [], ◌++◌, length, drop, IfOk, IsErr, IsNone, OnErr, OnOk};
 ghost use Rattle.circular_buffer.specs.Buffer.{buffer};
 ghost use Rattle.request_queue.specs.Requests.{IsWithin, after_next, first_queued, named, next_item, no_requests, place_after, repeated_at};

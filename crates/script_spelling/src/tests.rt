@@ -1,3 +1,4 @@
+//! Scripts of both versions have their spelling.
 use super::*;
 use cam_types::{
     Command, CommandList, Fault, FaultList, FrameNo, Item, PickList, Profile, Script, Settings,

@@ -1,3 +1,4 @@
+//! Texts that are scripts, and texts that aren't, with line and cause.
 use super::*;
 use std::alloc::{AllocError, Global};
 use std::test::Fail;

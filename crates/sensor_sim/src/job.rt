@@ -1,3 +1,4 @@
+//! Jobs of the sensor: to be exposed, and exposed.
 ghost use Rattle.std.specs.Prelude.{◌≡◌, None};
 ghost use Rattle.cam_types.specs.Metadata.{range_fault};
 ghost use Rattle.cam_types.specs.Picture.{readout as readout_of};

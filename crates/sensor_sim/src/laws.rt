@@ -1,3 +1,4 @@
+//! Bounds on what the sensor reads.
 ghost use Rattle.std.specs.Prelude.{ℕ, ◌≤◌};
 ghost use Rattle.std.specs.List.{All};
 ghost use Rattle.cam_types.specs.Picture.{readout};

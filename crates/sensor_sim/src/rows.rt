@@ -1,3 +1,4 @@
+//! The rows of a readout, as windows of one line.
 ghost use Rattle.std.specs.Prelude.{◌≡◌, ℕ, ◌+◌, ◌*◌, ◌/◌, ◌%◌, ◌<◌, ◌≤◌, None, length, slice_index};
 ghost use Rattle.cam_types.specs.Metadata.{range_fault};
 ghost use Rattle.cam_types.specs.Picture.{readout, sensor_value as value_of};

@@ -1,3 +1,4 @@
+//! What the sensor sees: patterns, light and noise.
 ghost use Rattle.std.specs.Prelude.{◌≡◌, ℕ, ◌+◌, ◌*◌, ◌/◌, ◌≤◌, None};
 ghost use Rattle.cam_types.specs.Metadata.{range_fault};
 ghost use Rattle.cam_types.specs.Picture.{channel_at, is_lit as lit_by, scene as scene_at, sensor_value as value_of};

@@ -1,3 +1,4 @@
+//! Worked values of the sensor.
 ghost use Rattle.std.specs.Prelude.{◌≡◌, None};
 ghost use Rattle.cam_types.specs.Metadata.{range_fault};
 

@@ -1,3 +1,4 @@
+//! The history of a service, with its trace as one slice.
 ghost use Rattle.std.specs.Prelude.{◌≡◌, ◌∷◌, [], false, reverse, OnOk, OnErr, Option};
 ghost use Rattle.run_model.specs.History.{is_silent, trace_of};
 

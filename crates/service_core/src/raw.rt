@@ -1,3 +1,4 @@
+//! Which scripts the service runs today.
 ghost use Rattle.std.specs.Prelude.{◌≡◌, count_by};
 ghost use Rattle.std.specs.List.{list_all};
 ghost use Rattle.trace_model.specs.Reply.{is_configure_command};

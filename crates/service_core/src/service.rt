@@ -1,3 +1,4 @@
+//! The service: its calls, each of which makes one step.
 ghost use Rattle.std.specs.Prelude.{◌≡◌, ◌↔◌, [], IfOk, IsTrue, Option, reverse, true};
 ghost use Rattle.std.specs.List.{list_all};
 ghost use Rattle.trace_model.specs.Complete.{IsComplete};

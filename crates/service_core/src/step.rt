@@ -1,3 +1,4 @@
+//! What a step answers.
 use trace_model::Entry;
 
 /// What a step of the service answers.

@@ -1,3 +1,4 @@
+//! The tables by which the service knows what is due.
 ghost use Rattle.std.specs.Prelude.{◌≡◌, ℕ, ◌+◌, ◌<◌, ◌≤◌, ◌^◌, List, Option, IfOk, true, false, length, max, not, option_copied, option_map, position, take, slice_index_or, slice_set};
 ghost use Rattle.std.specs.List.{list_all};
 ghost use Rattle.cam_types.specs.declared.number.FenceNo.{FenceNo as SomeFence};

@@ -1,3 +1,4 @@
+//! The plan of an accepted configuration.
 ghost use Rattle.std.specs.Prelude.{◌≡◌, slice_get, IsTrue};
 ghost use Rattle.std.specs.Option.{option_map};
 ghost use Rattle.cam_types.specs.Profile.{is_profile};

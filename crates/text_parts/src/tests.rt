@@ -1,3 +1,4 @@
+//! Numbers and words are read by their one spelling.
 use super::*;
 use std::test::Fail;
 

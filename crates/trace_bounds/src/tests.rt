@@ -1,3 +1,4 @@
+//! The bounds at the limits of scripts.
 use super::{every_script_is_typed, legal_traces_print};
 use cam_types::{
     Command, CommandList, Format, Item, ItemList, Listing, NoMemory, Profile, Script, Settings,

@@ -1,3 +1,4 @@
+//! The verdicts of the judge.
 /// The rule that an entry of a kind has to keep, under the name that a verdict prints.
 #[derive(Clone, Copy, Debug, PartialEq, Eq)]
 pub enum RuleName {

@@ -1,3 +1,4 @@
+//! Texts that are traces, and texts that aren't, with line and cause.
 use super::*;
 use cam_types::{BufferId, FenceNo, FrameNo, Profile};
 use std::alloc::Global;

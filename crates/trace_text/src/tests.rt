@@ -1,3 +1,4 @@
+//! Worked lines of traces.
 ghost use Rattle.std.specs.Prelude.{◌≡◌, IsTrue};
 ghost use Rattle.trace_model.specs.Printable.{is_printable};
 

@@ -1,3 +1,4 @@
+//! What a turnstile asks of the value that it keeps.
 ghost use Rattle.std.specs.Prelude.{List};
 
 /// What a turnstile can keep: a value with a fixed part, a history that only grows, and jobs that are out.

@@ -1,3 +1,4 @@
+//! The steps of threads at a turnstile, as the table sees them.
 // The rule of the table, and what each step on it tells.
 ghost use Rattle.turn_lock.specs.Steps.{Claims, Releases, Compares, joining};
 ghost use Rattle.turn_lock.specs.Turns.{splitting, split_off};

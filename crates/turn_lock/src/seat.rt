@@ -1,3 +1,4 @@
+//! A seat at a turnstile.
 use crate::kept::Kept;
 use crate::view::View;
 use std::marker::PhantomData;

@@ -1,3 +1,4 @@
+//! The turnstile: enter, leave, split, join and close.
 ghost use Rattle.std.specs.Prelude.{◌≡◌};
 
 use crate::kept::Kept;

@@ -1,3 +1,4 @@
+//! What a seat knows.
 use std::collections::LinkedList;
 
 /// What a seat knows. It lives in proofs alone: no value of it is made.

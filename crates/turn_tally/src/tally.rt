@@ -1,3 +1,4 @@
+//! Numbers that threads add, with tickets.
 ghost use Rattle.std.specs.Prelude.{◌≡◌, [], ◌∷◌, ◌++◌, IsPermutation, Contains, OnErr, IfOk, MatchBool, vec_len};
 ghost use mathlib.Core.List.{IsPrefix};
 

@@ -1,3 +1,4 @@
+//! Threads add numbers through a turnstile, and none is lost.
 ghost use Rattle.std.specs.Prelude.{◌≡◌, ◌<◌, ◌^◌, []};
 ghost use Rattle.turn_lock.specs.Seats.{view};
 ghost use Rattle.turn_tally.specs.Tallies.{IsIdle, IsDone};

@@ -1,3 +1,4 @@
+//! Colours from the values of a cell.
 ghost use Rattle.std.specs.Prelude.{◌≡◌, ◌+◌, ◌/◌, ◌<◌, ◌≤◌, length};
 ghost use Rattle.std.specs.List.{All};
 ghost use Rattle.cam_types.specs.Picture.{chroma_blue, chroma_red, luma, scaled as scaled_of, value_at};

@@ -1,3 +1,4 @@
+//! The YUV stage: fills a buffer and hashes it.
 ghost use Rattle.std.specs.Prelude.{◌≡◌, ◌+◌, ◌*◌, ◌/◌, ◌≤◌, length, IsTrue};
 ghost use Rattle.std.specs.List.{All};
 ghost use Rattle.cam_types.specs.Picture.{is_yuv_size, yuv_picture};

@@ -1,3 +1,4 @@
+//! What a YUV stream shows.
 ghost use Rattle.std.specs.Prelude.{◌≡◌, ℕ};
 ghost use Rattle.cam_types.specs.Picture.{picture, readout, yuv_picture};
 ghost use Rattle.cam_types.specs.declared.item.Settings.{Settings as SomeSettings};

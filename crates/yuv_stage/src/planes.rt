@@ -1,3 +1,4 @@
+//! The planes of a YUV picture, where they lie in the buffer.
 ghost use Rattle.std.specs.Prelude.{◌≡◌, ℕ, ◌*◌, ◌/◌, ◌%◌, ◌<◌, ◌≤◌, length, slice_index};
 ghost use Rattle.std.specs.List.{All};
 ghost use Rattle.cam_types.specs.Picture.{chroma_blue, chroma_red, luma, plane};

@@ -1,3 +1,4 @@
+//! Rows of a picture of a quarter of the sensor's width.
 ghost use Rattle.std.specs.Prelude.{◌≡◌, ℕ, ◌+◌, ◌*◌, ◌/◌, ◌%◌, ◌<◌, ◌≤◌, length, slice_index};
 ghost use Rattle.std.specs.List.{All};
 ghost use Rattle.cam_types.specs.Picture.{chroma_blue, chroma_red, luma, plane, scaled, value_at};
