@@ -16,7 +16,8 @@ KeepsBuffers script past = IsLegal script past → ConservesBuffers past
 
 -- in a legal run each fence is released once, and no fence is signalled before its release
 abbrev pub ReleasesOnce : Script → List Entry → Type 0
-ReleasesOnce script past = IsLegal script past → IsTrue (list_all (λ f. count_by (releases_fence f) past == 1) (released past))
+ReleasesOnce script past =
+    IsLegal script past → IsTrue (list_all (λ f. count_by (releases_fence f) past == 1) (released past))
 
 abbrev pub SignalsLater : Script → List Entry → Type 0
 SignalsLater script past = IsLegal script past → IsTrue (signals_after_release past)
@@ -30,8 +31,9 @@ abbrev pub ReturnsAtMostOnce : Script → List Entry → Type 0
 ReturnsAtMostOnce script past = IsLegal script past → (n s : ℕ) → count_by (returns_target n s) past ≤ 1
 
 abbrev pub ReturnsOnce : Script → List Entry → Type 0
-ReturnsOnce script past =
-    IsComplete script past → IsTrue (list_all (λ n. list_all (λ t. count_by (returns_target n t.stream.0) past == 1) (targets_of n past)) (frames past))
+ReturnsOnce script past = IsComplete script past →
+    IsTrue (list_all (λ n. list_all (λ t. count_by (returns_target n t.stream.0) past == 1) (targets_of n past))
+    (frames past))
 
 -- in a legal run the filled buffers of each stream come in the order of frames
 abbrev pub DeliversInOrder : Script → List Entry → Type 0

@@ -4,8 +4,8 @@ ghost use Rattle.cam_types.specs.declared.script.Script.{Script as SomeScript};
 ghost use Rattle.trace_model.specs.declared.entry.Entry.{Entry as SomeEntry};
 ghost use Rattle.buffer_laws.specs.Laws.{DeliversInOrder, KeepsBuffers, ReleasesOnce, ReturnsAtMostOnce, ReturnsOnce, SignalsLater, SignalsOnce};
 
-/// In a legal run every buffer is sent as often as it is returned, and once more while it is at the device: then it is one of
-/// the configuration's.
+/// In a legal run every buffer is sent as often as it is returned, and once more while it is at the device: then it is
+/// one of the configuration's.
 #[tactic(auto, using(crate::proofs::Conserved::buffers_conserved))]
 pub fn buffers_are_conserved()
     ensures { (script : SomeScript) (past : List SomeEntry) → KeepsBuffers script past }

@@ -6,8 +6,8 @@ ghost use Rattle.trace_model.specs.Entry.{releases_fence, returns_target};
 ghost use Rattle.trace_model.specs.Laws.{delivers_in_order, returns_buffer, signals_after_release};
 ghost use Rattle.buffer_laws.specs.Worked.{of_two_streams, released_twice, returned_twice, signalled_early, swapped};
 
-/// Short pasts that break a law, worked out by hand: what the laws say of legal runs isn't true of them. (Two streams may
-/// come in any order.)
+/// Short pasts that break a law, worked out by hand: what the laws say of legal runs isn't true of them. (Two streams
+/// may come in any order.)
 pub fn breaches_are_seen()
     ensures order { delivers_in_order swapped ≡ false }
     ensures streams { delivers_in_order of_two_streams ≡ true }

@@ -8,8 +8,8 @@ use Rattle.buffer_pool.specs.Blocks.{block_length}
 use Rattle.buffer_pool.specs.Home.{Buffers}
 use Rattle.buffer_pool.specs.Parked.{number}
 
--- A pool as it is opened (camera3.h, camera3_stream: max_buffers bounds those that are at the device; that a pool has two
--- more is our own choice).
+-- A pool as it is opened (camera3.h, camera3_stream: max_buffers bounds those that are at the device; that a pool has
+-- two more is our own choice).
 
 -- the buffer is a whole block of the format
 abbrev pub is_whole : Format → Parked → Bool

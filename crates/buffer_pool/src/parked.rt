@@ -15,7 +15,7 @@ pub struct Parked {
 
 impl Parked {
     /// Spends the waiter, and gives the buffer's block.
-    pub(crate) fn into_block(self, fences: &mut Fences) -> Vec<u8>
+    pub fn into_block(self, fences: &mut Fences) -> Vec<u8>
         requires { IsTrue (has_made_waiter (made fences.old) self) }
         ensures block { length result.items ≡ self.pixels.block }
         ensures fences { fences.new ≡ fences.old }

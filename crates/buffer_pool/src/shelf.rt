@@ -24,7 +24,8 @@ impl Model for Shelf {
 
     ghost view = { λ s. record { size = s.size; free = length s.free.items; lent = s.total - length s.free.items } };
 
-    ghost invariant = { λ s. (list_all (λ b. length b.items == s.size) s.free.items ≡ true) × (length s.free.items ≤ s.total) × (s.total ≤ vec_capacity s.free) };
+    ghost invariant = { λ s. (list_all (λ b. length b.items == s.size) s.free.items ≡ true)
+        × (length s.free.items ≤ s.total) × (s.total ≤ vec_capacity s.free) };
 }
 
 impl Shelf {

@@ -27,7 +27,8 @@ is_lit Blue bar = bar % 2 == 0
 -- the scene at a place in frame n, 0 to 255: solid, bars of 20 columns each, or a ramp that moves with the frames
 abbrev pub scene : Settings → ℕ → Channel → ℕ → ℕ → ℕ
 scene s n channel x y =
-    if s.pattern == 0 then s.level else (if s.pattern == 1 then (if is_lit channel (x / 20) then s.level else 0) else (x + y + n) % 256)
+    if s.pattern == 0 then s.level
+    else (if s.pattern == 1 then (if is_lit channel (x / 20) then s.level else 0) else (x + y + n) % 256)
 
 -- ---- the sensor
 
@@ -105,7 +106,8 @@ yuv_picture width height values =
 
 -- the sizes that are offered: RAW16 the sensor's, YUV the sensor's, half and a quarter of it
 abbrev pub is_yuv_size : ℕ → ℕ → Bool
-is_yuv_size width height = if width == 160 then height == 120 else (if width == 80 then height == 60 else ((width == 40) && (height == 30)))
+is_yuv_size width height =
+    if width == 160 then height == 120 else (if width == 80 then height == 60 else ((width == 40) && (height == 30)))
 
 abbrev pub is_size_of : Format → ℕ → ℕ → Bool
 is_size_of Raw16 width height = (width == 160) && (height == 120)

@@ -10,8 +10,8 @@ use Rattle.cam_types.specs.declared.stream.Format.{Format}
 use Rattle.cam_types.specs.declared.stream.Format.TheVariants.{Raw16, Yuv}
 use Rattle.cam_types.specs.declared.stream.StreamSpec.{StreamSpec}
 
--- What is refused of the items and streams that a call names: the first refusal whose condition holds. Numbers and order
--- are our own choice; that a configuration which a device can't have is refused is camera3.h, configure_streams.
+-- What is refused of the items and streams that a call names: the first refusal whose condition holds. Numbers and
+-- order are our own choice; that a configuration which a device can't have is refused is camera3.h, configure_streams.
 
 abbrev pub refused : ℕ → Reply
 refused code = Refused code None None
@@ -52,7 +52,8 @@ targets_refusal streams i targets =
 -- of the item at place i, where so many streams are configured
 abbrev pub item_refusal : ℕ → ℕ → Item → Option Reply
 item_refusal streams i item =
-    or_else (targets_refusal streams i (take item.targets.count item.targets.list)) (with_value 8 i (range_fault item.settings))
+    or_else (targets_refusal streams i (take item.targets.count item.targets.list))
+    (with_value 8 i (range_fault item.settings))
 
 -- item by item, from place i on
 abbrev pub items_refusal : ℕ → ℕ → List Item → Option Reply

@@ -31,7 +31,8 @@ is_settled_at None = true
 is_settled_at (Some target) = is_settled target.state
 
 abbrev pub are_settled : Four TargetView → Bool
-are_settled targets = is_settled_at targets.a && (is_settled_at targets.b && (is_settled_at targets.c && is_settled_at targets.d))
+are_settled targets =
+    is_settled_at targets.a && (is_settled_at targets.b && (is_settled_at targets.c && is_settled_at targets.d))
 
 -- the frame is open: its metadata hasn't ended, or the device isn't done with all its targets
 abbrev pub is_open : RowView → Bool

@@ -34,7 +34,9 @@ format_fits (Other n) = not (n == 32) && not (n == 35)
 
 -- a size of 1 to 65535 in each direction
 abbrev pub spec_fits : StreamSpec → Bool
-spec_fits s = format_fits s.format && ((nat_lt 0 s.width && nat_lt s.width (2 ^ 16)) && (nat_lt 0 s.height && nat_lt s.height (2 ^ 16)))
+spec_fits s =
+    format_fits s.format
+    && ((nat_lt 0 s.width && nat_lt s.width (2 ^ 16)) && (nat_lt 0 s.height && nat_lt s.height (2 ^ 16)))
 
 abbrev pub command_fits : Command → Bool
 command_fits (Configure specs) = nat_le (length specs) spec_limit && list_all spec_fits specs
@@ -55,7 +57,8 @@ is_closing_command Close = true
 is_closing_command Disconnect = true
 is_closing_command _ = false
 
--- a valid script: its profile is one of its version, every command fits, all counts are within their limits, and the client closes or disconnects
+-- a valid script: its profile is one of its version, every command fits, all counts are within their limits, and the
+-- client closes or disconnects
 abbrev pub is_valid : Script → Bool
 is_valid s =
     profile_fits s.version s.profile

@@ -67,8 +67,8 @@ pub type PickList = Listing<u32>;
 /// The commands of a script.
 pub type CommandList = Listing<Command>;
 
-/// A client script, as read, with the added `close`. `early` says that good buffers may go to the client before they are
-/// filled.
+/// A client script, as read, with the added `close`. `early` says that good buffers may go to the client before they
+/// are filled.
 #[derive(Debug, Drop)]
 pub struct Script {
     pub version: u8,

@@ -86,8 +86,8 @@ fn repeated<T: Copy + Drop>(alloc: Global, entry: T, count: u32) -> Result<Listi
     Ok(list)
 }
 
-/// What is many in a script: faults, picks, `stop` commands, items of a burst, items of a repeat, streams of a configure, frames
-/// of an `await`; and whether the script is valid.
+/// What is many in a script: faults, picks, `stop` commands, items of a burst, items of a repeat, streams of a
+/// configure, frames of an `await`; and whether the script is valid.
 const COUNTS: [([u32; 7], bool); 15] = [
     ([0, 0, 0, 0, 0, 0, 1], true),
     ([64, 8_192, 507, 32, 8, 16, 16_384], true),

@@ -36,7 +36,8 @@ TellsBy Belongs status before after =
     ((status ≡ 5) × WritesNothing before after)
     ⊎ ((wanted : ℕ) × (text : List ℕ) × Belongs wanted text × Answers wanted text status before after)
 
--- The same of a call that reads its input: what the source has left, where it tells that. At status 3 the source failed.
+-- The same of a call that reads its input: what the source has left, where it tells that. At status 3 the source
+-- failed.
 abbrev pub Tells : (List ℕ → ℕ → List ℕ → Type 0) → Option (List ℕ) → ℕ → SinkState → SinkState → Type 0
 Tells Belongs left status before after =
     IfSome left (λ input. (status ≡ 3) ⊎ TellsBy (Belongs input) status before after)

@@ -74,8 +74,8 @@ const PICTURE: &[u8] =
 
 const ENDING: &[u8] = b"release b0 f0\nsignal f0\ncall 2 close = ok\nend\n";
 
-/// The words, the input, pieces and failing calls of the source, room, pieces and failing calls of the sink, the status,
-/// and how many bytes of the wanted text are written.
+/// The words, the input, pieces and failing calls of the source, room, pieces and failing calls of the sink, the
+/// status, and how many bytes of the wanted text are written.
 struct Case {
     words: &'static [&'static str],
     input: &'static [u8],

@@ -18,7 +18,11 @@ is_text text other = pointwise nat_eq text other
 
 -- `play`, `check`, `convert` and `help`
 abbrev pub alone : List ℕ → Option Form
-alone word = if is_text word (codes "play") then Some Play else (if is_text word (codes "check") then Some Check else (if is_text word (codes "convert") then Some Convert else (if is_text word (codes "help") then Some Help else None)))
+alone word =
+    if is_text word (codes "play") then Some Play
+    else (if is_text word (codes "check") then Some Check
+    else (if is_text word (codes "convert") then Some Convert
+    else (if is_text word (codes "help") then Some Help else None)))
 
 -- 1 to 8 workers
 abbrev pub run_of : List ℕ → Option Form
@@ -31,7 +35,8 @@ gen_of seed count = number_within 0 (2 ^ 64 - 1) seed >>= λ s. number_within 0 
 -- `run --workers N` and `gen SEED COUNT`
 abbrev pub of_three : List ℕ → List ℕ → List ℕ → Option Form
 of_three first second third =
-    if is_text first (codes "run") && is_text second (codes "--workers") then run_of third else (if is_text first (codes "gen") then gen_of second third else None)
+    if is_text first (codes "run") && is_text second (codes "--workers") then run_of third
+    else (if is_text first (codes "gen") then gen_of second third else None)
 
 -- the form that the words have, if they have one
 abbrev pub form_of : List (Bor (List ℕ)) → Option Form

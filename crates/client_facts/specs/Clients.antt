@@ -33,7 +33,17 @@ pub record Clients : Type 0 where
 
 -- before the first command
 abbrev pub no_clients : Clients
-no_clients = record { calls = 0; begun = None; configured = false; closed = false; failed = false; streams = []; repeated = 0; done = 0 }
+no_clients =
+    record {
+      calls = 0;
+      begun = None;
+      configured = false;
+      closed = false;
+      failed = false;
+      streams = [];
+      repeated = 0;
+      done = 0;
+    }
 
 -- ---- the state that a past leaves
 

@@ -53,7 +53,8 @@ queue_refusal_in q items = where_true (nat_lt queue_limit (length q.waiting + le
 -- the refusal of the command's own: of its streams, its items, or what repeats or doesn't
 abbrev pub own_refusal_in : Clients → Turns → Command → Option Reply
 own_refusal_in t q (Configure specs) = specs_refusal specs
-own_refusal_in t q (Once item) = or_else (items_refusal (length t.streams) 0 (item ∷ [])) (queue_refusal_in q (item ∷ []))
+own_refusal_in t q (Once item) =
+    or_else (items_refusal (length t.streams) 0 (item ∷ [])) (queue_refusal_in q (item ∷ []))
 own_refusal_in t q (Burst items) = or_else (list_refusal (length t.streams) items) (queue_refusal_in q items)
 own_refusal_in t q (Repeat items) = list_refusal (length t.streams) items
 own_refusal_in t q Stop = where_true (not (is_some q.turn)) (refused 9)
@@ -63,7 +64,8 @@ own_refusal_in t q _ = None
 
 -- the reply to a command that is accepted
 abbrev pub acceptance_in : Script → Turns → Homes → Command → Reply
-acceptance_in script q h (Configure specs) = Configured (four_of (made_for script.profile (h.first + length h.places) specs))
+acceptance_in script q h (Configure specs) =
+    Configured (four_of (made_for script.profile (h.first + length h.places) specs))
 acceptance_in script q h (Once _) = Submitted (record { 0 = q.requests })
 acceptance_in script q h (Burst _) = Submitted (record { 0 = q.requests })
 acceptance_in script q h (Repeat _) = Submitted (record { 0 = q.requests })
@@ -71,7 +73,8 @@ acceptance_in script q h _ = Ok
 
 -- the reply to a command: the first refusal whose condition holds, or the acceptance
 abbrev pub reply_in : Script → Clients → Turns → Homes → Command → Reply
-reply_in script t q h c = reply_with (or_else (state_refusal_in t c) (own_refusal_in t q c)) (acceptance_in script q h c)
+reply_in script t q h c =
+    reply_with (or_else (state_refusal_in t c) (own_refusal_in t q c)) (acceptance_in script q h c)
 
 -- ---- calls
 
@@ -91,11 +94,13 @@ over_in quiet t q h _ = true
 
 -- the command is answered: it has begun, if it waits, and what it waits for is there, or it is refused
 abbrev pub may_answer_in : Script → Bool → Clients → Turns → Homes → Command → Bool
-may_answer_in script quiet t q h c = (not (is_waiting_command c) || is_some t.begun) && (is_refusal (reply_in script t q h c) || over_in quiet t q h c)
+may_answer_in script quiet t q h c =
+    (not (is_waiting_command c) || is_some t.begun) && (is_refusal (reply_in script t q h c) || over_in quiet t q h c)
 
 -- the call of the next command
 abbrev pub call_with : Script → Bool → Clients → Turns → Homes → Option Command → Option Entry
-call_with script quiet t q h (Some c) = if may_answer_in script quiet t q h c then Some (Call t.calls (word_of c) (reply_in script t q h c)) else None
+call_with script quiet t q h (Some c) =
+    if may_answer_in script quiet t q h c then Some (Call t.calls (word_of c) (reply_in script t q h c)) else None
 call_with script quiet t q h None = None
 
 -- the call that is due
@@ -106,4 +111,5 @@ call_in script quiet t q h = call_with script quiet t q h (command_at script t.c
 
 -- an item of the list may be sent: no begun command holds it back, and so many more were not sent since the last call
 abbrev pub may_repeat_in : Script → Clients → Bool
-may_repeat_in script t = not (holds_back t.begun) && nat_lt t.repeated (repeating_ahead + awaited_in t.begun (command_at script t.calls))
+may_repeat_in script t =
+    not (holds_back t.begun) && nat_lt t.repeated (repeating_ahead + awaited_in t.begun (command_at script t.calls))

@@ -4,8 +4,8 @@ use Rattle.cam_types.specs.declared.script.Fault.{Fault}
 use Rattle.device_store.specs.Stored.{Stored}
 use Rattle.stream_config.specs.declared.plan.Plan.{Plan}
 
--- What a contract sees of the device (our own choice): its plan, the faults that it shall have, how many rows may stand,
--- and the rows that stand.
+-- What a contract sees of the device (our own choice): its plan, the faults that it shall have, how many rows may
+-- stand, and the rows that stand.
 pub record DeviceView : Type 0 where
   pub plan : Plan
   pub faults : List Fault

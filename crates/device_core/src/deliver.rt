@@ -18,8 +18,10 @@ impl Device {
     /// frame failed or will, or an earlier frame holds the stream back.
     pub fn deliver(&mut self, frame: FrameNo, stream: StreamIx) -> Option<(PixelBuf, [u8; 32])>
         ensures ready { IsSome result ↔ IsTrue (is_delivery_ready self.old.faults self.old.rows frame.0 stream.0) }
-        ensures picture { IfSome result (λ done. ShowsAt (specs_of self.old.plan) frame.0 stream.0 self.old.rows done.0 done.1) }
-        ensures rows { IsSome result → self.new ≡ with_rows (with_row frame.0 (delivered stream) self.old.rows) self.old }
+        ensures picture { IfSome result
+            (λ done. ShowsAt (specs_of self.old.plan) frame.0 stream.0 self.old.rows done.0 done.1) }
+        ensures rows { IsSome result →
+            self.new ≡ with_rows (with_row frame.0 (delivered stream) self.old.rows) self.old }
         ensures unchanged { IsNone result → self.new ≡ self.old }
     {
         let row = self.store.view(frame)?;
@@ -37,8 +39,10 @@ impl Device {
     /// stage fills it or it is back, it or its frame failed or will, or an earlier frame holds the stream back.
     pub fn early(&mut self, frame: FrameNo, stream: StreamIx) -> Option<BufferId>
         ensures ready { IsSome result ↔ IsTrue (is_early_ready self.old.faults self.old.rows frame.0 stream.0) }
-        ensures buffer { IfSome result (λ buffer. option_map (λ target. target.buffer) (target_in frame.0 stream.0 self.old.rows) ≡ Some buffer) }
-        ensures rows { IsSome result → self.new ≡ with_rows (with_row frame.0 (gone_early stream) self.old.rows) self.old }
+        ensures buffer { IfSome result
+            (λ buffer. option_map (λ target. target.buffer) (target_in frame.0 stream.0 self.old.rows) ≡ Some buffer) }
+        ensures rows { IsSome result →
+            self.new ≡ with_rows (with_row frame.0 (gone_early stream) self.old.rows) self.old }
         ensures unchanged { IsNone result → self.new ≡ self.old }
     {
         let row = self.store.view(frame)?;

@@ -38,7 +38,8 @@ impl Device {
     /// A device with no stream, with room for so many rows and as many readouts.
     pub fn new(alloc: Global, rows: u32, faults: FaultList) -> Result<Device, NoMemory>
         requires { (0 < rows) × (rows ≤ 16) }
-        ensures { IfOk result (λ device. device ≡ record { plan = no_plan; faults = faults; capacity = rows; rows = [] }) }
+        ensures { IfOk result
+            (λ device. device ≡ record { plan = no_plan; faults = faults; capacity = rows; rows = [] }) }
     {
         let store = Store::new(alloc, rows)?;
         Ok(Device { store, faults })
@@ -74,8 +75,8 @@ impl Device {
         self.store.at(place)
     }
 
-    /// Takes a request's row, as just sent, with the buffers of its targets; hands these back exactly where as many rows
-    /// stand as may.
+    /// Takes a request's row, as just sent, with the buffers of its targets; hands these back exactly where as many
+    /// rows stand as may.
     pub fn process_request(
         &mut self,
         row: RowView,
@@ -106,7 +107,8 @@ impl Device {
     /// Takes the buffer and the readout back from a stage, whose job is out.
     pub fn fill_done(&mut self, job: FilledJob)
         requires { IsFillJobOut (specs_of self.old.plan) self.old.rows job }
-        ensures { IfSome job.fill (λ target. self.new ≡ with_rows (with_row job.frame.0 (fill_ended target.stream) self.old.rows) self.old) }
+        ensures { IfSome job.fill
+            (λ target. self.new ≡ with_rows (with_row job.frame.0 (fill_ended target.stream) self.old.rows) self.old) }
     {
         self.store.end_fill(job);
     }

@@ -16,9 +16,9 @@ use fence_tokens::Fences;
 use fill_jobs::FillJob;
 
 impl Device {
-    /// Gives a stage the job of filling a target's buffer, with the frame's readout. None exactly where the buffer can't
-    /// be taken: it or its frame failed or will, it doesn't wait, the readout isn't home, or its acquire fence isn't
-    /// signalled. The fences of buffers that wait were made by these.
+    /// Gives a stage the job of filling a target's buffer, with the frame's readout. None exactly where the buffer
+    /// can't be taken: it or its frame failed or will, it doesn't wait, the readout isn't home, or its acquire fence
+    /// isn't signalled. The fences of buffers that wait were made by these.
     pub fn take_fill(
         &mut self,
         frame: FrameNo,
@@ -26,9 +26,12 @@ impl Device {
         fences: &mut Fences,
     ) -> Option<FillJob>
         requires { IsTrue (list_all (have_made_fences (made fences.old)) self.old.rows) }
-        ensures ready { IsSome result ↔ IsTrue (is_fill_ready self.old.faults (λ f. is_signalled f fences.old) self.old.rows frame.0 stream.0) }
-        ensures job { IfSome result (λ job. fill_job_for (specs_of self.old.plan) stream.0 (row_at frame.0 self.old.rows) ≡ Some job) }
-        ensures rows { IsSome result → self.new ≡ with_rows (with_row frame.0 (fill_begun stream) self.old.rows) self.old }
+        ensures ready { IsSome result ↔
+            IsTrue (is_fill_ready self.old.faults (λ f. is_signalled f fences.old) self.old.rows frame.0 stream.0) }
+        ensures job { IfSome result
+            (λ job. fill_job_for (specs_of self.old.plan) stream.0 (row_at frame.0 self.old.rows) ≡ Some job) }
+        ensures rows { IsSome result →
+            self.new ≡ with_rows (with_row frame.0 (fill_begun stream) self.old.rows) self.old }
         ensures unchanged { IsNone result → self.new ≡ self.old }
         ensures fences { fences.new ≡ fences.old }
     {

@@ -20,8 +20,10 @@ impl Device {
     /// it isn't so.
     pub fn finish(&mut self, frame: FrameNo, stream: StreamIx) -> Option<(PixelBuf, [u8; 32])>
         ensures ready { IsSome result ↔ IsTrue (is_finish_ready self.old.rows frame.0 stream.0) }
-        ensures picture { IfSome result (λ done. ShowsAt (specs_of self.old.plan) frame.0 stream.0 self.old.rows done.0 done.1) }
-        ensures rows { IsSome result → self.new ≡ with_rows (with_row frame.0 (delivered stream) self.old.rows) self.old }
+        ensures picture { IfSome result
+            (λ done. ShowsAt (specs_of self.old.plan) frame.0 stream.0 self.old.rows done.0 done.1) }
+        ensures rows { IsSome result →
+            self.new ≡ with_rows (with_row frame.0 (delivered stream) self.old.rows) self.old }
         ensures unchanged { IsNone result → self.new ≡ self.old }
     {
         let row = self.store.view(frame)?;
@@ -32,8 +34,8 @@ impl Device {
         Some(self.store.take_filled(frame, stream))
     }
 
-    /// Gives a buffer back in error, with the waiter of its acquire fence where it waits and that isn't signalled; where
-    /// it is signalled the waiter is redeemed. The fences of buffers that wait were made by these.
+    /// Gives a buffer back in error, with the waiter of its acquire fence where it waits and that isn't signalled;
+    /// where it is signalled the waiter is redeemed. The fences of buffers that wait were made by these.
     pub fn return_failed(
         &mut self,
         frame: FrameNo,
@@ -42,8 +44,10 @@ impl Device {
     ) -> Option<Parked>
         requires { IsTrue (list_all (have_made_fences (made fences.old)) self.old.rows) }
         ensures ready { IsSome result ↔ IsTrue (is_failed_return_ready self.old.rows frame.0 stream.0) }
-        ensures parked { IfSome result (λ parked. IsBackAt fences.old (specs_of self.old.plan) frame.0 stream.0 self.old.rows parked) }
-        ensures rows { IsSome result → self.new ≡ with_rows (with_row frame.0 (returned_failed stream) self.old.rows) self.old }
+        ensures parked { IfSome result
+            (λ parked. IsBackAt fences.old (specs_of self.old.plan) frame.0 stream.0 self.old.rows parked) }
+        ensures rows { IsSome result →
+            self.new ≡ with_rows (with_row frame.0 (returned_failed stream) self.old.rows) self.old }
         ensures unchanged { IsNone result → self.new ≡ self.old }
         ensures fences { fences.new ≡ fences.old }
     {

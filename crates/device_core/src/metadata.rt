@@ -17,7 +17,8 @@ impl Device {
     /// earlier frame hasn't ended.
     pub fn partial(&mut self, frame: FrameNo) -> Option<(u8, Part)>
         ensures part { result ≡ next_part self.old.faults self.old.rows frame.0 }
-        ensures rows { IfSome result (λ sent. self.new ≡ with_rows (with_row frame.0 (with_part sent.0) self.old.rows) self.old) }
+        ensures rows { IfSome result
+            (λ sent. self.new ≡ with_rows (with_row frame.0 (with_part sent.0) self.old.rows) self.old) }
         ensures unchanged { IsNone result → self.new ≡ self.old }
     {
         let row = self.store.view(frame)?;

@@ -35,7 +35,11 @@ sensor_job row = record { frame = row.frame; settings = row.settings; fill = Non
 -- and that of a stage on a target of it, whose stream has this specification
 abbrev pub fill_job : RowView → TargetView → StreamSpec → JobView
 fill_job row target spec =
-    record { frame = row.frame; settings = row.settings; fill = Some (record { stream = target.stream; buffer = target.buffer; spec = spec }) }
+    record {
+      frame = row.frame;
+      settings = row.settings;
+      fill = Some (record { stream = target.stream; buffer = target.buffer; spec = spec });
+    }
 
 -- the sensor's job that is out on frame n
 abbrev pub sensor_job_of : Option RowView → Option JobView

@@ -25,13 +25,15 @@ is_fresh_target target = is_state target.state Waiting && not target.announced
 -- a row as it is just sent: nothing of it began
 abbrev pub is_fresh : RowView → Bool
 is_fresh row =
-    ((is_none row.shutter && (row.parts == 0)) && ((not row.request_error && not row.result_error) && (is_not_yet row.sensor && not row.stopped)))
+    ((is_none row.shutter && (row.parts == 0))
+    && ((not row.request_error && not row.result_error) && (is_not_yet row.sensor && not row.stopped)))
     && list_all is_fresh_target (four_list row.targets)
 
 -- the streams of the targets rise, and are among so many
 abbrev pub rise_from : ℕ → ℕ → List TargetView → Bool
 rise_from low streams [] = true
-rise_from low streams (target ∷ targets) = (nat_le low target.stream.0 && nat_lt target.stream.0 streams) && rise_from (target.stream.0 + 1) streams targets
+rise_from low streams (target ∷ targets) =
+    (nat_le low target.stream.0 && nat_lt target.stream.0 streams) && rise_from (target.stream.0 + 1) streams targets
 
 -- ---- fences (camera3.h, camera3_stream_buffer, acquire_fence)
 

@@ -51,7 +51,8 @@ may_be_last faults rows row = not (fault_of_result faults row.frame.0) && may_en
 -- the next part of the row may be sent
 abbrev pub may_send_part : List Fault → List RowView → RowView → Bool
 may_send_part faults rows row =
-    (awaits_metadata row && not (fault_of_request faults row.frame.0)) && (not (row.parts == 2) || may_be_last faults rows row)
+    (awaits_metadata row && not (fault_of_request faults row.frame.0))
+    && (not (row.parts == 2) || may_be_last faults rows row)
 
 abbrev pub part_with : List Fault → List RowView → RowView → Option ℕ → Option (ℕ × Part)
 part_with faults rows row (Some time) =
@@ -106,7 +107,8 @@ target_passes test s None = false
 -- a stage may take the buffer: it waits, the readout is home, and the acquire fence is passed
 abbrev pub may_fill : List Fault → (ℕ → Bool) → RowView → TargetView → Bool
 may_fill faults signalled row target =
-    (is_sound faults row target && is_state target.state Waiting) && (is_home row.sensor && is_passed signalled target.fence)
+    (is_sound faults row target && is_state target.state Waiting)
+    && (is_home row.sensor && is_passed signalled target.fence)
 
 abbrev pub is_fill_ready : List Fault → (ℕ → Bool) → List RowView → ℕ → ℕ → Bool
 is_fill_ready faults signalled rows n s = target_passes (may_fill faults signalled) s (row_at n rows)
@@ -114,7 +116,8 @@ is_fill_ready faults signalled rows n s = target_passes (may_fill faults signall
 -- the buffer may come back with its picture or early: the frame is exposed, and no earlier frame holds the stream back
 abbrev pub may_return : List Fault → List RowView → RowView → TargetView → Bool
 may_return faults rows row target =
-    (is_sound faults row target && is_some row.shutter) && each_below row.frame.0 (λ other. not (holds_back target.stream.0 other)) rows
+    (is_sound faults row target && is_some row.shutter)
+    && each_below row.frame.0 (λ other. not (holds_back target.stream.0 other)) rows
 
 abbrev pub may_deliver : List Fault → List RowView → RowView → TargetView → Bool
 may_deliver faults rows row target = is_state target.state Filled && may_return faults rows row target
@@ -144,14 +147,16 @@ abbrev pub fails_device_at : List Fault → List RowView → ℕ → Bool
 fails_device_at faults rows n = is_failing faults n (next_exposure rows)
 
 abbrev pub error_of : List Fault → List RowView → Option RowView → Option ErrorEntry
-error_of faults rows (Some row) = next_due row (verdict_of row (faults_of faults row)) (may_end_metadata rows row.frame.0)
+error_of faults rows (Some row) =
+    next_due row (verdict_of row (faults_of faults row)) (may_end_metadata rows row.frame.0)
 error_of faults rows None = None
 
 -- the error that is due at frame n: the device's failure, else the next that the frame's verdict names
 abbrev pub next_error : List Fault → List RowView → ℕ → Option ErrorEntry
 next_error faults rows n = if fails_device_at faults rows n then Some Device else error_of faults rows (row_at n rows)
 
--- a buffer comes back in error: its frame failed whole or its error is announced, and neither the sensor nor a stage has it
+-- a buffer comes back in error: its frame failed whole or its error is announced, and neither the sensor nor a stage
+-- has it
 abbrev pub may_return_failed : RowView → TargetView → Bool
 may_return_failed row target =
     (row.request_error || target.announced)

@@ -30,7 +30,8 @@ fence_number fence = option_map (λ f. f.0) fence
 
 -- the buffer of a target that waits
 abbrev pub waiting_for : TargetView → StreamSpec → Held
-waiting_for target spec = HeldWaiting (record { buffer = target.buffer; spec = spec; fence = fence_number target.fence })
+waiting_for target spec =
+    HeldWaiting (record { buffer = target.buffer; spec = spec; fence = fence_number target.fence })
 
 abbrev pub waiting_with : TargetView → Option StreamSpec → Option Held
 waiting_with target (Some spec) = Some (waiting_for target spec)
@@ -122,7 +123,8 @@ abbrev pub agree_at : SensorPlace → RowView → Bool
 agree_at NotYet row =
     is_none row.shutter
     && (list_all is_unbegun (four_list row.targets) && (row.request_error || list_all waits (four_list row.targets)))
-agree_at SensorOut row = is_some row.shutter && (list_any waits (four_list row.targets) && list_all waits (four_list row.targets))
+agree_at SensorOut row =
+    is_some row.shutter && (list_any waits (four_list row.targets) && list_all waits (four_list row.targets))
 agree_at Home row = is_some row.shutter && (fills_out row == 0)
 agree_at WithFill row = is_some row.shutter && (fills_out row == 1)
 
@@ -132,15 +134,18 @@ agree row = agree_at row.sensor row
 -- the settings are in range, the streams of the targets rise and are among so many, and there is a target
 abbrev pub is_placed : ℕ → RowView → Bool
 is_placed streams row =
-    is_none (range_fault row.settings) && (rise_from 0 streams (four_list row.targets) && is_some_target (four_list row.targets))
+    is_none (range_fault row.settings)
+    && (rise_from 0 streams (four_list row.targets) && is_some_target (four_list row.targets))
 
 abbrev pub is_kept : ℕ → RowView → Bool
 is_kept streams row = is_placed streams row && agree row
 
 -- ---- what the store meets
 
--- what is held follows from the rows, their frames rise, there is a readout for each row that may stand, and each row is as it must be
-pub record IsKept (plan : Plan) (rows : List (Row Held)) (capacity : ℕ) (slots : List Slot) (spares slot_room spare_room : ℕ) : Type 0 where
+-- what is held follows from the rows, their frames rise, there is a readout for each row that may stand, and each row
+-- is as it must be
+pub record IsKept (plan : Plan) (rows : List (Row Held)) (capacity : ℕ) (slots : List Slot)
+    (spares slot_room spare_room : ℕ) : Type 0 where
   pub filled : rows ≡ map (full (specs_of plan)) (views rows)
   pub shown : slots ≡ map slot_of (views rows)
   pub order : rises frame_number (views rows) ≡ true

@@ -74,7 +74,8 @@ waiter_kept fences None = None
 
 -- the target's buffer, which shows the picture of the row's frame for the stream
 abbrev pub ShowsTarget : RowView → Option TargetView → Option StreamSpec → Shown → List ℕ → Type 0
-ShowsTarget row (Some target) (Some spec) pixels digest = IsPictureFor spec row.settings row.frame.0 target.buffer pixels digest
+ShowsTarget row (Some target) (Some spec) pixels digest =
+    IsPictureFor spec row.settings row.frame.0 target.buffer pixels digest
 ShowsTarget row _ _ pixels digest = ⊥
 
 abbrev pub ShowsRow : List StreamSpec → ℕ → Option RowView → Shown → List ℕ → Type 0
@@ -87,7 +88,8 @@ ShowsAt specs n s rows pixels digest = ShowsRow specs s (row_at n rows) pixels d
 
 -- the waiter that is left: that of a target that waits, whose fence isn't signalled
 abbrev pub waiter_left : FencesMade → TargetView → Option ℕ
-waiter_left fences target = if is_state target.state Waiting then waiter_kept fences (option_map (λ (f : FenceNo). f.0) target.fence) else None
+waiter_left fences target =
+    if is_state target.state Waiting then waiter_kept fences (option_map (λ (f : FenceNo). f.0) target.fence) else None
 
 -- the target's buffer, with that waiter
 pub record IsBack (fences : FencesMade) (spec : StreamSpec) (target : TargetView) (parked : Parked) : Type 0 where

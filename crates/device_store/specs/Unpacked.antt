@@ -21,7 +21,8 @@ abbrev pub IsShown : JobView → Shown → Type 0
 IsShown job pixels = (digest : List ℕ) × IsPictureOf job pixels digest
 
 abbrev pub IsUnpacked : FencesMade → Held → Parked → Type 0
-IsUnpacked fences (Waiting place) parked = IsBufferFor place.spec place.buffer parked.pixels × (parked.waiter ≡ waiter_kept fences place.fence)
+IsUnpacked fences (Waiting place) parked =
+    IsBufferFor place.spec place.buffer parked.pixels × (parked.waiter ≡ waiter_kept fences place.fence)
 IsUnpacked fences (Filled job) parked = IsShown job parked.pixels × (parked.waiter ≡ None)
 
 -- ---- all that is held for a row
@@ -41,4 +42,5 @@ is_made_at made None = true
 -- each waiter that is held is of one of so many fences that were made
 abbrev pub is_made_row : ℕ → Row Held → Bool
 is_made_row made row =
-    is_made_at made row.parked.a && (is_made_at made row.parked.b && (is_made_at made row.parked.c && is_made_at made row.parked.d))
+    is_made_at made row.parked.a
+    && (is_made_at made row.parked.b && (is_made_at made row.parked.c && is_made_at made row.parked.d))

@@ -57,7 +57,8 @@ impl Store {
     /// Takes the buffer and the readout back from a stage, whose job is out.
     pub fn end_fill(&mut self, job: FilledJob)
         requires { IsFillJobOut (specs_of self.old.plan) self.old.rows job }
-        ensures { IfSome job.fill (λ target. self.new ≡ with_rows (with_row job.frame.0 (fill_ended target.stream) self.old.rows) self.old) }
+        ensures { IfSome job.fill
+            (λ target. self.new ≡ with_rows (with_row job.frame.0 (fill_ended target.stream) self.old.rows) self.old) }
     {
         let frame = job.frame();
         let stream = job.target().stream;

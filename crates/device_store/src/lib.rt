@@ -1,5 +1,5 @@
-//! The rows of the open frames with all that the device holds for them: the buffers that wait and those that are filled,
-//! and the readouts. Each step of the device moves them here.
+//! The rows of the open frames with all that the device holds for them: the buffers that wait and those that are
+//! filled, and the readouts. Each step of the device moves them here.
 #![tactic(auto)]
 
 mod buffers;

@@ -8,8 +8,11 @@ use stream_config::{Plan, PlanStream};
 
 /// The specification at a place, where the stream has it; else the place counted from the next stream on.
 fn step(stream: Option<PlanStream>, place: u8) -> Result<StreamSpec, u8>
-    ensures here { IfOk result (λ spec. (rest : List AStream) → slice_get (map spec_of (option_to_list stream ++ rest)) place ≡ Some spec) }
-    ensures later { IfErr result (λ next. (rest : List AStream) → slice_get (map spec_of (option_to_list stream ++ rest)) place ≡ slice_get (map spec_of rest) next) }
+    ensures here { IfOk result
+        (λ spec. (rest : List AStream) → slice_get (map spec_of (option_to_list stream ++ rest)) place ≡ Some spec) }
+    ensures later { IfErr result
+        (λ next. (rest : List AStream) →
+        slice_get (map spec_of (option_to_list stream ++ rest)) place ≡ slice_get (map spec_of rest) next) }
 {
     match stream {
         Some(stream) => {

@@ -1,5 +1,5 @@
 //! The store ends, and spends all that it holds.
-ghost use Rattle.std.specs.Prelude.{◌≡◌, ◌<◌, not, IfSome, IsTrue};
+ghost use Rattle.std.specs.Prelude.{◌≡◌, not, IsTrue};
 ghost use Rattle.std.specs.List.{list_all};
 ghost use Rattle.fence_tokens.specs.Fences.{made};
 ghost use Rattle.device_rows.specs.Jobs.{has_job_out};
@@ -8,9 +8,8 @@ ghost use Rattle.device_store.specs.Unpacked.{is_made_at, is_made_held, is_made_
 
 use crate::buffers::Held;
 use crate::store::Store;
-use buffer_pool::Parked;
 use cam_types::Four;
-use fence_tokens::{Fences, Waiter};
+use fence_tokens::Fences;
 use inflight_table::Row;
 
 impl Store {
@@ -63,26 +62,11 @@ fn scrap_held(held: Held, fences: &mut Fences)
     requires { IsTrue (is_made_held (made fences.old) held) }
     ensures { fences.new ≡ fences.old }
 {
-    let pixels = match held {
-        Held::Waiting(waiting) => {
-            let Parked { pixels, waiter } = waiting.into_parked();
-            scrap_waiter(waiter, fences);
-            pixels
-        }
+    let _block = match held {
+        Held::Waiting(waiting) => waiting.into_parked().into_block(fences),
         Held::Filled(filled) => {
             let (pixels, _) = filled.into_parts();
-            pixels
+            pixels.into_block()
         }
     };
-    let _ = pixels.into_block();
-}
-
-fn scrap_waiter(waiter: Option<Waiter>, fences: &mut Fences)
-    requires { IfSome waiter (λ w. w < made fences.old) }
-    ensures { fences.new ≡ fences.old }
-{
-    match waiter {
-        Some(waiter) => fences.scrap_waiter(waiter),
-        None => {}
-    }
 }

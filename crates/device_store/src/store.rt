@@ -38,7 +38,8 @@ impl Model for Store {
 
     ghost view = { λ s. record { plan = s.plan; capacity = s.table.capacity; rows = views s.table.rows } };
 
-    ghost invariant = { λ s. IsKept s.plan s.table.rows s.table.capacity s.slots.items (length s.spares.items) (vec_capacity s.slots) (vec_capacity s.spares) };
+    ghost invariant = { λ s. IsKept s.plan s.table.rows s.table.capacity s.slots.items (length s.spares.items)
+        (vec_capacity s.slots) (vec_capacity s.spares) };
 }
 
 impl Store {

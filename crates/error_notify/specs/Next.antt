@@ -60,10 +60,12 @@ error_frame (LostMetadata frame) = Some frame
 error_frame (LostBuffer frame stream) = Some frame
 error_frame Device = None
 
--- none of the errors that the verdict names may be told: that of the metadata waits for its turn, and no buffer is named
+-- none of the errors that the verdict names may be told: that of the metadata waits for its turn, and no buffer is
+-- named
 abbrev pub IsNothingDue : Four TargetView → RowVerdict → Bool → Type 0
 IsNothingDue targets Request may_end = ⊥
-IsNothingDue targets (Parts metadata buffers) may_end = ((metadata && may_end) ≡ false) × (missing_streams buffers targets ≡ [])
+IsNothingDue targets (Parts metadata buffers) may_end =
+    ((metadata && may_end) ≡ false) × (missing_streams buffers targets ≡ [])
 IsNothingDue targets Nothing may_end = Unit {0}
 
 -- the verdict names the stream's buffer, and none of a stream below it

@@ -9,12 +9,13 @@ use crate::entry::ErrorEntry;
 use cam_types::{Four, FrameNo, RowVerdict, RowView, StreamIx, TargetView};
 
 /// The next error of those that the verdict on the row names: of the request; of the metadata, where `may_end` says
-/// that its turn has come; of the buffer of the least stream. None exactly where none of these may be told. It is of the
-/// row's frame, and so never the device's own.
+/// that its turn has come; of the buffer of the least stream. None exactly where none of these may be told. It is of
+/// the row's frame, and so never the device's own.
 pub fn next_error(row: RowView, verdict: RowVerdict, may_end: bool) -> Option<ErrorEntry>
     ensures value { result ≡ next_due row verdict may_end }
     ensures none { IsNone result ↔ IsNothingDue row.targets verdict may_end }
-    ensures least { (frame : AFrame) (stream : AStream) → result ≡ Some (ErrorEntry.Buffer frame stream) → IsLeastNamed stream.0 row.targets verdict }
+    ensures least { (frame : AFrame) (stream : AStream) → result ≡ Some (ErrorEntry.Buffer frame stream) →
+        IsLeastNamed stream.0 row.targets verdict }
     ensures own { IfSome result (λ entry. error_frame entry ≡ Some row.frame) }
 {
     match verdict {

@@ -3,8 +3,8 @@ ghost use Rattle.std.specs.Prelude.{◌≡◌};
 
 use std::marker::Model;
 
-/// The right to signal a fence. A contract sees it as the fence's number. It can't be copied or let go: `Fences::signal`
-/// and `Fences::scrap_signaller` end it.
+/// The right to signal a fence. A contract sees it as the fence's number. It can't be copied or let go:
+/// `Fences::signal` and `Fences::scrap_signaller` end it.
 pub struct Signaller {
     number: u32,
 }

@@ -10,7 +10,8 @@ use Rattle.cam_types.specs.declared.stream.StreamSpec.{StreamSpec}
 use Rattle.buffer_pool.specs.Blocks.{block_length}
 use Rattle.sha2.specs.Sha256.{sha256}
 
--- The buffer of a stream at the device (camera3.h, camera3_stream_buffer). How long pictures and blocks are is our own choice.
+-- The buffer of a stream at the device (camera3.h, camera3_stream_buffer). How long pictures and blocks are is our own
+-- choice.
 
 -- the buffer of this number, which shows as many bytes as a picture of the stream has, over a whole block
 pub record IsBufferFor (spec : StreamSpec) (buffer : BufferId) (pixels : Shown) : Type 0 where
@@ -19,21 +20,24 @@ pub record IsBufferFor (spec : StreamSpec) (buffer : BufferId) (pixels : Shown) 
   pub block : pixels.block ≡ block_length spec.format
 
 -- the buffer of this number over a whole block, which shows frame n, with the digest of what it shows
-pub record IsPictureFor (spec : StreamSpec) (settings : Settings) (n : ℕ) (buffer : BufferId) (pixels : Shown) (digest : List ℕ) : Type 0 where
+pub record IsPictureFor (spec : StreamSpec) (settings : Settings) (n : ℕ) (buffer : BufferId) (pixels : Shown)
+    (digest : List ℕ) : Type 0 where
   pub id : pixels.id ≡ buffer
   pub bytes : pixels.bytes ≡ picture spec settings n
   pub block : pixels.block ≡ block_length spec.format
   pub digested : digest ≡ sha256 (picture spec settings n)
 
 -- what a fill of frame n has: settings in range, a stream that is offered, the frame's readout, and the target's buffer
-pub record IsFillOf (settings : Settings) (n : ℕ) (target : FillTarget) (values : List ℕ) (pixels : Shown) : Type 0 where
+pub record IsFillOf (settings : Settings) (n : ℕ) (target : FillTarget) (values : List ℕ)
+    (pixels : Shown) : Type 0 where
   pub range : range_fault settings ≡ None
   pub offered : is_offered target.spec ≡ true
   pub exposed : values ≡ readout settings n
   pub whole : IsBufferFor target.spec target.buffer pixels
 
 -- what it has once it is done
-pub record IsFilledOf (settings : Settings) (n : ℕ) (target : FillTarget) (values : List ℕ) (pixels : Shown) (digest : List ℕ) : Type 0 where
+pub record IsFilledOf (settings : Settings) (n : ℕ) (target : FillTarget) (values : List ℕ) (pixels : Shown)
+    (digest : List ℕ) : Type 0 where
   pub range : range_fault settings ≡ None
   pub offered : is_offered target.spec ≡ true
   pub exposed : values ≡ readout settings n

@@ -13,7 +13,12 @@ pub(crate) fn draw(readout: &Readout, spec: StreamSpec, pixels: &mut PixelBuf) -
     requires values { All (λ v. (64 ≤ v) × (v ≤ 1023)) readout.now }
     requires offered { IsTrue (is_offered spec) }
     requires room { length pixels.old.bytes ≡ length_in spec.format spec.width spec.height }
-    ensures picture { pixels.new ≡ record { id = pixels.old.id; bytes = picture_of spec.format spec.width spec.height readout.now; block = pixels.old.block } }
+    ensures picture { pixels.new ≡
+        record {
+          id = pixels.old.id;
+          bytes = picture_of spec.format spec.width spec.height readout.now;
+          block = pixels.old.block;
+        } }
     ensures digest { result ≡ sha256 (picture_of spec.format spec.width spec.height readout.now) }
 {
     match spec.format {

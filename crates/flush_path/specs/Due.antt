@@ -30,7 +30,8 @@ is_untouched (Some target) = is_awaited target
 abbrev pub is_bare : RowView → Bool
 is_bare row =
     ((row.parts == 0) && (not row.request_error && not row.result_error))
-    && (is_untouched row.targets.a && (is_untouched row.targets.b && (is_untouched row.targets.c && is_untouched row.targets.d)))
+    && (is_untouched row.targets.a
+    && (is_untouched row.targets.b && (is_untouched row.targets.c && is_untouched row.targets.d)))
 
 -- the capture fails whole: nothing of it came, and a stop takes it, or a fault of the request once it is exposed
 abbrev pub fails_whole : RowView → RowFaults → Bool
@@ -91,4 +92,5 @@ abbrev pub is_all_said : RowView → Bool
 is_all_said row =
     row.request_error
     || (not (awaits_metadata row)
-    && not (is_awaited_at row.targets.a || (is_awaited_at row.targets.b || (is_awaited_at row.targets.c || is_awaited_at row.targets.d))))
+    && not (is_awaited_at row.targets.a
+    || (is_awaited_at row.targets.b || (is_awaited_at row.targets.c || is_awaited_at row.targets.d))))

@@ -8,11 +8,13 @@ ghost use Rattle.flush_path.specs.Due.{has_fault, is_all_said, verdict_of};
 
 /// A frame that has no fault and that nothing stopped has no error.
 pub fn no_error_without_a_cause()
-    ensures { (row : ARow) (faults : SomeFaults) → row.stopped ≡ false → has_fault faults ≡ false → verdict_of row faults ≡ Nothing }
+    ensures { (row : ARow) (faults : SomeFaults) → row.stopped ≡ false → has_fault faults ≡ false →
+        verdict_of row faults ≡ Nothing }
 {}
 
 /// A stop leaves nothing out: once no error is due for an exposed frame that was stopped, it failed whole, or its
 /// metadata ended and the client waits for word of none of its buffers.
 pub fn a_stop_leaves_nothing_out()
-    ensures { (row : ARow) (faults : SomeFaults) → row.stopped ≡ true → IsSome row.shutter → verdict_of row faults ≡ Nothing → IsTrue (is_all_said row) }
+    ensures { (row : ARow) (faults : SomeFaults) → row.stopped ≡ true → IsSome row.shutter →
+        verdict_of row faults ≡ Nothing → IsTrue (is_all_said row) }
 {}

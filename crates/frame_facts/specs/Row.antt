@@ -20,8 +20,8 @@ use Rattle.trace_model.specs.Stopping.{is_stopped}
 
 -- What is kept of an open frame: how it was sent, and how far it is.
 
--- a buffer that a frame was sent with: whether its error is announced, whether it came back, the device fences with which it
--- came back early (one at most), and whether the device is done with it
+-- a buffer that a frame was sent with: whether its error is announced, whether it came back, the device fences with
+-- which it came back early (one at most), and whether the device is done with it
 pub record Target : Type 0 where
   pub sent : Sent
   pub announced : Bool
@@ -144,4 +144,5 @@ rows_after script past e rows = filter is_open_row (map (noted_row e) rows) ++ n
 
 -- the law: the rows follow the entries
 abbrev pub RowsFollow : Script → List Entry → Entry → Type 0
-RowsFollow script past e = IsLegal script (e ∷ past) → open_rows script (e ∷ past) ≡ rows_after script past e (open_rows script past)
+RowsFollow script past e =
+    IsLegal script (e ∷ past) → open_rows script (e ∷ past) ≡ rows_after script past e (open_rows script past)

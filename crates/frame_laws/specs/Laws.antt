@@ -9,8 +9,8 @@ use Rattle.trace_model.specs.Laws.{CountsUp, counts_up, ends_in_order, ends_meta
 use Rattle.trace_model.specs.Legal.{IsLegal}
 use Rattle.trace_model.specs.Queue.{submitted}
 
--- What a user of the contract may rely on: the order of shutters and of metadata in a legal run, and how often each thing
--- comes in a complete one.
+-- What a user of the contract may rely on: the order of shutters and of metadata in a legal run, and how often each
+-- thing comes in a complete one.
 
 -- each shutter has a greater frame and a later time than all before it
 abbrev pub ShuttersRise : Script → List Entry → Type 0
@@ -30,8 +30,10 @@ PartialsCountUp script past = IsComplete script past → CountsUp past
 
 -- the metadata of each frame ends once: by its last part, by a result error or by a request error
 abbrev pub MetadataEndsOnce : Script → List Entry → Type 0
-MetadataEndsOnce script past = IsComplete script past → IsTrue (list_all (λ n. count_by (ends_metadata n) past == 1) (frames past))
+MetadataEndsOnce script past =
+    IsComplete script past → IsTrue (list_all (λ n. count_by (ends_metadata n) past == 1) (frames past))
 
 -- each item of an accepted once or burst is sent or dropped once
 abbrev pub ItemsEndOnce : Script → List Entry → Type 0
-ItemsEndOnce script past = IsComplete script past → IsTrue (list_all (λ w. count_by (takes w.request.0 w.index) past == 1) (submitted script past))
+ItemsEndOnce script past = IsComplete script past →
+    IsTrue (list_all (λ w. count_by (takes w.request.0 w.index) past == 1) (submitted script past))

@@ -10,15 +10,15 @@ pub fn shutters_rise()
     ensures { (script : SomeScript) (past : List SomeEntry) → ShuttersRise script past }
 {}
 
-/// The metadata of the frames of a legal run ends in the order of their numbers: each last part and each result error is of
-/// a greater frame than all before it.
+/// The metadata of the frames of a legal run ends in the order of their numbers: each last part and each result error
+/// is of a greater frame than all before it.
 #[tactic(auto, using(crate::proofs::MetadataOrder::metadata_in_order))]
 pub fn metadata_ends_in_order()
     ensures { (script : SomeScript) (past : List SomeEntry) → MetadataEndsInOrder script past }
 {}
 
-/// The parts of each frame of a legal run are 1 to k, each once and in turn. In a complete one k is 3, but for a frame with a
-/// result error or a request error.
+/// The parts of each frame of a legal run are 1 to k, each once and in turn. In a complete one k is 3, but for a frame
+/// with a result error or a request error.
 #[tactic(auto, using(crate::proofs::Parts::parts_in_order, crate::proofs::MetadataOnce::partials_count_up))]
 pub fn partials_count_up()
     ensures parts { (script : SomeScript) (past : List SomeEntry) → PartsComeInOrder script past }

@@ -1,5 +1,5 @@
-//! Laws on the frames of a trace: shutters rise, metadata ends in order and once, partials count up, and each queued item is
-//! taken once. See `specs/`.
+//! Laws on the frames of a trace: shutters rise, metadata ends in order and once, partials count up, and each queued
+//! item is taken once. See `specs/`.
 #![tactic(auto)]
 
 mod laws;

@@ -7,8 +7,8 @@ use Rattle.inflight_table.specs.declared.row.Row.{Row}
 use Rattle.inflight_table.specs.declared.mark.Mark.{Mark}
 use Rattle.inflight_table.specs.Marks.{marked}
 
--- The rows of the open frames, in order of frames, each with what is parked for its targets (camera3.h, S2: the captures
--- that are in flight; that a row keeps the buffers and jobs of its frame is our own choice).
+-- The rows of the open frames, in order of frames, each with what is parked for its targets (camera3.h, S2: the
+-- captures that are in flight; that a row keeps the buffers and jobs of its frame is our own choice).
 
 abbrev pub frame_of : {B : Type 0} → Row B → ℕ
 frame_of row = row.view.frame.0
@@ -80,7 +80,8 @@ has_place s row = has_target s row.view.targets && not (is_some (parked_for s ro
 -- nothing is parked in the row
 abbrev pub is_cleared : {B : Type 0} → Row B → Bool
 is_cleared row =
-    not (is_some row.parked.a) && (not (is_some row.parked.b) && (not (is_some row.parked.c) && not (is_some row.parked.d)))
+    not (is_some row.parked.a)
+    && (not (is_some row.parked.b) && (not (is_some row.parked.c) && not (is_some row.parked.d)))
 
 -- there is such a row, and it passes the test
 abbrev pub passes : {B : Type 0} → (Row B → Bool) → Option (Row B) → Bool
@@ -111,18 +112,21 @@ are_both (Some target) thing = is_some thing
 -- one thing for each target, at its place
 abbrev pub is_one_each : {B : Type 0} → Four TargetView → Four B → Bool
 is_one_each targets parked =
-    are_both targets.a parked.a && (are_both targets.b parked.b && (are_both targets.c parked.c && are_both targets.d parked.d))
+    are_both targets.a parked.a
+    && (are_both targets.b parked.b && (are_both targets.c parked.c && are_both targets.d parked.d))
 
 -- nothing is parked where there is no target
 abbrev pub is_at_target : {B : Type 0} → Option TargetView → Option B → Bool
 is_at_target None thing = not (is_some thing)
 is_at_target (Some target) thing = true
 
--- the streams of the targets differ, and what is parked is parked for a target: so each thing can be taken by its stream
+-- the streams of the targets differ, and what is parked is parked for a target: so each thing can be taken by its
+-- stream
 abbrev pub is_in_reach : {B : Type 0} → Four TargetView → Four B → Bool
 is_in_reach targets parked =
     are_apart targets
-    && (is_at_target targets.a parked.a && (is_at_target targets.b parked.b && (is_at_target targets.c parked.c && is_at_target targets.d parked.d)))
+    && (is_at_target targets.a parked.a
+    && (is_at_target targets.b parked.b && (is_at_target targets.c parked.c && is_at_target targets.d parked.d)))
 
 abbrev pub is_sound : {B : Type 0} → Row B → Bool
 is_sound row = is_in_reach row.view.targets row.parked

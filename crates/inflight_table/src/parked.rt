@@ -55,8 +55,12 @@ pub(crate) fn put_parked<B>(
     thing: B,
     parked: &mut Four<B>,
 ) -> Option<B>
-    ensures handed_back { result ≡ (if has_target stream.0 targets && not (is_some (parked_at stream.0 targets parked.old)) then None else Some thing) }
-    ensures kept { parked.new ≡ (if has_target stream.0 targets && not (is_some (parked_at stream.0 targets parked.old)) then placed_at stream.0 targets (Some thing) parked.old else parked.old) }
+    ensures handed_back { result ≡
+        (if has_target stream.0 targets && not (is_some (parked_at stream.0 targets parked.old)) then None
+        else Some thing) }
+    ensures kept { parked.new ≡
+        (if has_target stream.0 targets && not (is_some (parked_at stream.0 targets parked.old))
+        then placed_at stream.0 targets (Some thing) parked.old else parked.old) }
 {
     if is_for(stream, targets.a) {
         return park(&mut parked.a, thing);

@@ -11,9 +11,9 @@ use cam_types::{Four, FrameNo, NoMemory, RowView, StreamIx};
 use std::alloc::{AllocFailed, Global};
 use std::marker::Model;
 
-/// The rows of the open frames, in order of frames, each with what is parked for its targets. A contract sees the list of
-/// the rows, and how many may stand at once. All its memory is taken by `new`. What is parked may be of a type that can't
-/// be dropped: each call hands back what it doesn't keep, and a table is closed only where no row stands.
+/// The rows of the open frames, in order of frames, each with what is parked for its targets. A contract sees the list
+/// of the rows, and how many may stand at once. All its memory is taken by `new`. What is parked may be of a type that
+/// can't be dropped: each call hands back what it doesn't keep, and a table is closed only where no row stands.
 pub struct Table<B> {
     rows: Vec<Row<B>>,
     capacity: u32,
@@ -50,7 +50,8 @@ impl<B> Table<B> {
         requires apart { IsTrue (are_apart row.targets) }
         requires one_each { IsTrue (is_one_each row.targets parked) }
         ensures full { IsErr result ↔ (length self.old.rows ≡ self.old.capacity) }
-        ensures ok { OnOk result (self.new ≡ with_rows (self.old.rows ++ record { view = row; parked = parked } ∷ []) self.old) }
+        ensures ok { OnOk result
+            (self.new ≡ with_rows (self.old.rows ++ record { view = row; parked = parked } ∷ []) self.old) }
         ensures handed_back { IfErr result (λ back. back ≡ parked) }
         ensures err { OnErr result (self.new ≡ self.old) }
     {
@@ -86,8 +87,8 @@ impl<B> Table<B> {
         Some(row.view)
     }
 
-    /// The row at a place, from 0 on in order of frames. None exactly where so many rows don't stand. It is the row that
-    /// its frame finds.
+    /// The row at a place, from 0 on in order of frames. None exactly where so many rows don't stand. It is the row
+    /// that its frame finds.
     pub fn at(&self, place: u32) -> Option<RowView>
         ensures value { result ≡ option_map view_of (slice_get self.now.rows place) }
         ensures found { IfSome result (λ view. option_map view_of (row_of view.frame.0 self.now.rows) ≡ result) }
@@ -132,8 +133,12 @@ impl<B> Table<B> {
     /// Parks a thing for the stream's target in the row of a frame. It is handed back exactly where there is no such
     /// target or its place is taken.
     pub fn put_target(&mut self, frame: FrameNo, stream: StreamIx, parked: B) -> Option<B>
-        ensures handed_back { result ≡ (if passes (has_place stream.0) (row_of frame.0 self.old.rows) then None else Some parked) }
-        ensures parked { self.new ≡ with_rows (if passes (has_place stream.0) (row_of frame.0 self.old.rows) then with_row frame.0 (with_parked stream.0 (Some parked)) self.old.rows else self.old.rows) self.old }
+        ensures handed_back { result ≡
+            (if passes (has_place stream.0) (row_of frame.0 self.old.rows) then None else Some parked) }
+        ensures parked { self.new ≡
+            with_rows
+            (if passes (has_place stream.0) (row_of frame.0 self.old.rows)
+            then with_row frame.0 (with_parked stream.0 (Some parked)) self.old.rows else self.old.rows) self.old }
     {
         let Some(place) = place_of(&self.rows, frame) else {
             return Some(parked);
@@ -145,7 +150,10 @@ impl<B> Table<B> {
     /// Removes the row of a frame. False exactly where no such row stands or something is parked in it; then all stays.
     pub fn retire(&mut self, frame: FrameNo) -> bool
         ensures value { result ≡ passes is_cleared (row_of frame.0 self.old.rows) }
-        ensures left { self.new ≡ with_rows (if passes is_cleared (row_of frame.0 self.old.rows) then without frame.0 self.old.rows else self.old.rows) self.old }
+        ensures left { self.new ≡
+            with_rows
+            (if passes is_cleared (row_of frame.0 self.old.rows) then without frame.0 self.old.rows
+            else self.old.rows) self.old }
         ensures fewer { IsTrue result → length self.new.rows + 1 ≡ length self.old.rows }
     {
         let Some(place) = place_of(&self.rows, frame) else {

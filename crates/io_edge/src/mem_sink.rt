@@ -26,7 +26,13 @@ impl Model for MemSink {
 
     ghost Value = { Output };
 
-    ghost view = { λ s. record { written = take s.used s.block.items; room = length s.block.items; piece = s.piece; calls = s.calls } };
+    ghost view = { λ s.
+        record {
+          written = take s.used s.block.items;
+          room = length s.block.items;
+          piece = s.piece;
+          calls = s.calls;
+        } };
 
     ghost invariant = { λ s. (s.used ≤ length s.block.items) × (0 < s.piece) };
 }
@@ -89,7 +95,8 @@ impl Sink for MemSink {
 
         ensures fails { IsErr result ↔ (Contains self.old.calls.failing (one_more self.old.calls.made)
             ⊎ (0 < length bytes.now) × (length self.old.written ≡ self.old.room)) }
-        ensures count { IfOk result (λ count. count ≡ min (min (length bytes.now) self.old.piece) (self.old.room - length self.old.written)) }
+        ensures count { IfOk result
+            (λ count. count ≡ min (min (length bytes.now) self.old.piece) (self.old.room - length self.old.written)) }
         ensures ok { IfOk result (λ count. self.new ≡ record self.old {
           written = self.old.written ++ take count bytes.now;
           calls = record self.old.calls { made = one_more self.old.calls.made };

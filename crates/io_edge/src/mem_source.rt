@@ -62,7 +62,8 @@ impl Source for MemSource {
         ensures promised { self.old.calls.failing ≡ [] → IsOk result × (self.new.calls.failing ≡ []) }
 
         ensures fails { IsErr result ↔ Contains self.old.calls.failing (one_more self.old.calls.made) }
-        ensures count { IfOk result (λ count. count ≡ min (min (length buf.old) self.old.piece) (length self.old.left)) }
+        ensures count { IfOk result
+            (λ count. count ≡ min (min (length buf.old) self.old.piece) (length self.old.left)) }
         ensures ok { IfOk result (λ count. self.new ≡ record self.old {
           left = drop count self.old.left;
           calls = record self.old.calls { made = one_more self.old.calls.made };

@@ -14,8 +14,8 @@ use judge_filters::call::begun;
 use judge_replies::reply::{is_refused, is_reply};
 use trace_model::Entry;
 
-/// Whether the command may be answered: a waiting one after it began, and where it isn't refused, once what it waits for
-/// is over.
+/// Whether the command may be answered: a waiting one after it began, and where it isn't refused, once what it waits
+/// for is over.
 pub fn may_answer(script: &Script, entries: &[Entry], command: &Command) -> bool
     ensures { result ≡ may_answer script.now (reverse entries.now) command.now }
 {
@@ -39,7 +39,9 @@ fn is_answer(
     word: Word,
     reply: Reply,
 ) -> bool
-    ensures { IsTrue result ↔ (Entry.Call (call_count (reverse entries.now)) (word_of command.now) (reply_to script.now (reverse entries.now) command.now) ≡ Entry.Call index word reply) }
+    ensures { IsTrue result ↔
+        (Entry.Call (call_count (reverse entries.now)) (word_of command.now)
+        (reply_to script.now (reverse entries.now) command.now) ≡ Entry.Call index word reply) }
 {
     call_count(entries) == index as usize
         && (is_same_word(word_of(command), word) && is_reply(script, entries, command, reply))
@@ -54,7 +56,9 @@ fn is_answered(
     word: Word,
     reply: Reply,
 ) -> bool
-    ensures { IsTrue result ↔ (call_of script.now (reverse entries.now) (option_copied command.entry) ≡ Option.Some (Entry.Call index word reply)) }
+    ensures { IsTrue result ↔
+        (call_of script.now (reverse entries.now) (option_copied command.entry) ≡
+        Option.Some (Entry.Call index word reply)) }
 {
     match command {
         Some(command) => may_answer(script, entries, command)

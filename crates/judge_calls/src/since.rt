@@ -49,7 +49,9 @@ fn sends_done_since(script: &Script, entries: &[Entry], earlier: &[Entry], entry
 }
 
 fn count_done_since(script: &Script, entries: &[Entry], earlier: &[Entry]) -> usize
-    ensures { result ≡ count_by (on_send (is_done_since script.now (reverse entries.now) (reverse earlier.now))) (reverse entries.now) }
+    ensures { result ≡
+        count_by (on_send (is_done_since script.now (reverse entries.now) (reverse earlier.now)))
+        (reverse entries.now) }
 {
     let mut count = 0;
     for entry in entries {

@@ -62,7 +62,8 @@ fn has_both(targets: &Four<Sent>, stream: StreamIx, buffer: BufferId) -> bool
 
 /// The target where it is for the stream, else what comes after it.
 fn first_for(target: Option<Sent>, stream: StreamIx, rest: Option<Sent>) -> Option<Sent>
-    ensures { (sents : List SomeSent) → rest ≡ find (λ t. t.stream.0 == stream.0) sents → result ≡ find (λ t. t.stream.0 == stream.0) (option_to_list target ++ sents) }
+    ensures { (sents : List SomeSent) → rest ≡ find (λ t. t.stream.0 == stream.0) sents →
+        result ≡ find (λ t. t.stream.0 == stream.0) (option_to_list target ++ sents) }
 {
     match target {
         Some(sent) => {

@@ -16,5 +16,6 @@ sets_repeating _ = false
 
 -- the repeating list that the entry leaves
 abbrev pub repeating_in : Script → Option Entry → Option Repeating
-repeating_in script (Some (Call i word reply)) = if is_repeat_word word then repeating_of (command_at script i) (request_in reply) else None
+repeating_in script (Some (Call i word reply)) =
+    if is_repeat_word word then repeating_of (command_at script i) (request_in reply) else None
 repeating_in script _ = None

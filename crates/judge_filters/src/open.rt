@@ -90,7 +90,8 @@ fn is_early_and_there(entries: &[Entry], frame: FrameNo, stream: StreamIx, entry
 
 /// Whether the frame's buffer for the stream came back early, and its device fence is signalled.
 fn is_filled_late(entries: &[Entry], frame: FrameNo, stream: StreamIx) -> bool
-    ensures { result ≡ list_any (on_early frame.0 stream.0 (λ d. is_late d (reverse entries.now))) (reverse entries.now) }
+    ensures { result ≡
+        list_any (on_early frame.0 stream.0 (λ d. is_late d (reverse entries.now))) (reverse entries.now) }
 {
     entries
         .iter()

@@ -67,7 +67,8 @@ fn is_metadata_ended_before(entries: &[Entry], frame: FrameNo, entry: &Entry) ->
 }
 
 fn all_metadata_ended_before(entries: &[Entry], frame: FrameNo) -> bool
-    ensures { result ≡ list_all (at_earlier frame.0 (λ m. is_metadata_ended m (reverse entries.now))) (reverse entries.now) }
+    ensures { result ≡
+        list_all (at_earlier frame.0 (λ m. is_metadata_ended m (reverse entries.now))) (reverse entries.now) }
 {
     entries
         .iter()

@@ -58,7 +58,8 @@ fn or_first_put(
     entries: &[Entry],
     entry: &Entry,
 ) -> Option<WaitingItem>
-    ensures { let left = filter (λ w. not (is_taken (reverse entries.now) w)) (puts script.now entry.now) in result ≡ or_first first (first_in left) }
+    ensures { let left = filter (λ w. not (is_taken (reverse entries.now) w)) (puts script.now entry.now) in result ≡
+        or_first first (first_in left) }
 {
     match first {
         Some(_) => first,

@@ -56,8 +56,8 @@ const TRACE: &[Entry] = &[
     Entry::Begin { word: Word::Flush },
 ];
 
-/// After so many entries: the command that has begun, how many frames are open, whether buffer 0 is in the pool and with
-/// which fence, and whether frame 0 is stopped.
+/// After so many entries: the command that has begun, how many frames are open, whether buffer 0 is in the pool and
+/// with which fence, and whether frame 0 is stopped.
 const ROWS: &[(usize, Option<Word>, usize, bool, Option<FenceNo>, bool)] = &[
     (0, None, 0, true, None, false),
     (1, Some(Word::Configure), 0, true, None, false),

@@ -11,7 +11,8 @@ use trace_model::Entry;
 
 /// Whether the buffers made for one stream are in the pool.
 fn are_in_pool(entries: &[Entry], made: Made) -> bool
-    ensures { result ≡ list_all (λ b. is_at (place b (reverse entries.now)) Pool) (range_with_len made.first.0 made.count) }
+    ensures { result ≡
+        list_all (λ b. is_at (place b (reverse entries.now)) Pool) (range_with_len made.first.0 made.count) }
 {
     let first = u64::from(made.first.0);
     let end = first + u64::from(made.count);
@@ -19,7 +20,9 @@ fn are_in_pool(entries: &[Entry], made: Made) -> bool
 }
 
 fn are_any_in_pool(entries: &[Entry], made: Option<Made>) -> bool
-    ensures { result ≡ list_all (λ m. list_all (λ b. is_at (place b (reverse entries.now)) Pool) (numbers_of (Some m))) (option_to_list made) }
+    ensures { result ≡
+        list_all (λ m. list_all (λ b. is_at (place b (reverse entries.now)) Pool) (numbers_of (Some m)))
+        (option_to_list made) }
 {
     match made {
         Some(made) => are_in_pool(entries, made),

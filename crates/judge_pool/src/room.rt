@@ -78,7 +78,8 @@ pub fn made_for(entries: &[Entry], stream: StreamIx) -> Option<Made>
 
 /// How many of the buffers are at the device.
 fn count_at_device(entries: &[Entry], made: Made) -> usize
-    ensures { result ≡ length (filter (λ b. is_at (place b (reverse entries.now)) Device) (range_with_len made.first.0 made.count)) }
+    ensures { result ≡
+        length (filter (λ b. is_at (place b (reverse entries.now)) Device) (range_with_len made.first.0 made.count)) }
 {
     let first = u64::from(made.first.0);
     let end = first + u64::from(made.count);
@@ -99,7 +100,8 @@ fn at_device_count(entries: &[Entry], stream: StreamIx) -> usize
 
 /// How many buffers of the stream may be at the device.
 fn max_buffers_of(script: &Script, entries: &[Entry], stream: StreamIx) -> u32
-    ensures { result ≡ max_buffers_of script.now.profile (slice_get (streams script.now (reverse entries.now)) stream.0) }
+    ensures { result ≡
+        max_buffers_of script.now.profile (slice_get (streams script.now (reverse entries.now)) stream.0) }
 {
     match streams(script, entries).get(stream.0 as usize) {
         Some(spec) => script.profile.max_buffers(spec.format),

@@ -110,8 +110,8 @@ fn released(buffer: u32) -> Entry {
     }
 }
 
-/// After so many entries: whether every buffer is in the pool, and whether the device takes a further buffer of the RAW16
-/// stream, of the YUV stream and of a third one, which isn't there.
+/// After so many entries: whether every buffer is in the pool, and whether the device takes a further buffer of the
+/// RAW16 stream, of the YUV stream and of a third one, which isn't there.
 const ROWS: &[(usize, bool, bool, bool, bool)] = &[
     (0, true, false, false, false),
     (1, true, true, true, false),
@@ -123,7 +123,8 @@ const ROWS: &[(usize, bool, bool, bool, bool)] = &[
     (8, true, true, true, false),
 ];
 
-/// A device that takes two RAW16 buffers alone; an early return makes room for a further one, and the buffer isn't home.
+/// A device that takes two RAW16 buffers alone; an early return makes room for a further one, and the buffer isn't
+/// home.
 #[test]
 fn a_narrow_device(rt: HostRuntime) -> Result<(), Fail> {
     let mut script = two_streams(rt.alloc())?;

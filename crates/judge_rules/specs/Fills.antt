@@ -31,8 +31,8 @@ returns_early_as script past n s b d (Some t) =
     (script.early && may_deliver script past n s t) && ((next_early past == d) && (t.buffer.0 == b))
 returns_early_as script past n s b d None = false
 
--- the buffer is that of the frame's target, which may be delivered, the script has early returns, and the device fence is
--- the next
+-- the buffer is that of the frame's target, which may be delivered, the script has early returns, and the device fence
+-- is the next
 abbrev pub returns_early : Script → List Entry → ℕ → ℕ → ℕ → ℕ → Bool
 returns_early script past n s b d = returns_early_as script past n s b d (target_of n s past)
 
@@ -41,8 +41,8 @@ abbrev pub early_in : Option Entry → Option (FrameNo × StreamIx)
 early_in (Some (Early n s _ _)) = Some (n, s)
 early_in _ = None
 
--- the frame and the stream whose picture is due with the signal of device fence d: a buffer came back early with it, and
--- it isn't signalled
+-- the frame and the stream whose picture is due with the signal of device fence d: a buffer came back early with it,
+-- and it isn't signalled
 abbrev pub fills_late : List Entry → ℕ → Option (FrameNo × StreamIx)
 fills_late past d = if is_late d past then None else early_in (find (is_early_with d) past)
 

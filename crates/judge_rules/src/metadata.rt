@@ -72,7 +72,8 @@ pub fn part_numbered(
     frame: FrameNo,
     number: u8,
 ) -> Option<Entry>
-    ensures { result ≡ part_of script.now (reverse entries.now) frame.0 number (shutter_time frame.0 (reverse entries.now)) }
+    ensures { result ≡
+        part_of script.now (reverse entries.now) frame.0 number (shutter_time frame.0 (reverse entries.now)) }
 {
     let time = shutter_time(entries, frame);
     part_of(script, entries, frame, number, time)

@@ -1,5 +1,5 @@
-//! Whether an entry of a kind is allowed after the entries before it: all kinds but calls and sends, and of a filled buffer
-//! and of the signal of a device fence all but the digest.
+//! Whether an entry of a kind is allowed after the entries before it: all kinds but calls and sends, and of a filled
+//! buffer and of the signal of a device fence all but the digest.
 ghost use Rattle.std.specs.Prelude.{◌≡◌, ◌↔◌, ◌==◌, ◌+◌, ℕ, List, reverse, IsTrue};
 ghost use Rattle.cam_types.specs.declared.script.Script.{Script as SomeScript};
 ghost use Rattle.trace_model.specs.Allowed.{IsAllowed};
@@ -83,7 +83,9 @@ pub fn is_fill_due(
     buffer: BufferId,
     fence: Option<FenceNo>,
 ) -> bool
-    ensures { (digest : List ℕ) → ((IsTrue result × (digest ≡ digest_of script.now (reverse entries.now) frame.0 stream.0)) ↔ IsAllowed script.now (reverse entries.now) (Entry.Filled frame stream buffer fence digest)) }
+    ensures { (digest : List ℕ) →
+        ((IsTrue result × (digest ≡ digest_of script.now (reverse entries.now) frame.0 stream.0)) ↔
+        IsAllowed script.now (reverse entries.now) (Entry.Filled frame stream buffer fence digest)) }
 {
     fills(script, entries, frame, stream, buffer, fence)
 }
@@ -102,10 +104,12 @@ pub fn is_early_due(
     returns_early(script, entries, frame, stream, buffer, fence)
 }
 
-/// The frame and the stream whose picture is due with the signal of the device fence: with the picture's digest, and with
-/// no other one. None where the signal isn't due with any.
+/// The frame and the stream whose picture is due with the signal of the device fence: with the picture's digest, and
+/// with no other one. None where the signal isn't due with any.
 pub fn late_due(entries: &[Entry], fence: FenceNo) -> Option<(FrameNo, StreamIx)>
-    ensures { (script : SomeScript) (digest : List ℕ) → (is_digest_in script (reverse entries.now) result digest ↔ IsAllowed script (reverse entries.now) (Entry.Late fence digest)) }
+    ensures { (script : SomeScript) (digest : List ℕ) →
+        (is_digest_in script (reverse entries.now) result digest ↔
+        IsAllowed script (reverse entries.now) (Entry.Late fence digest)) }
 {
     fills_late(entries, fence)
 }
@@ -118,7 +122,8 @@ pub fn is_failed_due(
     buffer: BufferId,
     fence: Option<FenceNo>,
 ) -> bool
-    ensures { (script : SomeScript) → (IsTrue result ↔ IsAllowed script (reverse entries.now) (Entry.Failed frame stream buffer fence)) }
+    ensures { (script : SomeScript) →
+        (IsTrue result ↔ IsAllowed script (reverse entries.now) (Entry.Failed frame stream buffer fence)) }
 {
     is_due(
         failed_due(entries, frame, stream),
@@ -166,7 +171,8 @@ pub fn is_error_device_due(script: &Script, entries: &[Entry]) -> bool
 
 /// Whether the release of the buffer with the fence is due.
 pub fn is_release_due(entries: &[Entry], buffer: BufferId, fence: FenceNo) -> bool
-    ensures { (script : SomeScript) → (IsTrue result ↔ IsAllowed script (reverse entries.now) (Entry.Release buffer fence)) }
+    ensures { (script : SomeScript) →
+        (IsTrue result ↔ IsAllowed script (reverse entries.now) (Entry.Release buffer fence)) }
 {
     releases(entries, buffer, fence)
 }

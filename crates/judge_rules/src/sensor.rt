@@ -64,7 +64,8 @@ fn sends_exposable(script: &Script, entries: &[Entry], entry: &Entry) -> bool
 }
 
 fn send_of_exposable<'e>(script: &Script, entries: &'e [Entry]) -> Option<&'e Entry>
-    ensures { option_copied result ≡ find (on_send (may_expose script.now (reverse entries.now))) (reverse entries.now) }
+    ensures { option_copied result ≡
+        find (on_send (may_expose script.now (reverse entries.now))) (reverse entries.now) }
 {
     entries
         .iter()
@@ -85,7 +86,8 @@ fn frame_in(entry: Option<&Entry>) -> Option<FrameNo>
 /// The frame whose shutter is due.
 #[tactic(auto, using(judge_filters::proofs::FrameLemmas::frames_find))]
 pub fn next_exposed(script: &Script, entries: &[Entry]) -> Option<FrameNo>
-    ensures { option_map (λ n. n.0) result ≡ find (may_expose script.now (reverse entries.now)) (frames (reverse entries.now)) }
+    ensures { option_map (λ n. n.0) result ≡
+        find (may_expose script.now (reverse entries.now)) (frames (reverse entries.now)) }
 {
     frame_in(send_of_exposable(script, entries))
 }

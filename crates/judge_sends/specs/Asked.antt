@@ -25,4 +25,6 @@ are_left sents p None = false
 
 -- the targets are those of the streams, in order, and each takes its buffer from the pool
 abbrev pub fit : List Entry → Four Sent → List ℕ → Bool
-fit past targets streams = are_streams (four_list targets) streams && (is_filled targets && list_all (takes_from_pool past) (four_list targets))
+fit past targets streams =
+    are_streams (four_list targets) streams
+    && (is_filled targets && list_all (takes_from_pool past) (four_list targets))

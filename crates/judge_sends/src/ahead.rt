@@ -15,8 +15,8 @@ fn holds_back(begun: Option<Word>) -> bool
     matches!(begun, Some(Word::Configure) | Some(Word::Close))
 }
 
-/// How many repeating frames were sent after the last call up to the entry: the entries before it are given, and the count
-/// that they lead to.
+/// How many repeating frames were sent after the last call up to the entry: the entries before it are given, and the
+/// count that they lead to.
 fn repeated_after(count: usize, script: &Script, before: &[Entry], entry: &Entry) -> usize
     requires { count < usize.MAX }
     ensures value { result ≡ repeated_after count script.now (reverse before.now) entry.now }

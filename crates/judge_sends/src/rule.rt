@@ -18,7 +18,8 @@ use trace_model::{Entry, Sent};
 
 /// Whether the next item, under the next number, has this frame, request and place.
 fn is_named(entries: &[Entry], next: Queued, frame: FrameNo, request: RequestId, item: u32) -> bool
-    ensures { result ≡ ((frame.0 == next_number (reverse entries.now)) && ((request.0 == next.request.0) && (item == next.index))) }
+    ensures { result ≡
+        ((frame.0 == next_number (reverse entries.now)) && ((request.0 == next.request.0) && (item == next.index))) }
 {
     frame.0 as usize == next_number(entries) && (request.0 == next.request.0 && item == next.index)
 }

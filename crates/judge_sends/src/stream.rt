@@ -33,7 +33,8 @@ fn has_room_where_asked(script: &Script, entries: &[Entry], asked: Targets, stre
 }
 
 fn have_room_where_asked(script: &Script, entries: &[Entry], asked: Targets) -> bool
-    ensures { result ≡ list_all (λ s. not (asks asked s) || has_room script.now (reverse entries.now) s) (range_with_len 0 4) }
+    ensures { result ≡
+        list_all (λ s. not (asks asked s) || has_room script.now (reverse entries.now) s) (range_with_len 0 4) }
 {
     (0..STREAMS_END).all(|stream| has_room_where_asked(script, entries, asked, stream))
 }
@@ -58,7 +59,8 @@ fn first_asked(asked: Targets, from: u8) -> Option<u8>
 /// The stream after the target's, where the target's is the first that is asked for from the stream on.
 #[tactic(auto, using(crate::proofs::StreamLemmas::left_none))]
 fn after_target(target: Sent, asked: Targets, from: u8) -> Option<u8>
-    ensures { (rest : List SomeSent) → are_left (target ∷ rest) (asks asked) (Some from) ≡ are_left rest (asks asked) result }
+    ensures { (rest : List SomeSent) →
+        are_left (target ∷ rest) (asks asked) (Some from) ≡ are_left rest (asks asked) result }
 {
     match first_asked(asked, from) {
         Some(stream) => {
@@ -74,7 +76,8 @@ fn after_target(target: Sent, asked: Targets, from: u8) -> Option<u8>
 
 /// The stream from which on what is asked for is left to the targets after this one, if it fits.
 fn after(target: Option<Sent>, asked: Targets, from: Option<u8>) -> Option<u8>
-    ensures { (rest : List SomeSent) → are_left (option_to_list target ++ rest) (asks asked) from ≡ are_left rest (asks asked) result }
+    ensures { (rest : List SomeSent) →
+        are_left (option_to_list target ++ rest) (asks asked) from ≡ are_left rest (asks asked) result }
 {
     match target {
         Some(target) => match from {

@@ -4,7 +4,8 @@ use Rattle.std.specs.Str.Lines.{strip_carriage_return}
 use Rattle.text_parts.specs.Cuts.{parts_at}
 use Rattle.text_parts.specs.Words.{loose_words}
 
--- How the judge's input is cut: a script, and from the first line on whose first word is `trace` a trace. (docs/FORMATS.md)
+-- How the judge's input is cut: a script, and from the first line on whose first word is `trace` a trace.
+-- (docs/FORMATS.md)
 
 abbrev pub begins_trace : List (List ℕ) → Bool
 begins_trace [] = false
@@ -21,7 +22,8 @@ bytes_before (line ∷ lines) = if is_trace_line line then 0 else length line + 
 
 -- where the trace begins; at the end where there is no such line
 unfoldable pub trace_start : List ℕ → ℕ
-trace_start input = if list_any is_trace_line (parts_at 10 input) then bytes_before (parts_at 10 input) else length input
+trace_start input =
+    if list_any is_trace_line (parts_at 10 input) then bytes_before (parts_at 10 input) else length input
 
 abbrev pub script_part : List ℕ → List ℕ
 script_part input = take (trace_start input) input

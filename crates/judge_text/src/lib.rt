@@ -1,5 +1,5 @@
-//! The judge's input and its lines as text: where the trace begins behind a script, whether the profiles of the two agree,
-//! what the verdict is called, and how a script or a trace is refused.
+//! The judge's input and its lines as text: where the trace begins behind a script, whether the profiles of the two
+//! agree, what the verdict is called, and how a script or a trace is refused.
 #![tactic(auto)]
 
 mod line;

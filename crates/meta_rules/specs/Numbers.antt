@@ -32,7 +32,9 @@ abbrev pub int64_entry : ℕ → ℕ → Entry
 int64_entry tag n = record { tag = tag; values = Int64 (pos n ∷ []) }
 
 abbrev pub settings_entries : Settings → List Entry
-settings_entries s = byte_entry pattern_tag s.pattern ∷ int32_entry level_tag s.level ∷ int64_entry exposure_tag s.exposure ∷ int32_entry sensitivity_tag s.iso ∷ []
+settings_entries s =
+    byte_entry pattern_tag s.pattern ∷ int32_entry level_tag s.level ∷ int64_entry exposure_tag s.exposure
+    ∷ int32_entry sensitivity_tag s.iso ∷ []
 
 infixl 10 ◌>>=◌
 abbrev pub ◌>>=◌ : {A B : Type 0} → Result A SettingsRefused → (A → Result B SettingsRefused) → Result B SettingsRefused

@@ -13,13 +13,15 @@ use metadata::spelled_is_read;
 
 /// Settings in range are read in the list that is packed of them.
 pub fn settings_read_back()
-    ensures { (settings : SomeSettings) → range_fault settings ≡ None → settings_in (settings_entries settings) ≡ Ok settings }
+    ensures { (settings : SomeSettings) → range_fault settings ≡ None →
+        settings_in (settings_entries settings) ≡ Ok settings }
 {}
 
 /// A part that has a packed form is read in that form.
 pub fn parts_read_back()
     ensures { (part : APart) → PatternFits part → PartFits part
-        → (list_of (bytes_of (part_entries part)) ≡ Ok (part_entries part)) × (part_in (part_number part) (part_entries part) ≡ Some part) }
+        → (list_of (bytes_of (part_entries part)) ≡ Ok (part_entries part))
+        × (part_in (part_number part) (part_entries part) ≡ Some part) }
 {
     spelled_is_read();
 }

@@ -27,7 +27,8 @@ abbrev pub add_refusal : ℕ → Values → List Entry → Option AddRefused
 add_refusal tag values es =
     if (count_of values == 0) || nat_lt 1024 (count_of values) then Some Count
     else (if is_some (values_at tag es) then Some Repeated
-    else (if nat_lt 64 (length es + 1) || nat_lt 4096 (length (data_area es) + length (data_of (payload values))) then Some Full
+    else (if nat_lt 64 (length es + 1) || nat_lt 4096 (length (data_area es) + length (data_of (payload values)))
+    then Some Full
     else None))
 
 -- each tag is at least so much, and above the tag before it

@@ -26,7 +26,8 @@ u32_at place bytes = from_le_bytes w32 (take 4 (drop place bytes))
 abbrev pub all_zero : List ℕ → Bool
 all_zero bytes = list_all (λ b. b == 0) bytes
 
--- ---- an entry: 16 bytes, in which the tag, the count, the payload or its place, the type number, and three zeros stand
+-- ---- an entry: 16 bytes, in which the tag, the count, the payload or its place, the type number, and three zeros
+-- stand
 
 abbrev pub tag_in : List ℕ → ℕ
 tag_in slot = u32_at 0 slot
@@ -74,7 +75,9 @@ unless (Some e) x = Err e
 
 abbrev pub placed_entry : Option (List ℕ × ℕ) → ElementType → List ℕ → Option ℕ → Result (Entry × ℕ) PackedRefused
 placed_entry None t slot last = Err Overlap
-placed_entry (Some p) t slot last = unless (order_refusal (tag_in slot) last) (record { tag = tag_in slot; values = values_from t (count_in slot) p.0 }, p.1)
+placed_entry (Some p) t slot last =
+    unless (order_refusal (tag_in slot) last)
+    (record { tag = tag_in slot; values = values_from t (count_in slot) p.0 }, p.1)
 
 abbrev pub typed_entry : Option ElementType → List ℕ → List ℕ → ℕ → Option ℕ → Result (Entry × ℕ) PackedRefused
 typed_entry None slot area tiled last = Err BadType
@@ -113,7 +116,8 @@ whole_len bytes = u32_at 12 bytes
 -- the header keeps its rules
 abbrev pub is_header : List ℕ → Bool
 is_header bytes =
-    (version_in bytes == 1) && (nat_le (entry_count bytes) 64 && ((area_len bytes % 8 == 0) && (nat_le (area_len bytes) 4096
+    (version_in bytes == 1)
+    && (nat_le (entry_count bytes) 64 && ((area_len bytes % 8 == 0) && (nat_le (area_len bytes) 4096
     && (whole_len bytes == 16 + 16 * entry_count bytes + area_len bytes))))
 
 -- the entries' bytes, 16 each

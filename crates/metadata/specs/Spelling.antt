@@ -31,7 +31,10 @@ field_of place bytes = if is_short bytes then filled 4 bytes else u32_bytes plac
 -- an entry whose payload, if it is a long one, stands at a place of the data area
 unfoldable pub entry_bytes : ℕ → Entry → List ℕ
 entry_bytes place e =
-    u32_bytes e.tag ++ (u32_bytes (count_of e.values) ++ (field_of place (payload e.values) ++ type_number (type_of e.values) ∷ 0 ∷ 0 ∷ 0 ∷ []))
+    u32_bytes e.tag
+    ++
+    (u32_bytes (count_of e.values)
+    ++ (field_of place (payload e.values) ++ type_number (type_of e.values) ∷ 0 ∷ 0 ∷ 0 ∷ []))
 
 -- the entries, whose payloads tile the data area from a place on
 abbrev pub entries_bytes : ℕ → List Entry → List ℕ
@@ -44,5 +47,8 @@ data_area es = flat_map (λ e. data_of (payload e.values)) es
 -- version, number of entries, length of the data area, whole length; the entries; the data area
 unfoldable pub bytes_of : List Entry → List ℕ
 bytes_of es =
-    u32_bytes 1 ++ (u32_bytes (length es) ++ (u32_bytes (length (data_area es)) ++ (u32_bytes (16 + 16 * length es + length (data_area es))
+    u32_bytes 1
+    ++
+    (u32_bytes (length es)
+    ++ (u32_bytes (length (data_area es)) ++ (u32_bytes (16 + 16 * length es + length (data_area es))
     ++ (entries_bytes 0 es ++ data_area es))))

@@ -17,7 +17,10 @@ type_number element.Rational = 5
 
 -- 2 and 4 stand for FLOAT and DOUBLE, which have no place here
 abbrev pub type_numbered : ℕ → Option ElementType
-type_numbered n = if n == 0 then Some element.Byte else (if n == 1 then Some element.Int32 else (if n == 3 then Some element.Int64 else (if n == 5 then Some element.Rational else None)))
+type_numbered n =
+    if n == 0 then Some element.Byte
+    else (if n == 1 then Some element.Int32
+    else (if n == 3 then Some element.Int64 else (if n == 5 then Some element.Rational else None)))
 
 -- the bytes of one element
 abbrev pub element_len : ElementType → ℕ

@@ -14,5 +14,6 @@ pub fn read_is_spelled()
 
 /// The spelling of a list that `Packed::add` can make spells that list.
 pub fn spelled_is_read()
-    ensures { (entries : List AnEntry) → IsPacked entries → NumbersFit entries → list_of (bytes_of entries) ≡ Ok entries }
+    ensures { (entries : List AnEntry) → IsPacked entries → NumbersFit entries →
+        list_of (bytes_of entries) ≡ Ok entries }
 {}

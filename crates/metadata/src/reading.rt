@@ -219,7 +219,8 @@ fn entries_at(
     area: &[u8],
 ) -> Result<Vec<Entry>, PackedRefused>
     requires { length slots.now ≡ 16 * count }
-    ensures { AnswersPacked (λ entries. entries.items) result (entries_of (pieces 16 (λ slot. slot) count slots.now) area.now 0 None) }
+    ensures { AnswersPacked (λ entries. entries.items) result
+        (entries_of (pieces 16 (λ slot. slot) count slots.now) area.now 0 None) }
 {
     let mut entries = Vec::new(alloc);
     let mut tiled = 0;

@@ -5,9 +5,9 @@ use Rattle.cam_types.specs.declared.row.RowView.{RowView}
 use Rattle.cam_types.specs.declared.row.TargetView.{TargetView}
 use Rattle.cam_types.specs.Rows.{awaits_metadata, is_returned}
 
--- The order of callbacks (camera3.h, process_capture_result): the metadata of frames ends in the order of frames, and so
--- do filled buffers of one stream come back; streams are independent of each other. A buffer whose error is announced
--- keeps no later one waiting (flush, point 3.6), nor does a frame that failed whole.
+-- The order of callbacks (camera3.h, process_capture_result): the metadata of frames ends in the order of frames, and
+-- so do filled buffers of one stream come back; streams are independent of each other. A buffer whose error is
+-- announced keeps no later one waiting (flush, point 3.6), nor does a frame that failed whole.
 
 -- the target is of this stream, and its buffer may still come back filled
 abbrev pub is_held_for : ℕ → Option TargetView → Bool
@@ -18,7 +18,8 @@ is_held_for s (Some target) = (target.stream.0 == s) && (not (is_returned target
 abbrev pub holds_back : ℕ → RowView → Bool
 holds_back s row =
     not row.request_error
-    && (is_held_for s row.targets.a || (is_held_for s row.targets.b || (is_held_for s row.targets.c || is_held_for s row.targets.d)))
+    && (is_held_for s row.targets.a
+    || (is_held_for s row.targets.b || (is_held_for s row.targets.c || is_held_for s row.targets.d)))
 
 -- the streams of the row's targets are among the four that a configuration may have
 abbrev pub is_known : Option TargetView → Bool
@@ -26,10 +27,11 @@ is_known None = true
 is_known (Some target) = nat_lt target.stream.0 4
 
 abbrev pub has_known_streams : RowView → Bool
-has_known_streams row = is_known row.targets.a && (is_known row.targets.b && (is_known row.targets.c && is_known row.targets.d))
+has_known_streams row =
+    is_known row.targets.a && (is_known row.targets.b && (is_known row.targets.c && is_known row.targets.d))
 
--- what an order book knows of the frames that it took note of: the least frame whose metadata hasn't ended, and for each
--- of the streams 0 to 3 the least frame that holds it back
+-- what an order book knows of the frames that it took note of: the least frame whose metadata hasn't ended, and for
+-- each of the streams 0 to 3 the least frame that holds it back
 pub record Order : Type 0 where
   pub metadata : Option FrameNo
   pub streams : List (Option FrameNo)

@@ -8,7 +8,8 @@ ghost use Rattle.notify_order.specs.Order.{book_of, each_below, has_known_stream
 
 /// The metadata of a frame may end exactly where that of each frame below has ended.
 pub fn metadata_ends_after_all_below()
-    ensures { (rows : List ARow) (frame : ℕ) → may_end frame (book_of rows) ≡ each_below frame (λ row. not (awaits_metadata row)) rows }
+    ensures { (rows : List ARow) (frame : ℕ) →
+        may_end frame (book_of rows) ≡ each_below frame (λ row. not (awaits_metadata row)) rows }
 {}
 
 /// A filled buffer of a frame may come back exactly where no frame below holds its stream back.

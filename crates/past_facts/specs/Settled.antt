@@ -16,7 +16,8 @@ abbrev pub gives : ℕ → ℕ → Entry → List ℕ → List ℕ
 gives n s (Early m t _ d) fences = if (m.0 == n) && (t.0 == s) then d.0 ∷ fences else fences
 gives n s _ fences = fences
 
--- the device is done with a buffer where it comes back with its picture or failed, or where its device fence is signalled
+-- the device is done with a buffer where it comes back with its picture or failed, or where its device fence is
+-- signalled
 abbrev pub settles : ℕ → ℕ → Entry → List ℕ → Bool
 settles n s (Late d _) fences = has_fence d.0 fences
 settles n s e fences = brings n s e

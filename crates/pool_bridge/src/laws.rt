@@ -15,8 +15,8 @@ pub fn taking_is_noted()
         map resting (p ∷ home) ≡ listed f g a n → map resting home ≡ listed f' g' a n }
 {}
 
-/// A pool to which a buffer was given holds what is in the pool once that buffer is home with its fence, and nothing else
-/// changed.
+/// A pool to which a buffer was given holds what is in the pool once that buffer is home with its fence, and nothing
+/// else changed.
 #[tactic(auto, using(crate::proofs::Resting::give_is))]
 pub fn giving_is_noted()
     ensures { (c : ℕ) (f f' : ℕ → SomePlace) (g g' : ℕ → Option ℕ) (a n : ℕ) (p : SomeParked) (home : List SomeParked) →

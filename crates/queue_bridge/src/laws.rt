@@ -27,14 +27,16 @@ pub fn the_next_item_is_read()
 /// To take the next item is the state's step of a send, and to drop the first that of a drop.
 #[tactic(auto, using(crate::proofs::Views::sent_is, crate::proofs::Views::dropped_is))]
 pub fn sends_and_drops_are_noted()
-    ensures send { (script : SomeScript) (q : SomeRequests) (n m : ℕ) (f : SomeFrame) (r : SomeRequest) (i : ℕ) (same : Bool) (targets : SomeFour SomeSent) →
-        turns_of (after_next q.queued q.repeating q.place) (f.0 + 1) m ≡ noted script (Send f r i same targets) (turns_of q n m) }
+    ensures send { (script : SomeScript) (q : SomeRequests) (n m : ℕ) (f : SomeFrame) (r : SomeRequest) (i : ℕ)
+        (same : Bool) (targets : SomeFour SomeSent) →
+        turns_of (after_next q.queued q.repeating q.place) (f.0 + 1) m ≡
+        noted script (Send f r i same targets) (turns_of q n m) }
     ensures drop { (script : SomeScript) (q : SomeRequests) (n m : ℕ) (f : SomeFrame) (r : SomeRequest) (i : ℕ) →
         turns_of (record q { queued = drop 1 q.queued }) (f.0 + 1) m ≡ noted script (Dropped f r i) (turns_of q n m) }
 {}
 
-/// To append a request's items is the state's step of an accepted once or burst, to set the list that of an accepted repeat,
-/// to take the list away that of each accepted call that clears it; a refused call leaves the queue as it is.
+/// To append a request's items is the state's step of an accepted once or burst, to set the list that of an accepted
+/// repeat, to take the list away that of each accepted call that clears it; a refused call leaves the queue as it is.
 #[tactic(auto, using(crate::proofs::Views::pushed_is, crate::proofs::Views::set_is, crate::proofs::Views::cleared_is, crate::proofs::Views::stayed_is, crate::proofs::Views::configured_is, crate::proofs::Views::refused_is))]
 pub fn calls_are_noted()
     ensures push { (script : SomeScript) (q : SomeRequests) (n m i : ℕ) (word : SomeWord) (r : SomeRequest) →
@@ -51,9 +53,11 @@ pub fn calls_are_noted()
     ensures stay { (script : SomeScript) (q : SomeRequests) (n m i : ℕ) (word : SomeWord) →
         is_repeat_word word ≡ false → is_clearing_word word ≡ false →
         turns_of q n m ≡ noted script (Call i word OkReply) (turns_of q n m) }
-    ensures configure { (script : SomeScript) (q : SomeRequests) (n m i : ℕ) (word : SomeWord) (each : SomeFour SomeMade) →
+    ensures configure { (script : SomeScript) (q : SomeRequests) (n m i : ℕ) (word : SomeWord)
+        (each : SomeFour SomeMade) →
         is_repeat_word word ≡ false → is_clearing_word word ≡ true →
         turns_of (record q { repeating = None }) n m ≡ noted script (Call i word (Configured each)) (turns_of q n m) }
-    ensures refuse { (script : SomeScript) (q : SomeRequests) (n m i : ℕ) (word : SomeWord) (code : ℕ) (first second : Option ℕ) →
+    ensures refuse { (script : SomeScript) (q : SomeRequests) (n m i : ℕ) (word : SomeWord) (code : ℕ)
+        (first second : Option ℕ) →
         turns_of q n m ≡ noted script (Call i word (Refused code first second)) (turns_of q n m) }
 {}

@@ -40,7 +40,8 @@ no_turns = record { waiting = []; turn = None; numbers = 0; requests = 0 }
 
 -- the list that repeats: it is sent as a cycle, so its turn is how many of its items were sent
 abbrev pub placed : List Entry → Option Repeating → Option Turn
-placed past (Some r) = Some (record { request = r.request; items = r.items; place = sent_for r.request.0 past % length r.items })
+placed past (Some r) =
+    Some (record { request = r.request; items = r.items; place = sent_for r.request.0 past % length r.items })
 placed past None = None
 
 -- the items that wait, the list that repeats and the numbers, as a past leaves them
@@ -93,7 +94,8 @@ noted script (Call i word reply) t = record t {
   turn = turn_called script i word reply t.turn;
   requests = request_after reply t.requests;
 }
-noted script (Send n _ _ _ _) t = record t { waiting = tail t.waiting; turn = turn_sent t.waiting t.turn; numbers = n.0 + 1 }
+noted script (Send n _ _ _ _) t =
+    record t { waiting = tail t.waiting; turn = turn_sent t.waiting t.turn; numbers = n.0 + 1 }
 noted script (Dropped n _ _) t = record t { waiting = tail t.waiting; numbers = n.0 + 1 }
 noted script _ t = t
 

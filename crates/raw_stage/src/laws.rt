@@ -8,5 +8,6 @@ use cam_types::Format;
 
 /// The picture of a RAW16 stream is the RAW16 picture of the frame's readout.
 pub fn a_raw_stream_has_raw_pictures()
-    ensures { (spec : SomeSpec) (s : SomeSettings) (n : ℕ) → spec.format ≡ Format.Raw16 → picture spec s n ≡ raw_picture (readout s n) }
+    ensures { (spec : SomeSpec) (s : SomeSettings) (n : ℕ) → spec.format ≡ Format.Raw16 →
+        picture spec s n ≡ raw_picture (readout s n) }
 {}

@@ -52,7 +52,8 @@ impl Queue {
     /// Appends all items of a `once` or a `burst`, or none of them where more than 256 items would wait.
     pub fn push_list(&mut self, request: RequestId, items: &ItemList) -> Result<(), QueueFull>
         ensures full { IsErr result ↔ (QUEUE_LIMIT < length self.old.queued + length items.now) }
-        ensures ok { OnOk result (self.new ≡ record self.old { queued = self.old.queued ++ named request 0 items.now }) }
+        ensures ok { OnOk result
+            (self.new ≡ record self.old { queued = self.old.queued ++ named request 0 items.now }) }
         ensures err { OnErr result (self.new ≡ self.old) }
     {
         let room = QUEUE_LIMIT as usize - self.waiting.len();
@@ -67,7 +68,8 @@ impl Queue {
     pub fn set_repeat(&mut self, request: RequestId, items: &ItemList)
         requires some { 1 ≤ length items.now }
         requires within { length items.now ≤ REPEAT_LIMIT }
-        ensures { self.new ≡ record self.old { repeating = Some (record { request = request; items = items.now }); place = 0 } }
+        ensures { self.new ≡
+            record self.old { repeating = Some (record { request = request; items = items.now }); place = 0 } }
     {
         self.cycle.clear();
         self.cycle.fill_from_slice(items.as_slice());

@@ -34,7 +34,14 @@ state_in x f =
 
 -- the target that the table shows
 abbrev pub view_in : Slot → Fill → TargetView
-view_in x f = record { stream = x.target.stream; buffer = x.target.buffer; fence = x.target.fence; announced = x.failed; state = state_in x f }
+view_in x f =
+    record {
+      stream = x.target.stream;
+      buffer = x.target.buffer;
+      fence = x.target.fence;
+      announced = x.failed;
+      state = state_in x f;
+    }
 
 -- the targets of a row, each with its fill
 abbrev pub views_in : List Slot → List Fill → List TargetView

@@ -3,9 +3,10 @@ use Rattle.cam_types.specs.declared.script.Script.{Script}
 use Rattle.trace_model.specs.declared.entry.Entry.{Entry}
 use Rattle.trace_model.specs.Laws.{ConservesBuffers, CountsUp, EndsOnce, FencesOnce, delivers_in_order, ends_in_order, rises}
 
--- What holds of a complete run, in the words of a user of the contract: every buffer is in one place and comes back once for
--- each frame; each item of a once or a burst is sent or dropped once, and each frame's metadata ends once; shutters,
--- deliveries and ends of metadata are in order; parts count up; fences are released and signalled once. (docs/CONTRACT.md, laws)
+-- What holds of a complete run, in the words of a user of the contract: every buffer is in one place and comes back
+-- once for each frame; each item of a once or a burst is sent or dropped once, and each frame's metadata ends once;
+-- shutters, deliveries and ends of metadata are in order; parts count up; fences are released and signalled once.
+-- (docs/CONTRACT.md, laws)
 pub record KeepsLaws (script : Script) (past : List Entry) : Type 0 where
   pub buffers : ConservesBuffers past
   pub ends : EndsOnce script past

@@ -4,8 +4,8 @@ ghost use Rattle.trace_model.specs.Entry.{takes};
 ghost use Rattle.trace_model.specs.Laws.{counts_up, ends_in_order, ends_metadata, is_whole_or_failed, late_after_early, releases_what_is_there, rises};
 ghost use Rattle.run_laws.specs.Worked.{ended_backwards, exposed_at_once, exposed_backwards, failed_backwards, first_twice, lost_backwards, never_ended, released_unfilled, second_alone, sent_and_dropped, seventh_part, signalled_unasked, whole_and_lost};
 
-/// Short pasts that break a law, worked out by hand: what the laws say of legal runs isn't true of them. (An error of the
-/// whole request may come in any order.)
+/// Short pasts that break a law, worked out by hand: what the laws say of legal runs isn't true of them. (An error of
+/// the whole request may come in any order.)
 pub fn breaches_on_frames_are_seen()
     ensures order { rises exposed_backwards ≡ false }
     ensures time { rises exposed_at_once ≡ false }

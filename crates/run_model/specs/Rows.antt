@@ -27,7 +27,9 @@ request_of (Some (Send _ r _ _ _)) = r
 request_of _ = record { 0 = 0 }
 
 abbrev pub sensor_place : List Move → ℕ → SensorPlace
-sensor_place h n = if is_sensor_out h n then SensorOut else (if is_any_fill_out h n then WithFill else (if is_readout_home h n then Home else NotYet))
+sensor_place h n =
+    if is_sensor_out h n then SensorOut
+    else (if is_any_fill_out h n then WithFill else (if is_readout_home h n then Home else NotYet))
 
 abbrev pub is_ok_return : ℕ → ℕ → Entry → Bool
 is_ok_return n s (Filled m t _ _ _) = (m.0 == n) && (t.0 == s)
@@ -41,9 +43,11 @@ abbrev pub is_early_return : ℕ → ℕ → Entry → Bool
 is_early_return n s (Early m t _ _) = (m.0 == n) && (t.0 == s)
 is_early_return n s _ = false
 
--- a target that came back early: it is out until it is filled, and returned with its picture once its device fence is signalled
+-- a target that came back early: it is out until it is filled, and returned with its picture once its device fence is
+-- signalled
 abbrev pub early_state : List Move → ℕ → ℕ → TargetState
-early_state h n s = if is_settled n s (trace_of h) then ReturnedOk else (if is_fill_out h n s then ReturnedEarly else EarlyFilled)
+early_state h n s =
+    if is_settled n s (trace_of h) then ReturnedOk else (if is_fill_out h n s then ReturnedEarly else EarlyFilled)
 
 abbrev pub target_state : List Move → ℕ → ℕ → TargetState
 target_state h n s =
@@ -56,7 +60,13 @@ target_state h n s =
 
 abbrev pub target_view : List Move → ℕ → Sent → TargetView
 target_view h n t =
-    record { stream = t.stream; buffer = t.buffer; fence = t.fence; announced = has_error_buffer n t.stream.0 (trace_of h); state = target_state h n t.stream.0 }
+    record {
+      stream = t.stream;
+      buffer = t.buffer;
+      fence = t.fence;
+      announced = has_error_buffer n t.stream.0 (trace_of h);
+      state = target_state h n t.stream.0;
+    }
 
 -- the row of frame n
 abbrev pub row_of : Script → List Move → ℕ → RowView

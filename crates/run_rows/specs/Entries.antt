@@ -30,11 +30,13 @@ early_entry fence n s target = Early (record { 0 = n }) (record { 0 = s }) targe
 
 -- the fence of a failed buffer: the acquire fence, where no stage took the buffer and nobody waited for the fence yet
 abbrev pub failed_fence : (ℕ → Bool) → TargetView → Option FenceNo
-failed_fence signalled target = if is_state target.state Waiting && not (is_passed signalled target.fence) then target.fence else None
+failed_fence signalled target =
+    if is_state target.state Waiting && not (is_passed signalled target.fence) then target.fence else None
 
 -- the buffer in error
 abbrev pub failed_entry : (ℕ → Bool) → ℕ → ℕ → TargetView → Entry
-failed_entry signalled n s target = Failed (record { 0 = n }) (record { 0 = s }) target.buffer (failed_fence signalled target)
+failed_entry signalled n s target =
+    Failed (record { 0 = n }) (record { 0 = s }) target.buffer (failed_fence signalled target)
 
 -- the error
 abbrev pub error_entry : ErrorEntry → Entry

@@ -77,7 +77,8 @@ is_read_out _ = false
 
 -- a buffer has its picture only once the sensor's work is done
 abbrev pub has_pictures_late : RowView → Bool
-has_pictures_late row = list_all (λ target. not (has_picture target.state) || is_read_out row.sensor) (four_list row.targets)
+has_pictures_late row =
+    list_all (λ target. not (has_picture target.state) || is_read_out row.sensor) (four_list row.targets)
 
 -- the row has a target, its streams are among so many, and its settings are in their ranges
 pub record IsSound (streams : ℕ) (row : RowView) : Type 0 where

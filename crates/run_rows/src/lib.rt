@@ -1,9 +1,10 @@
 //! The device's rows are those of the run: what they say is ready is what the run says, and each step of a run makes of
 //! them what the device's step does.
 //!
-//! `rows` of a history are the rows of its open frames, the oldest first. What the device's definitions say of them alone
-//! (`device_rows`), the run says of its past and its jobs: which step is ready and which entry it adds, which job is out,
-//! and what each move makes of the rows. So a device that keeps these rows does what the run allows, and nothing else.
+//! `rows` of a history are the rows of its open frames, the oldest first. What the device's definitions say of them
+//! alone (`device_rows`), the run says of its past and its jobs: which step is ready and which entry it adds, which job
+//! is out, and what each move makes of the rows. So a device that keeps these rows does what the run allows, and
+//! nothing else.
 #![tactic(auto)]
 
 mod ready;

@@ -77,8 +77,8 @@ pub fn failed_returns_are_read()
         move_of script h (ReturnFailed n s) ≡ failed_move (trace_of h) (rows script h) n s }
 {}
 
-/// The signal of a device fence is ready exactly where the rows say so: it is of the one fence with which the buffer came
-/// back early.
+/// The signal of a device fence is ready exactly where the rows say so: it is of the one fence with which the buffer
+/// came back early.
 #[tactic(auto, using(crate::proofs::Finish::finish_is, crate::proofs::Finish::finish_ready))]
 pub fn signals_are_read()
     ensures ready { (script : SomeScript) (h : List SomeMove) (n : SomeFrame) (s : SomeStream) → IsRun script h →

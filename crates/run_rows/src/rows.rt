@@ -1,5 +1,5 @@
-//! Laws on the rows of a run as they stand: functions that do nothing, and whose contracts hold of every script and every
-//! run of it.
+//! Laws on the rows of a run as they stand: functions that do nothing, and whose contracts hold of every script and
+//! every run of it.
 ghost use Rattle.std.specs.Prelude.{◌≡◌, ◌≤◌, ◌∷◌, ℕ, List, Bool, Some, is_some, length, true};
 ghost use Rattle.std.specs.List.{list_all};
 ghost use Rattle.cam_types.specs.declared.four.Four.{Four as SomeFour};
@@ -52,8 +52,8 @@ pub fn fill_jobs_are_read()
         IsFillJob script h job target }
 {}
 
-/// How many frames are open, whether any is, that no more are open than the device takes, and that each of them is stopped
-/// where the service is stopping, and none else.
+/// How many frames are open, whether any is, that no more are open than the device takes, and that each of them is
+/// stopped where the service is stopping, and none else.
 #[tactic(auto, using(crate::proofs::Counted::count_is, crate::proofs::Counted::quiet_is, crate::proofs::Counted::few, crate::proofs::Standing::stopped_is))]
 pub fn open_frames_are_counted()
     ensures count { (script : SomeScript) (h : List SomeMove) → open_count (trace_of h) ≡ length (rows script h) }
@@ -73,8 +73,8 @@ pub fn frames_are_in_order()
         are_below n.0 (rows script h) ≡ true }
 {}
 
-/// Each row has a target, its streams rise and are the configuration's, its acquire fences were released, its settings are in
-/// their ranges, and at most three metadata results of it were sent.
+/// Each row has a target, its streams rise and are the configuration's, its acquire fences were released, its settings
+/// are in their ranges, and at most three metadata results of it were sent.
 #[tactic(auto, using(crate::proofs::Counted::targets_is, crate::proofs::Counted::streams_is, crate::proofs::Given::fences_is, crate::proofs::Counted::range_is, crate::proofs::Counted::parts_is))]
 pub fn rows_are_as_they_were_sent()
     ensures targets { (script : SomeScript) (h : List SomeMove) → IsRun script h →
@@ -89,8 +89,8 @@ pub fn rows_are_as_they_were_sent()
         list_all has_few_parts (rows script h) ≡ true }
 {}
 
-/// A stage has the readout of a frame exactly where it fills a buffer of it, and one alone, and a buffer has its picture
-/// only once the sensor's work on the frame is done.
+/// A stage has the readout of a frame exactly where it fills a buffer of it, and one alone, and a buffer has its
+/// picture only once the sensor's work on the frame is done.
 #[tactic(auto, using(crate::proofs::Agree::readout_is, crate::proofs::Agree::pictures_is))]
 pub fn places_agree()
     ensures readout { (script : SomeScript) (h : List SomeMove) → IsRun script h →
@@ -107,5 +107,6 @@ pub fn sent_rows_are_fresh()
         is_fresh (fresh_row settings n r targets) ≡ true }
     ensures sound { (script : SomeScript) (m : SomeMove) (h : List SomeMove) (n : SomeFrame) (r : SomeRequest) (i : ℕ)
         (same : Bool) (targets : SomeFour SomeSent) → IsRun script (m ∷ h) → m.entry ≡ Some (Send n r i same targets) →
-        IsSound (length (streams script (trace_of h))) (fresh_row (settings_next (next script (trace_of h))) n r targets) }
+        IsSound (length (streams script (trace_of h)))
+        (fresh_row (settings_next (next script (trace_of h))) n r targets) }
 {}

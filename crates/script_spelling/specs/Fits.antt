@@ -56,11 +56,15 @@ numbers_typed numbers = list_all (λ p. nat_lt p (2 ^ 32)) numbers
 
 -- the settings can be written in a script: a byte, and numbers that fit the types of their metadata
 abbrev pub settings_fit : Settings → Bool
-settings_fit s = nat_lt s.pattern (2 ^ 8) && (nat_lt s.level (2 ^ 31) && (nat_lt s.exposure (2 ^ 63) && nat_lt s.iso (2 ^ 31)))
+settings_fit s =
+    nat_lt s.pattern (2 ^ 8) && (nat_lt s.level (2 ^ 31) && (nat_lt s.exposure (2 ^ 63) && nat_lt s.iso (2 ^ 31)))
 
 -- at most eight targets, each a byte, and zeros past them
 abbrev pub targets_fit : Targets → Bool
-targets_fit t = nat_le t.count target_limit && ((length t.list == target_limit) && (list_all (λ s. nat_lt s (2 ^ 8)) t.list && list_all (λ s. s == 0) (drop t.count t.list)))
+targets_fit t =
+    nat_le t.count target_limit
+    && ((length t.list == target_limit)
+    && (list_all (λ s. nat_lt s (2 ^ 8)) t.list && list_all (λ s. s == 0) (drop t.count t.list)))
 
 abbrev pub item_fits : Item → Bool
 item_fits i = settings_fit i.settings && targets_fit i.targets
@@ -73,7 +77,9 @@ format_fits (Other n) = nat_lt n (2 ^ 32) && (not (n == 32) && not (n == 35))
 
 -- a size of 1 to 65535 in each direction
 abbrev pub spec_fits : StreamSpec → Bool
-spec_fits s = format_fits s.format && ((nat_lt 0 s.width && nat_lt s.width (2 ^ 16)) && (nat_lt 0 s.height && nat_lt s.height (2 ^ 16)))
+spec_fits s =
+    format_fits s.format
+    && ((nat_lt 0 s.width && nat_lt s.width (2 ^ 16)) && (nat_lt 0 s.height && nat_lt s.height (2 ^ 16)))
 
 abbrev pub command_fits : Command → Bool
 command_fits (Configure specs) = nat_le (length specs) spec_limit && list_all spec_fits specs

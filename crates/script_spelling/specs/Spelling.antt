@@ -36,7 +36,8 @@ format_text Yuv = codes "yuv"
 format_text (Other n) = 120 ∷ decimal n
 
 abbrev pub spec_text : StreamSpec → List ℕ
-spec_text s = (if s.input then codes "in:" else []) ++ (format_text s.format ++ 58 ∷ (decimal s.width ++ 120 ∷ decimal s.height))
+spec_text s =
+    (if s.input then codes "in:" else []) ++ (format_text s.format ++ 58 ∷ (decimal s.width ++ 120 ∷ decimal s.height))
 
 -- the words of a line
 abbrev pub fault_arguments : Fault → List (List ℕ)
@@ -70,7 +71,8 @@ version_words version = codes "camera" ∷ decimal version ∷ []
 
 -- `device DEPTH RAW YUV`, in a script of the second version
 abbrev pub device_lines : ℕ → Profile → List (List (List ℕ))
-device_lines version p = if version == 2 then (codes "device" ∷ decimal p.depth ∷ decimal p.raw ∷ decimal p.yuv ∷ []) ∷ [] else []
+device_lines version p =
+    if version == 2 then (codes "device" ∷ decimal p.depth ∷ decimal p.raw ∷ decimal p.yuv ∷ []) ∷ [] else []
 
 -- `early`, where it stands
 abbrev pub early_lines : Bool → List (List (List ℕ))
@@ -79,7 +81,12 @@ early_lines early = if early then (codes "early" ∷ []) ∷ [] else []
 -- the version line, the device, `early`, the faults, the picks, the commands
 abbrev pub script_lines : Script → List (List (List ℕ))
 script_lines s =
-    version_words s.version ∷ (device_lines s.version s.profile ++ (early_lines s.early ++ (map fault_words s.faults ++ (pick_lines s.picks ++ map command_line_words s.commands))))
+    version_words s.version
+    ∷
+    (device_lines s.version s.profile
+    ++
+    (early_lines s.early
+    ++ (map fault_words s.faults ++ (pick_lines s.picks ++ map command_line_words s.commands))))
 
 unfoldable pub text_of : Script → List ℕ
 text_of s = flat_map line_text (script_lines s)

@@ -20,7 +20,8 @@ pub fn write_version(out: &mut String, version: u8) -> Result<(), NoMemory>
 
 /// Writes the device line, which a script of the second version has.
 pub fn write_device(out: &mut String, version: u8, profile: Profile) -> Result<(), NoMemory>
-    ensures { OnOk result (string_bytes out.new ≡ string_bytes out.old ++ flat_map line_text (device_lines version profile)) }
+    ensures { OnOk result
+        (string_bytes out.new ≡ string_bytes out.old ++ flat_map line_text (device_lines version profile)) }
 {
     if version != 2 {
         return Ok(());
@@ -73,7 +74,8 @@ fn write_fault(out: &mut String, fault: &Fault) -> Result<(), NoMemory>
 
 /// Writes fault lines.
 pub fn write_faults(out: &mut String, faults: &[Fault]) -> Result<(), NoMemory>
-    ensures text { OnOk result (string_bytes out.new ≡ string_bytes out.old ++ flat_map line_text (map fault_words faults.now)) }
+    ensures text { OnOk result
+        (string_bytes out.new ≡ string_bytes out.old ++ flat_map line_text (map fault_words faults.now)) }
     ensures typed { OnOk result (list_all fault_fits faults.now ≡ true) }
 {
     for fault in faults {
@@ -84,7 +86,8 @@ pub fn write_faults(out: &mut String, faults: &[Fault]) -> Result<(), NoMemory>
 
 /// Writes the pick line, if there are picks.
 pub fn write_picks(out: &mut String, picks: &[u32]) -> Result<(), NoMemory>
-    ensures text { OnOk result (string_bytes out.new ≡ string_bytes out.old ++ flat_map line_text (pick_lines picks.now)) }
+    ensures text { OnOk result
+        (string_bytes out.new ≡ string_bytes out.old ++ flat_map line_text (pick_lines picks.now)) }
     ensures typed { OnOk result (numbers_typed picks.now ≡ true) }
 {
     if picks.is_empty() {
@@ -97,7 +100,8 @@ pub fn write_picks(out: &mut String, picks: &[u32]) -> Result<(), NoMemory>
 
 /// Writes what stands behind a command's word.
 fn write_arguments(out: &mut String, command: &Command) -> Result<(), NoMemory>
-    ensures text { OnOk result (string_bytes out.new ≡ string_bytes out.old ++ behind_spaces (arguments_of command.now)) }
+    ensures text { OnOk result
+        (string_bytes out.new ≡ string_bytes out.old ++ behind_spaces (arguments_of command.now)) }
     ensures typed { OnOk result (command_typed command.now ≡ true) }
 {
     match command {
@@ -117,7 +121,8 @@ fn write_arguments(out: &mut String, command: &Command) -> Result<(), NoMemory>
 
 /// Writes a command line.
 fn write_command(out: &mut String, command: &Command) -> Result<(), NoMemory>
-    ensures text { OnOk result (string_bytes out.new ≡ string_bytes out.old ++ line_text (command_line_words command.now)) }
+    ensures text { OnOk result
+        (string_bytes out.new ≡ string_bytes out.old ++ line_text (command_line_words command.now)) }
     ensures typed { OnOk result (command_typed command.now ≡ true) }
 {
     out.push_str(word_text(word_of(command)))?;
@@ -127,7 +132,8 @@ fn write_command(out: &mut String, command: &Command) -> Result<(), NoMemory>
 
 /// Writes command lines.
 pub fn write_commands(out: &mut String, commands: &[Command]) -> Result<(), NoMemory>
-    ensures text { OnOk result (string_bytes out.new ≡ string_bytes out.old ++ flat_map line_text (map command_line_words commands.now)) }
+    ensures text { OnOk result
+        (string_bytes out.new ≡ string_bytes out.old ++ flat_map line_text (map command_line_words commands.now)) }
     ensures typed { OnOk result (list_all command_typed commands.now ≡ true) }
 {
     for command in commands {

@@ -16,7 +16,9 @@ use std::alloc::Global;
 #[tactic(auto, unfolding(crate::specs::Spelling::text_of))]
 fn write_script(out: &mut String, script: &Script) -> Result<(), NoMemory>
     ensures text { OnOk result (string_bytes out.new ≡ string_bytes out.old ++ text_of script.now) }
-    ensures typed { OnOk result (list_all fault_fits script.now.faults && (numbers_typed script.now.picks && list_all command_typed script.now.commands) ≡ true) }
+    ensures typed { OnOk result
+        (list_all fault_fits script.now.faults
+        && (numbers_typed script.now.picks && list_all command_typed script.now.commands) ≡ true) }
 {
     write_version(out, script.version)?;
     write_device(out, script.version, script.profile)?;

@@ -33,7 +33,8 @@ fn write_settings(out: &mut String, settings: &Settings) -> Result<(), NoMemory>
 
 /// Writes streams, each behind a `+`.
 fn write_more(out: &mut String, streams: &[u8]) -> Result<(), NoMemory>
-    ensures text { OnOk result (string_bytes out.new ≡ string_bytes out.old ++ flat_map (λ stream. 43 ∷ decimal stream) streams.now) }
+    ensures text { OnOk result
+        (string_bytes out.new ≡ string_bytes out.old ++ flat_map (λ stream. 43 ∷ decimal stream) streams.now) }
     ensures typed { OnOk result (bytes_typed streams.now ≡ true) }
 {
     for stream in streams {
@@ -82,7 +83,8 @@ pub fn write_item(out: &mut String, item: &Item) -> Result<(), NoMemory>
 
 /// Writes captures, each behind a space.
 pub fn write_items(out: &mut String, items: &[Item]) -> Result<(), NoMemory>
-    ensures text { OnOk result (string_bytes out.new ≡ string_bytes out.old ++ behind_spaces (map item_text items.now)) }
+    ensures text { OnOk result
+        (string_bytes out.new ≡ string_bytes out.old ++ behind_spaces (map item_text items.now)) }
     ensures typed { OnOk result (list_all item_typed items.now ≡ true) }
 {
     for item in items {
@@ -124,7 +126,8 @@ fn write_spec(out: &mut String, spec: &StreamSpec) -> Result<(), NoMemory>
 
 /// Writes streams, each behind a space.
 pub fn write_specs(out: &mut String, specs: &[StreamSpec]) -> Result<(), NoMemory>
-    ensures text { OnOk result (string_bytes out.new ≡ string_bytes out.old ++ behind_spaces (map spec_text specs.now)) }
+    ensures text { OnOk result
+        (string_bytes out.new ≡ string_bytes out.old ++ behind_spaces (map spec_text specs.now)) }
     ensures typed { OnOk result (list_all spec_typed specs.now ≡ true) }
 {
     for spec in specs {
@@ -136,7 +139,8 @@ pub fn write_specs(out: &mut String, specs: &[StreamSpec]) -> Result<(), NoMemor
 
 /// Writes numbers, each behind a space.
 pub fn write_numbers(out: &mut String, numbers: &[u32]) -> Result<(), NoMemory>
-    ensures text { OnOk result (string_bytes out.new ≡ string_bytes out.old ++ behind_spaces (map decimal numbers.now)) }
+    ensures text { OnOk result
+        (string_bytes out.new ≡ string_bytes out.old ++ behind_spaces (map decimal numbers.now)) }
     ensures typed { OnOk result (numbers_typed numbers.now ≡ true) }
 {
     for number in numbers {

@@ -34,7 +34,9 @@ begun script devices = record { script = script; devices = devices }
 
 -- nothing but the version line
 abbrev pub empty : ℕ → Begun
-empty version = begun (record { version = version; profile = plain_profile; early = false; faults = []; picks = []; commands = [] }) 0
+empty version =
+    begun
+    (record { version = version; profile = plain_profile; early = false; faults = []; picks = []; commands = [] }) 0
 
 -- the same with one more line
 abbrev pub with_line : Begun → Line → Begun
@@ -85,7 +87,8 @@ first_line (Some version) = Ok (Some (empty version))
 -- a line that isn't ignored, by its first word and the words behind it: what stands after it
 unfoldable pub after_words : Option Begun → List ℕ → List (List ℕ) → Result (Option Begun) Cause
 after_words None word words = first_line (version_of (word ∷ words))
-after_words (Some before) word words = then_added before (line_of before.script.version word words) >>= λ next. Ok (Some next)
+after_words (Some before) word words =
+    then_added before (line_of before.script.version word words) >>= λ next. Ok (Some next)
 
 -- a word that begins a comment: 35 is `#`
 abbrev pub is_comment : List ℕ → Bool

@@ -76,7 +76,8 @@ fault_of [] = Err Missing
 fault_of (kind ∷ words) =
     if bytes_eq kind (codes "request") then (one number words >>= λ n. Ok (fault.Request (record { 0 = n })))
     else (if bytes_eq kind (codes "result") then (one number words >>= λ n. Ok (fault.Result (record { 0 = n })))
-    else (if bytes_eq kind (codes "buffer") then (frame_and_stream words >>= λ p. Ok (fault.Buffer (record { 0 = p.0 }) (record { 0 = p.1 })))
+    else (if bytes_eq kind (codes "buffer")
+    then (frame_and_stream words >>= λ p. Ok (fault.Buffer (record { 0 = p.0 }) (record { 0 = p.1 })))
     else (if bytes_eq kind (codes "device") then (one number words >>= λ n. Ok (fault.Device (record { 0 = n })))
     else Err UnknownWord)))
 
@@ -127,7 +128,8 @@ early_line words = ends EarlyLine words
 
 -- the first version has no `device`
 abbrev pub device_line : ℕ → List (List ℕ) → Result Line Cause
-device_line version words = if version == 2 then (device_of words >>= λ profile. Ok (DeviceLine profile)) else Err UnknownWord
+device_line version words =
+    if version == 2 then (device_of words >>= λ profile. Ok (DeviceLine profile)) else Err UnknownWord
 
 abbrev pub pick_line : List (List ℕ) → Result Line Cause
 pick_line words = picks_of words >>= λ picks. Ok (PickLine picks)

@@ -34,7 +34,9 @@ numbered_format (letter ∷ number) = if letter == 120 then number_below (2 ^ 32
 
 -- `raw16`, `yuv`, or `x` and a number other than theirs
 unfoldable pub format_of : List ℕ → Option Format
-format_of word = if bytes_eq word (codes "raw16") then Some Raw16 else (if bytes_eq word (codes "yuv") then Some Yuv else numbered_format word)
+format_of word =
+    if bytes_eq word (codes "raw16") then Some Raw16
+    else (if bytes_eq word (codes "yuv") then Some Yuv else numbered_format word)
 
 -- a width or a height: 1 to 65535
 unfoldable pub side_of : List ℕ → Option ℕ
@@ -73,7 +75,9 @@ four_numbers word = do
 
 -- SETTINGS: a template, or four numbers
 unfoldable pub settings_of : List ℕ → Option Settings
-settings_of word = if bytes_eq word (codes "preview") then Some preview else (if bytes_eq word (codes "still") then Some still else four_numbers word)
+settings_of word =
+    if bytes_eq word (codes "preview") then Some preview
+    else (if bytes_eq word (codes "still") then Some still else four_numbers word)
 
 -- streams as targets: zeros stand past them, up to eight places
 abbrev pub targets : List ℕ → Targets

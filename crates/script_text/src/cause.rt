@@ -21,7 +21,8 @@ pub enum Cause {
     Missing = 35,
     /// It has too many words.
     Extra = 36,
-    /// With this line a counted number passes its limit, as that of `device` lines, which is one. As cause of line 0: the text is too long.
+    /// With this line a counted number passes its limit, as that of `device` lines, which is one. As cause of line 0:
+    /// the text is too long.
     Limit = 37,
     /// A fault, pick, early or device line stands after a command line.
     FaultAfterCommand = 38,

@@ -67,7 +67,8 @@ impl Draft {
     /// The draft with a fault line.
     #[tactic(auto, unfolding(crate::specs::Grammar::added))]
     pub fn with_fault(mut self, fault: Fault) -> Result<Draft, LineRefused>
-        ensures { GivesBy (λ d. begun d.script d.devices) result (added (begun self.script self.devices) (FaultLine fault)) }
+        ensures { GivesBy (λ d. begun d.script d.devices) result
+            (added (begun self.script self.devices) (FaultLine fault)) }
     {
         if self.script.faults.len() >= FAULT_LIMIT {
             return Err(LineRefused::Bad(Cause::Limit));
@@ -94,7 +95,8 @@ impl Draft {
     /// The draft with a device line.
     #[tactic(auto, unfolding(crate::specs::Grammar::added))]
     pub fn with_device(mut self, profile: Profile) -> Result<Draft, LineRefused>
-        ensures { GivesBy (λ d. begun d.script d.devices) result (added (begun self.script self.devices) (DeviceLine profile)) }
+        ensures { GivesBy (λ d. begun d.script d.devices) result
+            (added (begun self.script self.devices) (DeviceLine profile)) }
     {
         if self.devices > 0 {
             return Err(LineRefused::Bad(Cause::Limit));
@@ -110,7 +112,8 @@ impl Draft {
     /// The draft with a pick line, by the words behind `pick`.
     #[tactic(auto, unfolding(crate::specs::Grammar::added, crate::specs::Lines::picks_of))]
     pub fn with_picks(self, words: &[u8]) -> Result<Draft, LineRefused>
-        ensures { GivesBy (λ d. begun d.script d.devices) result (then_added (begun self.script self.devices) (pick_line (loose_words words.now))) }
+        ensures { GivesBy (λ d. begun d.script d.devices) result
+            (then_added (begun self.script self.devices) (pick_line (loose_words words.now))) }
     {
         if next_loose_word(words).is_none() {
             return Err(LineRefused::Bad(Cause::Missing));
@@ -151,7 +154,8 @@ impl Draft {
     #[tactic(auto, unfolding(crate::specs::Grammar::added))]
     pub fn with_command(mut self, command: Command) -> Result<Draft, LineRefused>
         requires { IsTrue (within command) }
-        ensures { GivesBy (λ d. begun d.script d.devices) result (added (begun self.script self.devices) (CommandLine command)) }
+        ensures { GivesBy (λ d. begun d.script d.devices) result
+            (added (begun self.script self.devices) (CommandLine command)) }
     {
         let is_closed = self.is_closed || command.is_closing();
         let count = self.script.commands.len() + if is_closed { 1 } else { 2 };

@@ -1,5 +1,5 @@
-//! Client scripts as text: what a text means as a script, and `read`, which finds it. The one spelling of a script is that
-//! of `script_spelling`; what is printed is read again as the same script.
+//! Client scripts as text: what a text means as a script, and `read`, which finds it. The one spelling of a script is
+//! that of `script_spelling`; what is printed is read again as the same script.
 #![tactic(auto)]
 
 mod cause;

@@ -55,7 +55,8 @@ fn version_of(word: &[u8], rest: &[u8]) -> Option<u8>
 
 /// A draft with one more line that is a command, by its word and what stands behind it.
 fn with_command(alloc: Global, draft: Draft, word: &[u8], rest: &[u8]) -> Result<Draft, LineRefused>
-    ensures { GivesBy (λ d. begun d.script d.devices) result (then_added (begun draft.script draft.devices) (command_line (command_word word.now) (loose_words rest.now))) }
+    ensures { GivesBy (λ d. begun d.script d.devices) result
+        (then_added (begun draft.script draft.devices) (command_line (command_word word.now) (loose_words rest.now))) }
 {
     let Some(word) = command_word(word) else {
         return Err(LineRefused::Bad(Cause::UnknownWord));
@@ -66,7 +67,8 @@ fn with_command(alloc: Global, draft: Draft, word: &[u8], rest: &[u8]) -> Result
 
 /// A draft with one more line `early`, by what stands behind the word.
 fn with_early(draft: Draft, rest: &[u8]) -> Result<Draft, LineRefused>
-    ensures { GivesBy (λ d. begun d.script d.devices) result (then_added (begun draft.script draft.devices) (early_line (loose_words rest.now))) }
+    ensures { GivesBy (λ d. begun d.script d.devices) result
+        (then_added (begun draft.script draft.devices) (early_line (loose_words rest.now))) }
 {
     if is_end(rest) {
         draft.with_early()
@@ -77,7 +79,8 @@ fn with_early(draft: Draft, rest: &[u8]) -> Result<Draft, LineRefused>
 
 /// A draft with one more device line, by what stands behind the word.
 fn with_device(draft: Draft, rest: &[u8]) -> Result<Draft, LineRefused>
-    ensures { GivesBy (λ d. begun d.script d.devices) result (then_added (begun draft.script draft.devices) (device_line draft.script.version (loose_words rest.now))) }
+    ensures { GivesBy (λ d. begun d.script d.devices) result
+        (then_added (begun draft.script draft.devices) (device_line draft.script.version (loose_words rest.now))) }
 {
     if draft.version() != 2 {
         return Err(LineRefused::Bad(Cause::UnknownWord));
@@ -94,7 +97,9 @@ fn with_other_line(
     word: &[u8],
     rest: &[u8],
 ) -> Result<Draft, LineRefused>
-    ensures { GivesBy (λ d. begun d.script d.devices) result (then_added (begun draft.script draft.devices) (other_line draft.script.version word.now (loose_words rest.now))) }
+    ensures { GivesBy (λ d. begun d.script d.devices) result
+        (then_added (begun draft.script draft.devices)
+        (other_line draft.script.version word.now (loose_words rest.now))) }
 {
     if word == b"early".as_slice() {
         with_early(draft, rest)
@@ -108,7 +113,8 @@ fn with_other_line(
 /// A draft with one more line, by its first word and what stands behind it.
 #[tactic(auto, unfolding(crate::specs::Lines::line_of))]
 fn with_line(alloc: Global, draft: Draft, word: &[u8], rest: &[u8]) -> Result<Draft, LineRefused>
-    ensures { GivesBy (λ d. begun d.script d.devices) result (then_added (begun draft.script draft.devices) (line_of draft.script.version word.now (loose_words rest.now))) }
+    ensures { GivesBy (λ d. begun d.script d.devices) result
+        (then_added (begun draft.script draft.devices) (line_of draft.script.version word.now (loose_words rest.now))) }
 {
     match word {
         b"fault" => {
@@ -128,7 +134,8 @@ fn after_words(
     word: &[u8],
     rest: &[u8],
 ) -> Result<Option<Draft>, LineRefused>
-    ensures { GivesBy (option_map (λ d. begun d.script d.devices)) result (after_words (option_map (λ d. begun d.script d.devices) before) word.now (loose_words rest.now)) }
+    ensures { GivesBy (option_map (λ d. begun d.script d.devices)) result
+        (after_words (option_map (λ d. begun d.script d.devices) before) word.now (loose_words rest.now)) }
 {
     match before {
         Some(draft) => Ok(Some(with_line(alloc, draft, word, rest)?)),
@@ -142,7 +149,8 @@ fn after_words(
 /// What stands after a line.
 #[tactic(auto, unfolding(crate::specs::Grammar::after))]
 fn after(alloc: Global, before: Option<Draft>, line: &[u8]) -> Result<Option<Draft>, LineRefused>
-    ensures { GivesBy (option_map (λ d. begun d.script d.devices)) result (after (option_map (λ d. begun d.script d.devices) before) line.now) }
+    ensures { GivesBy (option_map (λ d. begun d.script d.devices)) result
+        (after (option_map (λ d. begun d.script d.devices) before) line.now) }
 {
     if !is_printable(line) {
         return Err(LineRefused::Bad(Cause::NotAscii));

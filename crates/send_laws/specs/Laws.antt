@@ -18,4 +18,5 @@ AllowsWhatIsDue script past = (e : Entry) → send_due script past ≡ Some e �
 -- one is due where one is allowed
 abbrev pub IsDueWhereAllowed : Script → List Entry → Type 0
 IsDueWhereAllowed script past =
-    (n : FrameNo) (r : RequestId) (i : ℕ) (same : Bool) (targets : Four Sent) → IsAllowed script past (Send n r i same targets) → IsSome (send_due script past)
+    (n : FrameNo) (r : RequestId) (i : ℕ) (same : Bool) (targets : Four Sent) →
+    IsAllowed script past (Send n r i same targets) → IsSome (send_due script past)

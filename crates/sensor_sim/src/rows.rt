@@ -35,7 +35,8 @@ fn place_of(settings: Settings, place: u32) -> (u32, u32)
 fn line_of(settings: Settings, frame: FrameNo) -> [u16; 320]
     requires { range_fault settings ≡ None }
     ensures len { length result ≡ 320 }
-    ensures values { (k : ℕ) → k < 320 → slice_index result k ≡ value_of settings frame.0 (k % line_width settings) (k / line_width settings) }
+    ensures values { (k : ℕ) → k < 320 →
+        slice_index result k ≡ value_of settings frame.0 (k % line_width settings) (k / line_width settings) }
 {
     let gain = gain_of(settings);
     let mut line = [0; 320];

@@ -15,8 +15,8 @@ pub record State : Type 0 where
 abbrev pub after : Move → State → State
 after m s = record { script = s.script; history = m ∷ s.history }
 
--- Where the step's move is this one, the call makes it and answers its entry; where the step isn't ready, it says so. Want of
--- memory may come in place of a move. Nothing is changed but by the move.
+-- Where the step's move is this one, the call makes it and answers its entry; where the step isn't ready, it says so.
+-- Want of memory may come in place of a move. Nothing is changed but by the move.
 abbrev pub AnswersStep : Option Move → State → Step → State → Type 0
 AnswersStep (Some m) old (Did e) new = (m.entry ≡ Some e) × (new ≡ after m old)
 AnswersStep (Some m) old NotReady new = ⊥

@@ -55,7 +55,8 @@ passed t (Some f) = slice_index_or t.signalled f.0 false
 -- ---- what is due
 
 abbrev pub release_of : Facts → BufferId → Option Entry
-release_of t b = if is_client (slice_index_or t.places b.0 Pool) then Some (Release b (record { 0 = t.released })) else None
+release_of t b =
+    if is_client (slice_index_or t.places b.0 Pool) then Some (Release b (record { 0 = t.released })) else None
 
 abbrev pub signal_of : Facts → FenceNo → Option Entry
 signal_of t f = if nat_lt f.0 t.released && not (slice_index_or t.signalled f.0 false) then Some (Signal f) else None
@@ -65,7 +66,8 @@ abbrev pub queue_refusal_of : Facts → Option Reply
 queue_refusal_of t = where_true (nat_lt queue_limit (t.requests - t.sent + 1)) (refused 11)
 
 abbrev pub item_reply : Facts → Item → Reply
-item_reply t item = reply_with (or_else (item_refusal 1 0 item) (queue_refusal_of t)) (Submitted (record { 0 = t.requests }))
+item_reply t item =
+    reply_with (or_else (item_refusal 1 0 item) (queue_refusal_of t)) (Submitted (record { 0 = t.requests }))
 
 -- of a request: refused once closed and before a configure, and then for what it asks for
 abbrev pub once_reply : Facts → Item → Reply
@@ -73,7 +75,8 @@ once_reply t item = if t.closed then refused 2 else (if t.configured then item_r
 
 -- of the configure of one RAW16 stream, and of a close
 abbrev pub configure_reply : Facts → Reply
-configure_reply t = if t.closed then refused 2 else Configured (record { a = Some raw_made; b = None; c = None; d = None })
+configure_reply t =
+    if t.closed then refused 2 else Configured (record { a = Some raw_made; b = None; c = None; d = None })
 
 abbrev pub close_reply : Facts → Reply
 close_reply t = if t.closed then refused 2 else Ok
@@ -99,7 +102,9 @@ mark_for t = are_last (settings_before t.items t.sent) (settings_for t.items t.s
 abbrev pub sent_with : Facts → Option ℕ → Option Entry
 sent_with t None = None
 sent_with t (Some b) =
-    Some (Send (record { 0 = t.sent }) (record { 0 = t.sent }) 0 (mark_for t) (one_target (record { stream = record { 0 = 0 }; buffer = record { 0 = b }; fence = slice_index_or t.fences b None })))
+    Some (Send (record { 0 = t.sent }) (record { 0 = t.sent }) 0 (mark_for t)
+    (one_target
+    (record { stream = record { 0 = 0 }; buffer = record { 0 = b }; fence = slice_index_or t.fences b None })))
 
 abbrev pub send_of : Facts → Option Entry
 send_of t = if is_resting t && nat_lt t.sent t.requests then sent_with t (position is_pool t.places) else None
@@ -109,13 +114,16 @@ shutter_of t = if nat_lt t.shutters t.sent then Some (Shutter (record { 0 = t.sh
 
 abbrev pub partial_of : Facts → FrameNo → Option Entry
 partial_of t n =
-    if (n.0 == t.ended) && nat_lt n.0 t.shutters then Some (Partial n (t.parts + 1) (part_at (t.parts + 1) (settings_for t.items n.0) t.time)) else None
+    if (n.0 == t.ended) && nat_lt n.0 t.shutters
+    then Some (Partial n (t.parts + 1) (part_at (t.parts + 1) (settings_for t.items n.0) t.time)) else None
 
 abbrev pub is_deliverable : Facts → FrameNo → StreamIx → Bool
 is_deliverable t n s = (n.0 == t.returned) && (nat_lt n.0 t.shutters && ((s.0 == 0) && passed t t.fence))
 
 abbrev pub filled_of : Facts → FrameNo → StreamIx → Option Entry
-filled_of t n s = if is_deliverable t n s then Some (Filled n s t.buffer None (digest raw_spec (settings_for t.items n.0) n.0)) else None
+filled_of t n s =
+    if is_deliverable t n s then Some (Filled n s t.buffer None (digest raw_spec (settings_for t.items n.0) n.0))
+    else None
 
 -- ---- which step is the first that is ready
 
@@ -142,7 +150,8 @@ abbrev pub device_first : Facts → Option StepName
 device_first t =
     or_step (step_if (nat_lt t.shutters t.sent) StepShutter)
     (or_step (step_if (nat_lt t.ended t.shutters) (StepPartial (record { 0 = t.ended })))
-    (step_if (nat_lt t.returned t.shutters && passed t t.fence) (StepDeliver (record { 0 = t.returned }) (record { 0 = 0 }))))
+    (step_if (nat_lt t.returned t.shutters && passed t t.fence)
+    (StepDeliver (record { 0 = t.returned }) (record { 0 = 0 }))))
 
 abbrev pub first_but_send : Facts → Option Command → Option StepName
 first_but_send t command =

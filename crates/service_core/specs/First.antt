@@ -19,8 +19,8 @@ use Rattle.run_model.specs.History.{trace_of}
 use Rattle.run_model.specs.Played.{for_frames, for_targets, for_numbers, pick_at}
 use Rattle.run_model.specs.Ready.{or_entry, where_entry, adding}
 
--- The steps of a service that has one frame at a time and no jobs: it makes the picture as it delivers it. Seven kinds of
--- steps are there, and each adds an entry. (`Ready` has the steps of a service with jobs.)
+-- The steps of a service that has one frame at a time and no jobs: it makes the picture as it delivers it. Seven kinds
+-- of steps are there, and each adds an entry. (`Ready` has the steps of a service with jobs.)
 
 -- the entry that a step adds, where it is ready: the one that is due. An item is sent while no frame is open.
 abbrev pub entry_of : Script → List Entry → StepName → Option Entry
@@ -73,7 +73,8 @@ IsFirstRun script (m ∷ h) = (first_move_of script h m.step ≡ Some m) × IsFi
 abbrev pub IsFirstPlayed : Script → List Move → Type 0
 IsFirstPlayed script [] = Unit {0}
 IsFirstPlayed script (m ∷ h) =
-    (¬ IsComplete script (trace_of h)) × (first_move_at script h (first_chosen script h) ≡ Some m) × IsFirstPlayed script h
+    (¬ IsComplete script (trace_of h)) × (first_move_at script h (first_chosen script h) ≡ Some m)
+    × IsFirstPlayed script h
 
 -- the played run: made by the picks, and complete
 pub record IsFirstPlayedRun (script : Script) (h : List Move) : Type 0 where

@@ -148,7 +148,12 @@ noted_target None t = t
 abbrev pub noted : Script → Entry → Facts → Facts
 noted script (Begin word) t = record t { begun = Some word }
 noted script (Call i word (Submitted r)) t =
-    record t { begun = None; calls = t.calls + 1; requests = t.requests + 1; items = slice_set t.items t.requests (once_item (command_at script i)) }
+    record t {
+      begun = None;
+      calls = t.calls + 1;
+      requests = t.requests + 1;
+      items = slice_set t.items t.requests (once_item (command_at script i));
+    }
 noted script (Call i word (Configured m)) t = record t { begun = None; calls = t.calls + 1; configured = true }
 noted script (Call i word Ok) t = record t { begun = None; calls = t.calls + 1; closed = true }
 noted script (Call i word (Refused code first second)) t = record t { begun = None; calls = t.calls + 1 }
@@ -158,7 +163,8 @@ noted script (Shutter n time) t = record t {
   time = t.next_time;
   next_time = t.next_time + max 33333333 (settings_for t.items t.shutters).exposure;
 }
-noted script (Partial n k part) t = if t.parts == 2 then record t { ended = t.ended + 1; parts = 0 } else record t { parts = t.parts + 1 }
+noted script (Partial n k part) t =
+    if t.parts == 2 then record t { ended = t.ended + 1; parts = 0 } else record t { parts = t.parts + 1 }
 noted script (Filled n s b f digest) t = record t {
   returned = t.returned + 1;
   places = slice_set t.places b.0 Client;
@@ -221,7 +227,8 @@ configures_at script i = configures_if_any (command_at script i)
 -- the first requests, as they were put into the queue
 abbrev pub requests_to : List Item → ℕ → List WaitingItem
 requests_to items zero = []
-requests_to items (suc r) = requests_to items r ++ record { request = record { 0 = r }; index = 0; item = item_for items r } ∷ []
+requests_to items (suc r) =
+    requests_to items r ++ record { request = record { 0 = r }; index = 0; item = item_for items r } ∷ []
 
 abbrev pub one_target : Sent → Four Sent
 one_target target = record { a = Some target; b = None; c = None; d = None }

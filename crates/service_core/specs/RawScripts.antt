@@ -8,9 +8,9 @@ use Rattle.cam_types.specs.Profile.{profile_fits}
 use Rattle.cam_types.specs.Refusals.{is_raw}
 use Rattle.trace_model.specs.Reply.{is_configure_command}
 
--- The scripts that the service runs today: of RAW16 pictures of one stream. They have `configure`, `once` and `close` commands in
--- any order and number, but at most one `configure`, which is of the one stream. The items ask for any streams with any
--- settings: those that can't be served are refused.
+-- The scripts that the service runs today: of RAW16 pictures of one stream. They have `configure`, `once` and `close`
+-- commands in any order and number, but at most one `configure`, which is of the one stream. The items ask for any
+-- streams with any settings: those that can't be served are refused.
 
 abbrev pub is_raw_spec : StreamSpec → Bool
 is_raw_spec spec = (not spec.input && is_raw spec.format) && ((spec.width == 160) && (spec.height == 120))
@@ -30,7 +30,8 @@ is_raw_command _ = false
 abbrev pub are_raw_commands : List Command → Bool
 are_raw_commands commands = list_all is_raw_command commands && nat_le (count_by is_configure_command commands) 1
 
--- the script is of the first version, with its plain profile, and has this form, no faults, no picks and no early returns
+-- the script is of the first version, with its plain profile, and has this form, no faults, no picks and no early
+-- returns
 abbrev pub is_raw_script : Script → Bool
 is_raw_script script =
     ((script.version == 1) && (profile_fits 1 script.profile && not script.early))

@@ -25,7 +25,8 @@ impl Model for History {
 
     ghost view = { λ h. join (reverse h.steps.items) (reverse h.entries.items) };
 
-    ghost invariant = { λ h. trace_of (join (reverse h.steps.items) (reverse h.entries.items)) ≡ reverse h.entries.items };
+    ghost invariant = { λ h. trace_of (join (reverse h.steps.items) (reverse h.entries.items)) ≡
+        reverse h.entries.items };
 }
 
 impl History {

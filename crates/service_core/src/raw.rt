@@ -6,8 +6,8 @@ ghost use Rattle.service_core.specs.RawScripts.{are_raw_commands, is_raw_alone, 
 
 use cam_types::{Command, Format, Script, StreamSpec};
 
-/// Whether the service runs the script today: of the first version, with `configure`, `once` and `close` commands, at most
-/// one `configure`, of one RAW16 stream, without faults, picks and early returns.
+/// Whether the service runs the script today: of the first version, with `configure`, `once` and `close` commands, at
+/// most one `configure`, of one RAW16 stream, without faults, picks and early returns.
 pub fn is_raw_script(script: &Script) -> bool
     ensures { result ≡ is_raw_script script.now }
 {

@@ -56,7 +56,9 @@ impl Model for Service {
 
     ghost view = { λ s. record { script = s.script; history = s.history } };
 
-    ghost invariant = { λ s. (is_raw_script s.script ≡ true) × IsFirstRun s.script s.history × IsLegal s.script (trace_of s.history) × (list_all is_printable (trace_of s.history) ≡ true) × Fit s.script (trace_of s.history) (facts_of s.tables) × IsSome s.canvas };
+    ghost invariant = { λ s. (is_raw_script s.script ≡ true) × IsFirstRun s.script s.history
+        × IsLegal s.script (trace_of s.history) × (list_all is_printable (trace_of s.history) ≡ true) × Fit s.script (trace_of s.history) (facts_of s.tables)
+        × IsSome s.canvas };
 }
 
 impl Service {
@@ -140,7 +142,8 @@ impl Service {
 
     /// The client's next command begins or is answered.
     pub fn client(&mut self) -> Step
-        ensures { AnswersStep (first_move_of self.old.script self.old.history StepName.Client) self.old result self.new }
+        ensures { AnswersStep
+            (first_move_of self.old.script self.old.history StepName.Client) self.old result self.new }
     {
         let due = self.due_client();
         self.make(StepName::Client, due)
@@ -156,7 +159,8 @@ impl Service {
 
     /// The exposure of the frame begins.
     pub fn shutter(&mut self) -> Step
-        ensures { AnswersStep (first_move_of self.old.script self.old.history StepName.Shutter) self.old result self.new }
+        ensures { AnswersStep
+            (first_move_of self.old.script self.old.history StepName.Shutter) self.old result self.new }
     {
         let due = self.tables.due_shutter();
         self.make(StepName::Shutter, due)
@@ -164,7 +168,8 @@ impl Service {
 
     /// The next metadata result of a frame.
     pub fn partial(&mut self, frame: FrameNo) -> Step
-        ensures { AnswersStep (first_move_of self.old.script self.old.history (StepName.Partial frame)) self.old result self.new }
+        ensures { AnswersStep
+            (first_move_of self.old.script self.old.history (StepName.Partial frame)) self.old result self.new }
     {
         let due = self.tables.due_partial(frame);
         self.make(StepName::Partial(frame), due)
@@ -197,7 +202,8 @@ impl Service {
 
     /// Makes the picture of a frame for a stream, and gives the buffer to the client.
     pub fn deliver(&mut self, frame: FrameNo, stream: StreamIx) -> Step
-        ensures { AnswersStep (first_move_of self.old.script self.old.history (StepName.Deliver frame stream)) self.old result self.new }
+        ensures { AnswersStep
+            (first_move_of self.old.script self.old.history (StepName.Deliver frame stream)) self.old result self.new }
     {
         let due = self.due_filled(frame, stream);
         self.make(StepName::Deliver(frame, stream), due)
@@ -205,7 +211,8 @@ impl Service {
 
     /// The client gives a buffer back, with a fence.
     pub fn release(&mut self, buffer: BufferId) -> Step
-        ensures { AnswersStep (first_move_of self.old.script self.old.history (StepName.Release buffer)) self.old result self.new }
+        ensures { AnswersStep
+            (first_move_of self.old.script self.old.history (StepName.Release buffer)) self.old result self.new }
     {
         let due = self.tables.due_release(buffer);
         self.make(StepName::Release(buffer), due)
@@ -213,7 +220,8 @@ impl Service {
 
     /// The client signals a fence.
     pub fn signal(&mut self, fence: FenceNo) -> Step
-        ensures { AnswersStep (first_move_of self.old.script self.old.history (StepName.Signal fence)) self.old result self.new }
+        ensures { AnswersStep
+            (first_move_of self.old.script self.old.history (StepName.Signal fence)) self.old result self.new }
     {
         let due = self.tables.due_signal(fence);
         self.make(StepName::Signal(fence), due)

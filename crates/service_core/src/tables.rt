@@ -320,7 +320,8 @@ impl Tables {
     }
 
     fn due_configure(&self) -> Option<Entry>
-        ensures { (specs : List SomeSpec) → result ≡ client_of (facts_of self.now) (Option.Some (Command.Configure specs)) self.now.begun }
+        ensures { (specs : List SomeSpec) →
+            result ≡ client_of (facts_of self.now) (Option.Some (Command.Configure specs)) self.now.begun }
     {
         match self.begun {
             None => Some(Entry::Begin {
@@ -396,7 +397,8 @@ impl Tables {
     /// The call of a request.
     fn due_once(&self, item: &Item) -> Option<Entry>
         requires { self.now.sent ≤ self.now.requests }
-        ensures { result ≡ Option.Some (Entry.Call self.now.calls SomeWord.Once (once_reply (facts_of self.now) item.now)) }
+        ensures { result ≡
+            Option.Some (Entry.Call self.now.calls SomeWord.Once (once_reply (facts_of self.now) item.now)) }
     {
         self.call(Word::Once, self.once_reply(item))
     }
@@ -581,7 +583,8 @@ impl Tables {
     // ---- what an entry changes
 
     fn set_place(&mut self, buffer: BufferId, place: Place)
-        ensures { facts_of self.new ≡ record (facts_of self.old) { places = slice_set (facts_of self.old).places buffer.0 place } }
+        ensures { facts_of self.new ≡
+            record (facts_of self.old) { places = slice_set (facts_of self.old).places buffer.0 place } }
     {
         if (buffer.0 as usize) < self.places.len() {
             self.places[buffer.0 as usize] = place;
@@ -589,7 +592,8 @@ impl Tables {
     }
 
     fn set_fence(&mut self, buffer: BufferId, fence: Option<FenceNo>)
-        ensures { facts_of self.new ≡ record (facts_of self.old) { fences = slice_set (facts_of self.old).fences buffer.0 fence } }
+        ensures { facts_of self.new ≡
+            record (facts_of self.old) { fences = slice_set (facts_of self.old).fences buffer.0 fence } }
     {
         if (buffer.0 as usize) < self.fences.len() {
             self.fences[buffer.0 as usize] = fence;
@@ -600,7 +604,14 @@ impl Tables {
     fn note_submission(&mut self, item: Item)
         requires calls { self.old.calls < 4294967295 }
         requires requests { self.old.requests < 4294967295 }
-        ensures { facts_of self.new ≡ record (facts_of self.old) { begun = Option.None; calls = self.old.calls + 1; requests = self.old.requests + 1; items = slice_set (facts_of self.old).items self.old.requests item } }
+        ensures { facts_of self.new ≡
+            record
+            (facts_of self.old) {
+              begun = Option.None;
+              calls = self.old.calls + 1;
+              requests = self.old.requests + 1;
+              items = slice_set (facts_of self.old).items self.old.requests item;
+            } }
     {
         if (self.requests as usize) < self.items.len() {
             self.items[self.requests as usize] = item;
@@ -622,7 +633,8 @@ impl Tables {
     /// Takes note of an accepted configure.
     fn note_configured(&mut self)
         requires { self.old.calls < 4294967295 }
-        ensures { facts_of self.new ≡ record (facts_of self.old) { begun = Option.None; configured = true; calls = self.old.calls + 1 } }
+        ensures { facts_of self.new ≡
+            record (facts_of self.old) { begun = Option.None; configured = true; calls = self.old.calls + 1 } }
     {
         self.begun = None;
         self.configured = true;
@@ -632,7 +644,8 @@ impl Tables {
     /// Takes note of an accepted close.
     fn note_closed(&mut self)
         requires { self.old.calls < 4294967295 }
-        ensures { facts_of self.new ≡ record (facts_of self.old) { begun = Option.None; closed = true; calls = self.old.calls + 1 } }
+        ensures { facts_of self.new ≡
+            record (facts_of self.old) { begun = Option.None; closed = true; calls = self.old.calls + 1 } }
     {
         self.begun = None;
         self.closed = true;
@@ -642,7 +655,8 @@ impl Tables {
     fn note_call(&mut self, script: &Script, index: u32, reply: Reply)
         requires calls { self.old.calls < 4294967295 }
         requires requests { self.old.requests < 4294967295 }
-        ensures { (word : SomeWord) → facts_of self.new ≡ noted script.now (Entry.Call index word reply) (facts_of self.old) }
+        ensures { (word : SomeWord) →
+            facts_of self.new ≡ noted script.now (Entry.Call index word reply) (facts_of self.old) }
     {
         match reply {
             Reply::Submitted(_) => self.note_submission(item_of_command(script, index)),
@@ -678,7 +692,13 @@ impl Tables {
         requires shutters { self.old.shutters < 4294967295 }
         requires time { self.old.next_time < 2 ^ 62 }
         requires exposure { exposure < 2 ^ 62 }
-        ensures { facts_of self.new ≡ record (facts_of self.old) { shutters = self.old.shutters + 1; time = self.old.next_time; next_time = self.old.next_time + max 33333333 exposure } }
+        ensures { facts_of self.new ≡
+            record
+            (facts_of self.old) {
+              shutters = self.old.shutters + 1;
+              time = self.old.next_time;
+              next_time = self.old.next_time + max 33333333 exposure;
+            } }
     {
         self.shutters += 1;
         self.time = self.next_time;
@@ -688,7 +708,8 @@ impl Tables {
     /// Takes note of the shutter of the next frame.
     fn note_next_shutter(&mut self)
         requires { IsSmall (facts_of self.old) }
-        ensures { (script : SomeScript) (n : SomeFrame) (time : ℕ) → facts_of self.new ≡ noted script (Entry.Shutter n time) (facts_of self.old) }
+        ensures { (script : SomeScript) (n : SomeFrame) (time : ℕ) →
+            facts_of self.new ≡ noted script (Entry.Shutter n time) (facts_of self.old) }
     {
         let frame = self.shutters;
         let settings = self.settings_for(frame);
@@ -698,7 +719,8 @@ impl Tables {
     fn note_partial(&mut self)
         requires ended { self.old.ended < 4294967295 }
         requires parts { self.old.parts < 100 }
-        ensures { (script : SomeScript) (n : SomeFrame) (k : ℕ) (part : SomePart) → facts_of self.new ≡ noted script (Entry.Partial n k part) (facts_of self.old) }
+        ensures { (script : SomeScript) (n : SomeFrame) (k : ℕ) (part : SomePart) →
+            facts_of self.new ≡ noted script (Entry.Partial n k part) (facts_of self.old) }
     {
         if self.parts == 2 {
             self.ended += 1;
@@ -710,7 +732,8 @@ impl Tables {
 
     fn note_filled(&mut self, buffer: BufferId)
         requires { self.old.returned < 4294967295 }
-        ensures { (script : SomeScript) (n : SomeFrame) (s : SomeStream) (fence : Option SomeFence) (digest : List ℕ) → facts_of self.new ≡ noted script (Entry.Filled n s buffer fence digest) (facts_of self.old) }
+        ensures { (script : SomeScript) (n : SomeFrame) (s : SomeStream) (fence : Option SomeFence) (digest : List ℕ) →
+            facts_of self.new ≡ noted script (Entry.Filled n s buffer fence digest) (facts_of self.old) }
     {
         self.returned += 1;
         self.set_place(buffer, Place::Client);
@@ -719,7 +742,8 @@ impl Tables {
 
     fn note_release(&mut self, buffer: BufferId, fence: FenceNo)
         requires { self.old.released < 4294967295 }
-        ensures { (script : SomeScript) → facts_of self.new ≡ noted script (Entry.Release buffer fence) (facts_of self.old) }
+        ensures { (script : SomeScript) →
+            facts_of self.new ≡ noted script (Entry.Release buffer fence) (facts_of self.old) }
     {
         self.released += 1;
         self.set_place(buffer, Place::Pool);

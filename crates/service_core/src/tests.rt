@@ -1,4 +1,5 @@
-//! Which scripts are run, a run of two requests, by the steps that are chosen and by each step's name, and what is refused.
+//! Which scripts are run, a run of two requests, by the steps that are chosen and by each step's name, and what is
+//! refused.
 use super::*;
 use cam_types::{
     BufferId, Command, CommandList, Fault, FaultList, FenceNo, Format, Four, FrameNo, Item,

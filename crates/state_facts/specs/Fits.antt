@@ -54,4 +54,5 @@ pub record NumbersFit (s : State) : Type 0 where
 
 -- in a legal run of a valid script each number of the state fits its type
 abbrev pub FitsTypes : Script → List Entry → Type 0
-FitsTypes script past = IsTrue (is_typed script) → IsTrue (is_valid script) → IsLegal script past → NumbersFit (state script past)
+FitsTypes script past =
+    IsTrue (is_typed script) → IsTrue (is_valid script) → IsLegal script past → NumbersFit (state script past)

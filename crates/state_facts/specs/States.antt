@@ -95,7 +95,8 @@ noted script e s =
 
 -- one more buffer of the stream may go to the device
 abbrev pub has_room_in : Script → State → ℕ → Bool
-has_room_in script s t = nat_lt (at_device_in s.buffers t) (max_buffers_of script.profile (slice_get s.client.streams t))
+has_room_in script s t =
+    nat_lt (at_device_in s.buffers t) (max_buffers_of script.profile (slice_get s.client.streams t))
 
 -- the target's buffer is its stream's, in the pool, and goes with the fence with which it came home
 abbrev pub takes_in : State → Sent → Bool
@@ -108,7 +109,8 @@ takes_in s t =
 abbrev pub may_go_in : Script → State → Queued → Bool
 may_go_in script s next =
     not (stopping_in s.client)
-    && ((nat_lt (length s.rows) script.profile.depth && list_all (has_room_in script s) (targets_in_order next.item)) && (not next.repeating || may_repeat_in script s.client))
+    && ((nat_lt (length s.rows) script.profile.depth && list_all (has_room_in script s) (targets_in_order next.item))
+    && (not next.repeating || may_repeat_in script s.client))
 
 -- a send is of the next item: its number, its name, its buffers and the mark of settings that stay
 abbrev pub fits_in : Script → State → Option Queued → ℕ → ℕ → ℕ → Bool → Four Sent → Bool
@@ -116,7 +118,8 @@ fits_in script s None n r i same targets = false
 fits_in script s (Some next) n r i same targets =
     ((n == s.queue.numbers) && ((r == next.request.0) && (i == next.index)))
     && (may_go_in script s next
-    && ((are_streams (four_list targets) (targets_in_order next.item) && (is_filled targets && list_all (takes_in s) (four_list targets)))
+    && ((are_streams (four_list targets) (targets_in_order next.item)
+    && (is_filled targets && list_all (takes_in s) (four_list targets)))
     && is_same_bool same (are_last s.last next.item.settings)))
 
 -- a send is allowed
@@ -125,7 +128,8 @@ may_send_in script s n r i same targets = fits_in script s (next_of s.queue) n r
 
 -- a stream's buffer as a target, with its fence
 abbrev pub target_in : State → ℕ → Option ℕ → Option Sent
-target_in s t (Some b) = Some (record { stream = record { 0 = t }; buffer = record { 0 = b }; fence = fence_in s.buffers b })
+target_in s t (Some b) =
+    Some (record { stream = record { 0 = t }; buffer = record { 0 = b }; fence = fence_in s.buffers b })
 target_in s t None = None
 
 -- the least free buffer of each stream
@@ -137,12 +141,14 @@ targets_in s (t ∷ streams) = with_target (target_in s t (least_in s.buffers t)
 abbrev pub send_of : State → Queued → Option (List Sent) → Option Entry
 send_of s next None = None
 send_of s next (Some targets) =
-    Some (Send (record { 0 = s.queue.numbers }) (next.request) next.index (are_last s.last next.item.settings) (four_of targets))
+    Some (Send (record { 0 = s.queue.numbers }) (next.request) next.index (are_last s.last next.item.settings)
+    (four_of targets))
 
 -- the send of the next item, where it may go
 abbrev pub send_next_in : Script → State → Option Queued → Option Entry
 send_next_in script s None = None
-send_next_in script s (Some next) = if may_go_in script s next then send_of s next (targets_in s (targets_in_order next.item)) else None
+send_next_in script s (Some next) =
+    if may_go_in script s next then send_of s next (targets_in s (targets_in_order next.item)) else None
 
 -- the send that is due
 abbrev pub send_in : Script → State → Option Entry

@@ -12,9 +12,11 @@ is_number (d ∷ e ∷ ds) = not (d == 48) && all_ascii_digits (d ∷ e ∷ ds)
 
 -- the number that a word spells, where it is below the limit
 unfoldable pub number_below : ℕ → List ℕ → Option ℕ
-number_below limit word = if is_number word && nat_lt (digits_value 10 word) limit then Some (digits_value 10 word) else None
+number_below limit word =
+    if is_number word && nat_lt (digits_value 10 word) limit then Some (digits_value 10 word) else None
 
 -- the number that a word spells, where it is one from the least to the greatest
 unfoldable pub number_within : ℕ → ℕ → List ℕ → Option ℕ
 number_within least greatest word =
-    if is_number word && (nat_le least (digits_value 10 word) && nat_le (digits_value 10 word) greatest) then Some (digits_value 10 word) else None
+    if is_number word && (nat_le least (digits_value 10 word) && nat_le (digits_value 10 word) greatest)
+    then Some (digits_value 10 word) else None

@@ -1,9 +1,10 @@
 //! How texts are cut and how numbers are spelled: what scripts, traces, the words of the command line and all further
-//! formats stand on. A text is cut at a byte, into lines, and a line into words; a number has one spelling, decimal digits
-//! without sign and leading zeros.
+//! formats stand on. A text is cut at a byte, into lines, and a line into words; a number has one spelling, decimal
+//! digits without sign and leading zeros.
 //!
-//! There are two kinds of words. Loose words have any number of spaces between them and at the line's ends, as in a script.
-//! Strict words have single spaces between them, as in a trace: there a word may be empty, which no format allows.
+//! There are two kinds of words. Loose words have any number of spaces between them and at the line's ends, as in a
+//! script. Strict words have single spaces between them, as in a trace: there a word may be empty, which no format
+//! allows.
 #![tactic(auto)]
 
 mod cut;

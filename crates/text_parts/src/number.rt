@@ -41,7 +41,9 @@ fn with_digit(number: u64, digit: u8, greatest: u64) -> Option<u64>
 
 /// The number that digits write, where it isn't above the greatest. It stops at the first digit that is too many.
 fn digits_up_to(word: &[u8], greatest: u64) -> Option<u64>
-    ensures value { result ≡ (if all_ascii_digits word.now && nat_lt (digits_value 10 word.now) (greatest + 1) then Some (digits_value 10 word.now) else None) }
+    ensures value { result ≡
+        (if all_ascii_digits word.now && nat_lt (digits_value 10 word.now) (greatest + 1)
+        then Some (digits_value 10 word.now) else None) }
     ensures below { IfSome result (λ n. n < greatest + 1) }
 {
     let mut value: u64 = 0;

@@ -69,7 +69,8 @@ pub fn two_strict_words(rest: &[u8]) -> Option<(&[u8], &[u8])>
 
 /// The strict words, where there are just three.
 pub fn three_strict_words(rest: &[u8]) -> Option<(&[u8], &[u8], &[u8])>
-    ensures { option_map (λ words. (words.0.now, words.1.now, words.2.now)) result ≡ three_of (strict_words_behind rest.now) }
+    ensures { option_map (λ words. (words.0.now, words.1.now, words.2.now)) result ≡
+        three_of (strict_words_behind rest.now) }
 {
     let (first, rest) = next_strict_word(rest)?;
     let (second, third) = two_strict_words(rest)?;

@@ -12,9 +12,11 @@ queued_by c = length (queued_items (Some c))
 
 -- the bound on frames: 64 repeating ones a command and a few more, those that awaits wait for, and the queued items
 abbrev pub frame_bound : Script → ℕ
-frame_bound script = 64 * (length script.commands + 2) + (sum_by awaited_by script.commands + sum_by queued_by script.commands)
+frame_bound script =
+    64 * (length script.commands + 2) + (sum_by awaited_by script.commands + sum_by queued_by script.commands)
 
--- the bound on fences: each is of a release, which follows the filling of a buffer of a frame, and a frame has at most four
+-- the bound on fences: each is of a release, which follows the filling of a buffer of a frame, and a frame has at most
+-- four
 abbrev pub fence_bound : Script → ℕ
 fence_bound script = 4 * frame_bound script
 
@@ -26,7 +28,8 @@ time_bound script = 1000000000 + 100000000 * frame_bound script
 abbrev pub early_bound : Script → ℕ
 early_bound script = 4 * frame_bound script
 
--- the bound on buffers: a configuration makes at most two more than may be at the device, for each of at most four streams
+-- the bound on buffers: a configuration makes at most two more than may be at the device, for each of at most four
+-- streams
 abbrev pub configuration_bound : Script → ℕ
 configuration_bound script = 4 * (max script.profile.raw script.profile.yuv + 2)
 

@@ -13,8 +13,8 @@ use Rattle.trace_model.specs.Printable.{is_printable}
 use Rattle.trace_bounds.specs.Typed.{is_typed}
 use Rattle.trace_bounds.specs.Bounds.{buffer_bound, early_bound, fence_bound, frame_bound, time_bound}
 
--- What a legal run of a script holds at most. The bounds hold of every script, valid or not; those of a valid one fit the
--- fields of the entries.
+-- What a legal run of a script holds at most. The bounds hold of every script, valid or not; those of a valid one fit
+-- the fields of the entries.
 
 -- sends and drops together give away no more numbers than the bound on frames
 abbrev pub BoundsFrames : Script → List Entry → Type 0
@@ -55,16 +55,21 @@ BoundsTimes script past = IsLegal script past → IsTrue (list_all (is_until (ti
 -- the bounds of a valid script are at most these
 abbrev pub BoundsMost : Script → Type 0
 BoundsMost script =
-    IsTrue (is_valid script) → (frame_bound script ≤ 65664) × (fence_bound script ≤ 262656) × (early_bound script ≤ 262656) × (buffer_bound script ≤ 36864) × (time_bound script ≤ 6567400000000)
+    IsTrue (is_valid script) →
+    (frame_bound script ≤ 65664) × (fence_bound script ≤ 262656) × (early_bound script ≤ 262656)
+    × (buffer_bound script ≤ 36864) × (time_bound script ≤ 6567400000000)
 
 -- so they fit the fields of the entries
 abbrev pub BoundsFit : Script → Type 0
 BoundsFit script =
-    IsTrue (is_valid script) → (frame_bound script < 2 ^ 32) × (fence_bound script < 2 ^ 32) × (early_bound script < 2 ^ 32) × (buffer_bound script < 2 ^ 32) × (time_bound script < 2 ^ 63)
+    IsTrue (is_valid script) →
+    (frame_bound script < 2 ^ 32) × (fence_bound script < 2 ^ 32) × (early_bound script < 2 ^ 32)
+    × (buffer_bound script < 2 ^ 32) × (time_bound script < 2 ^ 63)
 
 -- ---- every entry has a line
 
 -- in a legal run of a valid script each entry has a line in the trace's text: all its numbers fit their fields, and its
 -- parts have a packed form
 abbrev pub PrintsTyped : Script → List Entry → Type 0
-PrintsTyped script past = IsTrue (is_typed script) → IsTrue (is_valid script) → IsLegal script past → IsTrue (list_all is_printable past)
+PrintsTyped script past =
+    IsTrue (is_typed script) → IsTrue (is_valid script) → IsLegal script past → IsTrue (list_all is_printable past)

@@ -6,8 +6,8 @@ use Rattle.cam_types.specs.declared.script.Command.TheVariants.{Once, Burst, Rep
 use Rattle.cam_types.specs.declared.script.Script.{Script}
 use Rattle.trace_model.specs.Printable.{is_byte}
 
--- What the types alone say of a script: they keep patterns and streams within a byte. All other numbers of a script that an
--- entry can show are bounded where it is valid.
+-- What the types alone say of a script: they keep patterns and streams within a byte. All other numbers of a script
+-- that an entry can show are bounded where it is valid.
 
 abbrev pub are_bytes : List ℕ → Bool
 are_bytes list = list_all is_byte list

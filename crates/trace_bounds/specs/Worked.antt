@@ -7,7 +7,15 @@ use Rattle.cam_types.specs.declared.script.Script.{Script}
 -- Scripts whose bounds `src/worked.rt` tells.
 
 abbrev pub of_commands : List Command → Script
-of_commands commands = record { version = 1; profile = record { depth = 6; raw = 3; yuv = 4 }; early = false; faults = []; picks = []; commands = commands }
+of_commands commands =
+    record {
+      version = 1;
+      profile = record { depth = 6; raw = 3; yuv = 4 };
+      early = false;
+      faults = [];
+      picks = [];
+      commands = commands;
+    }
 
 -- one capture
 abbrev pub once_script : Item → Script

@@ -1,5 +1,5 @@
-//! How much a legal run of a valid script can hold: at most so many frames, fences, buffers and so late a shutter, so that
-//! every number fits its field and every entry has a line in the trace's text. See `specs/`.
+//! How much a legal run of a valid script can hold: at most so many frames, fences, buffers and so late a shutter, so
+//! that every number fits its field and every entry has a line in the trace's text. See `specs/`.
 #![tactic(auto)]
 
 mod laws;

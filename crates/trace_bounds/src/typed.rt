@@ -12,7 +12,8 @@ use cam_types::{Command, Item, Script};
 
 /// Each entry of each legal trace of the script has a line in the trace's text, where the script is valid.
 pub fn legal_traces_print(script: &Script)
-    ensures { (past : List SomeEntry) → IsTrue (is_valid script.now) → IsLegal script.now past → IsTrue (list_all is_printable past) }
+    ensures { (past : List SomeEntry) → IsTrue (is_valid script.now) → IsLegal script.now past →
+        IsTrue (list_all is_printable past) }
 {
     every_script_is_typed(script);
     every_entry_prints();

@@ -4,8 +4,8 @@ ghost use Rattle.cam_types.specs.declared.item.Item.{Item as SomeItem};
 ghost use Rattle.trace_bounds.specs.Bounds.{buffer_bound, fence_bound, frame_bound, time_bound};
 ghost use Rattle.trace_bounds.specs.Worked.{await_script, burst_script, once_script};
 
-/// The bounds of three short scripts, worked out by hand: 64 frames for each command and two more, one for each item of a `once`
-/// or a `burst`, and as many as an `await` says.
+/// The bounds of three short scripts, worked out by hand: 64 frames for each command and two more, one for each item of
+/// a `once` or a `burst`, and as many as an `await` says.
 pub fn worked_bounds()
     ensures once { (item : SomeItem) → frame_bound (once_script item) ≡ 257 }
     ensures burst { (first second : SomeItem) → frame_bound (burst_script first second) ≡ 258 }

@@ -45,7 +45,8 @@ fn stream_at(script: &Script, entries: &[Entry], stream: StreamIx) -> Option<Str
 fn settings_to_draw(script: &Script, entries: &[Entry], frame: FrameNo) -> Settings
     requires { IsLegal script.now (reverse entries.now) }
     ensures range { range_fault result ≡ None }
-    ensures picture { (spec : SomeSpec) (n : ℕ) → picture spec result n ≡ picture spec (settings_of script.now (reverse entries.now) frame.0) n }
+    ensures picture { (spec : SomeSpec) (n : ℕ) →
+        picture spec result n ≡ picture spec (settings_of script.now (reverse entries.now) frame.0) n }
 {
     match item_of(script, entries, frame) {
         Some(item) => item.settings,
@@ -90,7 +91,9 @@ pub fn is_filled_due(
     canvas: Canvas,
 ) -> (bool, Canvas)
     requires { IsLegal script.now (reverse entries.now) }
-    ensures { IsTrue result.0 ↔ IsAllowed script.now (reverse entries.now) (Entry.Filled fill.frame fill.stream fill.buffer fill.fence fill.digest) }
+    ensures { IsTrue result.0 ↔
+        IsAllowed script.now (reverse entries.now)
+        (Entry.Filled fill.frame fill.stream fill.buffer fill.fence fill.digest) }
 {
     let Fill {
         frame,

@@ -20,7 +20,8 @@ use trace_model::{Entry, TraceList};
 pub fn check(alloc: Global, script: &Script, trace: &TraceList) -> Result<Verdict, NoMemory>
     ensures exact { IfOk result (λ verdict. IsVerdict script.now trace.now.entries verdict) }
     // A complete legal run keeps the laws.
-    ensures lawful { IfOk result (λ verdict. verdict ≡ Verdict.Legal → KeepsLaws script.now (reverse trace.now.entries)) }
+    ensures lawful { IfOk result
+        (λ verdict. verdict ≡ Verdict.Legal → KeepsLaws script.now (reverse trace.now.entries)) }
 {
     a_complete_run_keeps_the_laws();
     let canvas = Canvas::new(alloc)?;

@@ -8,5 +8,6 @@ ghost use Rattle.trace_model.specs.declared.entry.Entry.{Entry as SomeEntry};
 /// A trace has one verdict: so the judge calls a trace legal exactly where it is a complete legal run, and the position
 /// that it names is the least one.
 pub fn a_trace_has_one_verdict()
-    ensures { (script : SomeScript) (trace : List SomeEntry) (verdict other : SomeVerdict) → IsVerdict script trace verdict → IsVerdict script trace other → verdict ≡ other }
+    ensures { (script : SomeScript) (trace : List SomeEntry) (verdict other : SomeVerdict) →
+        IsVerdict script trace verdict → IsVerdict script trace other → verdict ≡ other }
 {}

@@ -1,5 +1,5 @@
-//! The judge of a trace: whether it is a complete legal run of a script, and if not, where or what it lacks. It looks at
-//! each entry over the entries before it, by the rules of `judge_rules`, `judge_calls` and `judge_sends`.
+//! The judge of a trace: whether it is a complete legal run of a script, and if not, where or what it lacks. It looks
+//! at each entry over the entries before it, by the rules of `judge_rules`, `judge_calls` and `judge_sends`.
 #![tactic(auto)]
 
 mod allowed;

@@ -34,7 +34,9 @@ before_begin (_ ∷ past) = before_begin past
 -- how many repeating frames were done with since the last begin
 abbrev pub done_since_begin : Script → List Entry → ℕ
 done_since_begin script past =
-    length (filter (λ n. is_repeating_frame script past n && (is_done n past && not (is_done n (before_begin past)))) (frames past))
+    length
+    (filter (λ n. is_repeating_frame script past n && (is_done n past && not (is_done n (before_begin past))))
+    (frames past))
 
 -- what an accepted command waits for
 abbrev pub is_over : Script → List Entry → Command → Bool
@@ -60,7 +62,8 @@ may_answer script past c =
     (not (is_waiting_command c) || is_some (begun past)) && (is_refusal (reply script past c) || is_over script past c)
 
 abbrev pub call_of : Script → List Entry → Option Command → Option Entry
-call_of script past (Some c) = if may_answer script past c then Some (Call (call_count past) (word_of c) (reply script past c)) else None
+call_of script past (Some c) =
+    if may_answer script past c then Some (Call (call_count past) (word_of c) (reply script past c)) else None
 call_of script past None = None
 
 -- the call that is due: the next command's

@@ -13,14 +13,15 @@ use Rattle.trace_model.specs.Place.{is_at_device_by}
 use Rattle.trace_model.specs.Shutter.{is_next_for_sensor}
 use Rattle.trace_model.specs.Stopping.{is_stopping, is_stopped}
 
--- The errors (camera3.h, S6 and flush): a capture that failed whole has ERROR_REQUEST and no other; what is missing of a
--- capture of which something came is named by ERROR_RESULT and ERROR_BUFFER. Each has a fault of the script as its
+-- The errors (camera3.h, S6 and flush): a capture that failed whole has ERROR_REQUEST and no other; what is missing of
+-- a capture of which something came is named by ERROR_RESULT and ERROR_BUFFER. Each has a fault of the script as its
 -- cause, or a flush, a disconnect or a device failure after the frame was sent.
 
 -- the whole capture failed: nothing of it came
 abbrev pub may_fail_request : Script → List Entry → ℕ → Bool
 may_fail_request script past n =
-    (is_open n past && not (has_something n past)) && ((request_fault script n && has_shutter n past) || is_stopped n past)
+    (is_open n past && not (has_something n past))
+    && ((request_fault script n && has_shutter n past) || is_stopped n past)
 
 -- a part of the capture may be named as missing: it began, and it isn't one that fails whole
 abbrev pub may_fail_in_part : Script → List Entry → ℕ → Bool
@@ -40,7 +41,8 @@ may_fail_result script past n =
 abbrev pub may_fail_buffer : Script → List Entry → ℕ → ℕ → Bool
 may_fail_buffer script past n s =
     (has_target n s past && (may_fail_in_part script past n && not (has_error_request n past)))
-    && ((not (has_error_buffer n s past) && not (is_returned n s past)) && (buffer_fault script n s || is_cut_short past n))
+    && ((not (has_error_buffer n s past) && not (is_returned n s past))
+    && (buffer_fault script n s || is_cut_short past n))
 
 -- the device fails where frame n would have its shutter
 abbrev pub may_fail_device_at : Script → List Entry → ℕ → Bool
@@ -50,13 +52,15 @@ abbrev pub may_fail_device : Script → List Entry → Bool
 may_fail_device script past = not (is_stopping past) && list_any (may_fail_device_at script past) (frames past)
 
 abbrev pub error_request_due : Script → List Entry → ℕ → Option Entry
-error_request_due script past n = if may_fail_request script past n then Some (ErrorRequest (record { 0 = n })) else None
+error_request_due script past n =
+    if may_fail_request script past n then Some (ErrorRequest (record { 0 = n })) else None
 
 abbrev pub error_result_due : Script → List Entry → ℕ → Option Entry
 error_result_due script past n = if may_fail_result script past n then Some (ErrorResult (record { 0 = n })) else None
 
 abbrev pub error_buffer_due : Script → List Entry → ℕ → ℕ → Option Entry
-error_buffer_due script past n s = if may_fail_buffer script past n s then Some (ErrorBuffer (record { 0 = n }) (record { 0 = s })) else None
+error_buffer_due script past n s =
+    if may_fail_buffer script past n s then Some (ErrorBuffer (record { 0 = n }) (record { 0 = s })) else None
 
 abbrev pub error_device_due : Script → List Entry → Option Entry
 error_device_due script past = if may_fail_device script past then Some ErrorDevice else None

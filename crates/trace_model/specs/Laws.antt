@@ -32,7 +32,9 @@ returns_buffer b _ = false
 -- a buffer is sent once more than it is returned where it is the configuration's and at the device, else as often
 abbrev pub ConservesBuffers : List Entry → Type 0
 ConservesBuffers past =
-    (b : ℕ) → count_by (sends_buffer b) past ≡ count_by (returns_buffer b) past + (if is_buffer past b && is_at (place b past) Device then 1 else 0)
+    (b : ℕ) →
+    count_by (sends_buffer b) past ≡
+    count_by (returns_buffer b) past + (if is_buffer past b && is_at (place b past) Device then 1 else 0)
 
 -- ---- each request ends once (camera3.h, S6 and process_capture_result)
 
@@ -44,7 +46,9 @@ ends_metadata n e = is_part n 3 e || (is_error_result n e || is_error_request n 
 pub record EndsOnce (script : Script) (past : List Entry) : Type 0 where
   pub items : IsTrue (list_all (λ w. count_by (takes w.request.0 w.index) past == 1) (submitted script past))
   pub metadata : IsTrue (list_all (λ n. count_by (ends_metadata n) past == 1) (frames past))
-  pub buffers : IsTrue (list_all (λ n. list_all (λ t. count_by (returns_target n t.stream.0) past == 1) (targets_of n past)) (frames past))
+  pub buffers : IsTrue
+      (list_all (λ n. list_all (λ t. count_by (returns_target n t.stream.0) past == 1) (targets_of n past))
+      (frames past))
 
 -- ---- shutters rise (camera3.h, camera3_shutter_msg)
 
@@ -105,7 +109,9 @@ counts_up n past =
     && list_all (λ k. nat_lt (count_by (is_part n k) past) 2) (1 ∷ (2 ∷ (3 ∷ [])))))
 
 abbrev pub is_whole_or_failed : ℕ → List Entry → Bool
-is_whole_or_failed n past = if has_part n 3 past then not (has_error_result n past || has_error_request n past) else (has_error_result n past || has_error_request n past)
+is_whole_or_failed n past =
+    if has_part n 3 past then not (has_error_result n past || has_error_request n past)
+    else (has_error_result n past || has_error_request n past)
 
 -- the parts of a sent frame are 1 to k, and k is 3 exactly where it has no result error and no request error
 pub record CountsUp (past : List Entry) : Type 0 where
@@ -137,8 +143,8 @@ early_buffers [] = []
 early_buffers (Early _ _ b _ ∷ past) = b.0 ∷ early_buffers past
 early_buffers (_ ∷ past) = early_buffers past
 
--- each fence is released once, and signalled once, later; each device fence is given once and signalled once, later, the
--- buffer is released after that alone, and in the end each is home
+-- each fence is released once, and signalled once, later; each device fence is given once and signalled once, later,
+-- the buffer is released after that alone, and in the end each is home
 pub record FencesOnce (past : List Entry) : Type 0 where
   pub released_once : IsTrue (list_all (λ f. count_by (releases_fence f) past == 1) (released past))
   pub signalled_once : IsTrue (list_all (λ f. count_by (signals f) past == 1) (released past))

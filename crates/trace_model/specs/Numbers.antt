@@ -3,7 +3,8 @@ use Rattle.trace_model.specs.declared.entry.Entry.{Entry}
 use Rattle.trace_model.specs.Entry.{is_numbering, is_release, is_call, is_early}
 
 -- Numbers are given in order: a frame number by each send and drop, a fence number by each release, the number
--- of a device fence by each early return, a place in the script by each call. (camera3.h, camera3_capture_request.frame_number: set by the framework, raised by one, unique.)
+-- of a device fence by each early return, a place in the script by each call. (camera3.h,
+-- camera3_capture_request.frame_number: set by the framework, raised by one, unique.)
 
 abbrev pub next_number : List Entry → ℕ
 next_number past = count_by is_numbering past

@@ -29,7 +29,8 @@ is_returned n s past = list_any (returns_target n s) past
 -- the device fences with which it came back early
 abbrev pub early_fences : ℕ → ℕ → List Entry → List ℕ
 early_fences n s [] = []
-early_fences n s (Early m t _ d ∷ past) = if (m.0 == n) && (t.0 == s) then d.0 ∷ early_fences n s past else early_fences n s past
+early_fences n s (Early m t _ d ∷ past) =
+    if (m.0 == n) && (t.0 == s) then d.0 ∷ early_fences n s past else early_fences n s past
 early_fences n s (_ ∷ past) = early_fences n s past
 
 -- the device is done with the buffer: it came back filled or failed, or early and its device fence is signalled

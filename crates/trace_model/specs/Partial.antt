@@ -15,15 +15,18 @@ use Rattle.trace_model.specs.Open.{has_error_result, is_metadata_ended}
 abbrev pub part_count : ℕ → List Entry → ℕ
 part_count n past = count_by (is_partial n) past
 
--- part k of frame n may come: the last one needs that no fault keeps it back and that every earlier frame's metadata ended
+-- part k of frame n may come: the last one needs that no fault keeps it back and that every earlier frame's metadata
+-- ended
 abbrev pub may_part : Script → List Entry → ℕ → ℕ → Bool
 may_part script past n k =
     (not (has_error_request n past) && (not (has_error_result n past) && not (request_fault script n)))
-    && (nat_le k 3 && (not (k == 3) || (not (result_fault script n) && each_earlier n (λ m. is_metadata_ended m past) past)))
+    && (nat_le k 3
+    && (not (k == 3) || (not (result_fault script n) && each_earlier n (λ m. is_metadata_ended m past) past)))
 
 abbrev pub part_of : Script → List Entry → ℕ → ℕ → Option ℕ → Option Entry
 part_of script past n k (Some time) =
-    if may_part script past n k then Some (Partial (record { 0 = n }) k (part_at k (settings_of script past n) time)) else None
+    if may_part script past n k then Some (Partial (record { 0 = n }) k (part_at k (settings_of script past n) time))
+    else None
 part_of script past n k None = None
 
 -- the metadata result of frame n that is due: the next part, of its settings and the time of its shutter

@@ -35,7 +35,8 @@ is_at _ _ = false
 
 -- the entry sends frame n with buffer b for stream s
 abbrev pub sends_with : ℕ → ℕ → ℕ → Option Entry → Bool
-sends_with n s b (Some (Send m _ _ _ targets)) = (m.0 == n) && list_any (λ t. (t.stream.0 == s) && (t.buffer.0 == b)) (four_list targets)
+sends_with n s b (Some (Send m _ _ _ targets)) =
+    (m.0 == n) && list_any (λ t. (t.stream.0 == s) && (t.buffer.0 == b)) (four_list targets)
 sends_with n s b _ = false
 
 -- buffer b is at the device by the send of frame n, for stream s

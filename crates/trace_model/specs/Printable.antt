@@ -32,7 +32,8 @@ number_fits None = true
 
 -- the four places are filled from the first on
 abbrev pub is_filled : {T : Type 0} → Four T → Bool
-is_filled f = (is_some f.a || not (is_some f.b)) && ((is_some f.b || not (is_some f.c)) && (is_some f.c || not (is_some f.d)))
+is_filled f =
+    (is_some f.a || not (is_some f.b)) && ((is_some f.b || not (is_some f.c)) && (is_some f.c || not (is_some f.d)))
 
 abbrev pub sent_fits : Sent → Bool
 sent_fits t = is_byte t.stream.0 && (is_small t.buffer.0 && fence_fits t.fence)
@@ -79,11 +80,13 @@ is_digest bytes = (length bytes == 32) && list_all is_byte bytes
 abbrev pub is_printable : Entry → Bool
 is_printable (Begin word) = is_waiting_word word
 is_printable (Call index word reply) = is_small index && reply_fits word reply
-is_printable (Send n r i same targets) = (is_small n.0 && (is_small r.0 && is_small i)) && (is_filled targets && list_all sent_fits (four_list targets))
+is_printable (Send n r i same targets) =
+    (is_small n.0 && (is_small r.0 && is_small i)) && (is_filled targets && list_all sent_fits (four_list targets))
 is_printable (Dropped n r i) = is_small n.0 && (is_small r.0 && is_small i)
 is_printable (Shutter n time) = is_small n.0 && nat_lt time (2 ^ 64)
 is_printable (Partial n k part) = is_small n.0 && part_fits k part
-is_printable (Filled n s b f digest) = (is_small n.0 && (is_byte s.0 && is_small b.0)) && (not (is_some f) && is_digest digest)
+is_printable (Filled n s b f digest) =
+    (is_small n.0 && (is_byte s.0 && is_small b.0)) && (not (is_some f) && is_digest digest)
 is_printable (Failed n s b f) = (is_small n.0 && (is_byte s.0 && is_small b.0)) && fence_fits f
 is_printable (ErrorRequest n) = is_small n.0
 is_printable (ErrorResult n) = is_small n.0

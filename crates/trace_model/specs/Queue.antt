@@ -93,7 +93,8 @@ next_at r i None = None
 -- the repeating list's item in turn: the list is sent as a cycle
 abbrev pub next_repeating : Option Repeating → List Entry → Option Queued
 next_repeating None past = None
-next_repeating (Some r) past = let i = sent_for r.request.0 past % length r.items in next_at r.request i (slice_get r.items i)
+next_repeating (Some r) past =
+    let i = sent_for r.request.0 past % length r.items in next_at r.request i (slice_get r.items i)
 
 abbrev pub next_from : Option WaitingItem → Option Queued → Option Queued
 next_from (Some w) other = Some (record { request = w.request; index = w.index; item = w.item; repeating = false })

@@ -40,15 +40,18 @@ state_refusal past c =
 
 -- 11 QueueFull comes last: more than 256 would wait
 abbrev pub queue_refusal : Script → List Entry → List Item → Option Reply
-queue_refusal script past items = where_true (nat_lt queue_limit (length (queued script past) + length items)) (refused 11)
+queue_refusal script past items =
+    where_true (nat_lt queue_limit (length (queued script past) + length items)) (refused 11)
 
 -- ---- all refusals of a command
 
 -- 9 NotRepeating, 10 Repeating
 abbrev pub own_refusal : Script → List Entry → Command → Option Reply
 own_refusal script past (Configure specs) = specs_refusal specs
-own_refusal script past (Once item) = or_else (items_refusal (length (streams script past)) 0 (item ∷ [])) (queue_refusal script past (item ∷ []))
-own_refusal script past (Burst items) = or_else (list_refusal (length (streams script past)) items) (queue_refusal script past items)
+own_refusal script past (Once item) =
+    or_else (items_refusal (length (streams script past)) 0 (item ∷ [])) (queue_refusal script past (item ∷ []))
+own_refusal script past (Burst items) =
+    or_else (list_refusal (length (streams script past)) items) (queue_refusal script past items)
 own_refusal script past (Repeat items) = list_refusal (length (streams script past)) items
 own_refusal script past Stop = where_true (not (is_some (repeating script past))) (refused 9)
 own_refusal script past (Await _) = where_true (not (is_some (repeating script past))) (refused 9)
@@ -64,7 +67,8 @@ refusal script past c = or_else (state_refusal past c) (own_refusal script past 
 abbrev pub made_for : Profile → ℕ → List StreamSpec → List Made
 made_for p next [] = []
 made_for p next (spec ∷ specs) =
-    record { first = record { 0 = next }; count = pool_size p spec.format } ∷ made_for p (next + pool_size p spec.format) specs
+    record { first = record { 0 = next }; count = pool_size p spec.format }
+    ∷ made_for p (next + pool_size p spec.format) specs
 
 abbrev pub acceptance : Script → List Entry → Command → Reply
 acceptance script past (Configure specs) = Configured (four_of (made_for script.profile (made_count past) specs))

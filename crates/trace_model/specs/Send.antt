@@ -31,7 +31,8 @@ use Rattle.trace_model.specs.Stopping.{is_stopping}
 
 -- the streams that an item asks for, in ascending order
 abbrev pub targets_in_order : Item → List ℕ
-targets_in_order item = filter (λ s. list_any (λ t. t == s) (take item.targets.count item.targets.list)) (0 ∷ (1 ∷ (2 ∷ (3 ∷ []))))
+targets_in_order item =
+    filter (λ s. list_any (λ t. t == s) (take item.targets.count item.targets.list)) (0 ∷ (1 ∷ (2 ∷ (3 ∷ []))))
 
 -- the entry's targets are these streams, in order
 abbrev pub are_streams : List Sent → List ℕ → Bool
@@ -51,7 +52,8 @@ at_device_count past s = length (filter (λ b. is_at (place b past) Device) (buf
 
 -- the device takes a further buffer of stream s
 abbrev pub has_room : Script → List Entry → ℕ → Bool
-has_room script past s = nat_lt (at_device_count past s) (max_buffers_of script.profile (slice_get (streams script past) s))
+has_room script past s =
+    nat_lt (at_device_count past s) (max_buffers_of script.profile (slice_get (streams script past) s))
 
 -- a configure or a close has begun: no repeating item is sent while it waits for the device to be quiet
 abbrev pub holds_back : Option Word → Bool
@@ -63,7 +65,8 @@ holds_back _ = false
 abbrev pub repeated_since_call : Script → List Entry → ℕ
 repeated_since_call script [] = 0
 repeated_since_call script (Call _ _ _ ∷ past) = 0
-repeated_since_call script (Send _ r _ _ _ ∷ past) = (if is_repeating script past r.0 then 1 else 0) + repeated_since_call script past
+repeated_since_call script (Send _ r _ _ _ ∷ past) =
+    (if is_repeating script past r.0 then 1 else 0) + repeated_since_call script past
 repeated_since_call script (_ ∷ past) = repeated_since_call script past
 
 abbrev pub awaited_in : Option Word → Option Command → ℕ
@@ -74,13 +77,16 @@ awaited_in _ _ = 0
 abbrev pub awaited : Script → List Entry → ℕ
 awaited script past = awaited_in (begun past) (next_command script past)
 
--- a repeating item may be sent: at most 64 of them after a call, and as many more as an await waits for (our own choice)
+-- a repeating item may be sent: at most 64 of them after a call, and as many more as an await waits for (our own
+-- choice)
 abbrev pub may_repeat : Script → List Entry → Bool
-may_repeat script past = not (holds_back (begun past)) && nat_lt (repeated_since_call script past) (repeating_ahead + awaited script past)
+may_repeat script past =
+    not (holds_back (begun past)) && nat_lt (repeated_since_call script past) (repeating_ahead + awaited script past)
 
 -- the device takes a further frame for these streams: no more are open than the profile's depth (our own choice)
 abbrev pub has_capacity : Script → List Entry → List ℕ → Bool
-has_capacity script past targets = nat_lt (open_count past) script.profile.depth && list_all (has_room script past) targets
+has_capacity script past targets =
+    nat_lt (open_count past) script.profile.depth && list_all (has_room script past) targets
 
 -- the settings of the last frame that was sent after the last accepted configuration
 abbrev pub last_settings : Script → List Entry → Option Settings
@@ -104,7 +110,8 @@ mark_of script past s = are_last (last_settings script past) s
 -- nothing stands against sending this item now, whatever buffers it takes
 abbrev pub may_go : Script → List Entry → Queued → Bool
 may_go script past next =
-    not (is_stopping past) && (has_capacity script past (targets_in_order next.item) && (not next.repeating || may_repeat script past))
+    not (is_stopping past)
+    && (has_capacity script past (targets_in_order next.item) && (not next.repeating || may_repeat script past))
 
 abbrev pub is_same_bool : Bool → Bool → Bool
 is_same_bool true b = b
@@ -115,7 +122,8 @@ fits_next script past None n r i same targets = false
 fits_next script past (Some next) n r i same targets =
     ((n == next_number past) && ((r == next.request.0) && (i == next.index)))
     && (may_go script past next
-    && ((are_streams (four_list targets) (targets_in_order next.item) && (is_filled targets && list_all (takes_from_pool past) (four_list targets)))
+    && ((are_streams (four_list targets) (targets_in_order next.item)
+    && (is_filled targets && list_all (takes_from_pool past) (four_list targets)))
     && is_same_bool same (mark_of script past next.item.settings)))
 
 -- the send is allowed: the next item under the next number, with buffers of the pool. Which buffer is taken is free.
@@ -127,7 +135,8 @@ abbrev pub least_in_pool : List Entry → ℕ → Option ℕ
 least_in_pool past s = find (λ b. is_at (place b past) Pool) (buffers_of past s)
 
 abbrev pub target_with : List Entry → ℕ → Option ℕ → Option Sent
-target_with past s (Some b) = Some (record { stream = record { 0 = s }; buffer = record { 0 = b }; fence = fence_of b past })
+target_with past s (Some b) =
+    Some (record { stream = record { 0 = s }; buffer = record { 0 = b }; fence = fence_of b past })
 target_with past s None = None
 
 abbrev pub least_target : List Entry → ℕ → Option Sent
@@ -145,11 +154,14 @@ least_targets past (s ∷ streams) = with_target (least_target past s) (least_ta
 abbrev pub send_with : Script → List Entry → Queued → Option (List Sent) → Option Entry
 send_with script past next None = None
 send_with script past next (Some targets) =
-    Some (Send (record { 0 = next_number past }) next.request next.index (mark_of script past next.item.settings) (four_of targets))
+    Some (Send (record { 0 = next_number past }) next.request next.index (mark_of script past next.item.settings)
+    (four_of targets))
 
 abbrev pub send_next : Script → List Entry → Option Queued → Option Entry
 send_next script past None = None
-send_next script past (Some next) = if may_go script past next then send_with script past next (least_targets past (targets_in_order next.item)) else None
+send_next script past (Some next) =
+    if may_go script past next then send_with script past next (least_targets past (targets_in_order next.item))
+    else None
 
 -- the send that is due: the allowed one with the least buffer of the pool for each target
 abbrev pub send_due : Script → List Entry → Option Entry

@@ -34,8 +34,8 @@ abbrev pub is_failed_buffer : Entry → Bool
 is_failed_buffer (Failed _ _ _ _) = true
 is_failed_buffer _ = false
 
--- calls, sent frames, dropped items, frames with all their metadata, errors of requests and of results, buffers that came
--- back filled and in error, and all entries; a buffer that came back early is counted among the entries alone
+-- calls, sent frames, dropped items, frames with all their metadata, errors of requests and of results, buffers that
+-- came back filled and in error, and all entries; a buffer that came back early is counted among the entries alone
 pub record Summary : Type 0 where
   pub commands : ℕ
   pub frames : ℕ

@@ -42,8 +42,10 @@ with_profile profile (Err refused) = Err refused
 unfoldable pub trace_from : ℕ → List (List ℕ) → Result TraceList TraceRefused
 trace_from n [] = Err (Bad n Truncated)
 trace_from n (rest ∷ []) = Err (Bad n Truncated)
-trace_from n (line ∷ part ∷ parts) = at_line n (named_profile line) (λ profile. with_profile profile (entries_from (n + 1) (part ∷ parts)))
+trace_from n (line ∷ part ∷ parts) =
+    at_line n (named_profile line) (λ profile. with_profile profile (entries_from (n + 1) (part ∷ parts)))
 
--- the trace that a text means, whose first line has the number n; or the first line that has a cause, with its first cause
+-- the trace that a text means, whose first line has the number n; or the first line that has a cause, with its first
+-- cause
 unfoldable pub trace_of : ℕ → List ℕ → Result TraceList TraceRefused
 trace_of n text = trace_from n (parts_at 10 text)

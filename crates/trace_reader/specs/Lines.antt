@@ -38,7 +38,8 @@ shape (Some x) = Ok x
 abbrev pub one : {A : Type 0} → (List ℕ → Result A Cause) → List (List ℕ) → Result A Cause
 one read words = shape (one_of words) >>= read
 
-abbrev pub two : {A B : Type 0} → (List ℕ → Result A Cause) → (List ℕ → Result B Cause) → List (List ℕ) → Result (A × B) Cause
+abbrev pub two : {A B : Type 0} → (List ℕ → Result A Cause) → (List ℕ → Result B Cause) → List (List ℕ) →
+    Result (A × B) Cause
 two first second words = shape (two_of words) >>= λ w. both (first w.0) (second w.1)
 
 -- words with their places, from s on
@@ -72,7 +73,8 @@ begin_of words = one (λ w. waiting_word (command_word w)) words >>= λ word. Ok
 abbrev pub refusal : List (List ℕ) → Result Reply Cause
 refusal (c ∷ []) = byte c >>= λ code. Ok (reply.Refused code None None)
 refusal (c ∷ f ∷ []) = both (byte c) (small f) >>= λ p. Ok (reply.Refused p.0 (Some p.1) None)
-refusal (c ∷ f ∷ s ∷ []) = both (byte c) (both (small f) (small s)) >>= λ p. Ok (reply.Refused p.0 (Some p.1.0) (Some p.1.1))
+refusal (c ∷ f ∷ s ∷ []) =
+    both (byte c) (both (small f) (small s)) >>= λ p. Ok (reply.Refused p.0 (Some p.1.0) (Some p.1.1))
 refusal _ = Err BadLine
 
 -- the number of a request
@@ -99,7 +101,8 @@ call_with index (Some word) words = both (small index) (reply_of word words) >>=
 
 -- `I W = ..`
 unfoldable pub call_of : List (List ℕ) → Result Entry Cause
-call_of (index ∷ word ∷ sign ∷ words) = if bytes_eq sign (codes "=") then call_with index (command_word word) words else Err BadLine
+call_of (index ∷ word ∷ sign ∷ words) =
+    if bytes_eq sign (codes "=") then call_with index (command_word word) words else Err BadLine
 call_of _ = Err BadLine
 
 -- ---- frames

@@ -87,7 +87,8 @@ fence word = if bytes_eq word (codes "-") then Ok None else (fence_number word >
 -- ---- words of several parts
 
 -- two values from what stands before and after a sign
-abbrev pub cut_in : {A B : Type 0} → Option (List ℕ × List ℕ) → (List ℕ → Result A Cause) → (List ℕ → Result B Cause) → Result (A × B) Cause
+abbrev pub cut_in : {A B : Type 0} → Option (List ℕ × List ℕ) → (List ℕ → Result A Cause) → (List ℕ → Result B Cause) →
+    Result (A × B) Cause
 cut_in None front back = Err BadLine
 cut_in (Some cut) front back = both (front cut.0) (back cut.1)
 
@@ -101,11 +102,14 @@ fenced_buffer word = cut_in (cut_at 58 word) buffer fence
 
 -- `S:bB:F`
 unfoldable pub sent : List ℕ → Result Sent Cause
-sent word = cut_in (cut_at 58 word) byte fenced_buffer >>= λ p. Ok (record { stream = record { 0 = p.0 }; buffer = record { 0 = p.1.0 }; fence = p.1.1 })
+sent word =
+    cut_in (cut_at 58 word) byte fenced_buffer >>= λ p. Ok
+    (record { stream = record { 0 = p.0 }; buffer = record { 0 = p.1.0 }; fence = p.1.1 })
 
 -- the number of a stream that isn't free: another number isn't the line's shape
 abbrev pub stream_number : ℕ → List ℕ → Result ℕ Cause
-stream_number s word = if bytes_eq word (decimal s) then Ok s else (if is_number word then Err BadLine else Err BadNumber)
+stream_number s word =
+    if bytes_eq word (decimal s) then Ok s else (if is_number word then Err BadLine else Err BadNumber)
 
 -- `bB+C`: 43 is `+`
 abbrev pub buffers : List ℕ → Result (ℕ × ℕ) Cause
@@ -113,14 +117,19 @@ buffers word = cut_in (cut_at 43 word) buffer small
 
 -- `S:bB+C`, where S is the number of the stream
 unfoldable pub made : ℕ → List ℕ → Result Made Cause
-made s word = cut_in (cut_at 58 word) (stream_number s) buffers >>= λ p. Ok (record { first = record { 0 = p.1.0 }; count = p.1.1 })
+made s word =
+    cut_in (cut_at 58 word) (stream_number s) buffers >>= λ p. Ok
+    (record { first = record { 0 = p.1.0 }; count = p.1.1 })
 
 abbrev pub mark : List ℕ → Result Bool Cause
-mark word = if bytes_eq word (codes "same") then Ok true else (if bytes_eq word (codes "new") then Ok false else Err BadLine)
+mark word =
+    if bytes_eq word (codes "same") then Ok true else (if bytes_eq word (codes "new") then Ok false else Err BadLine)
 
 -- the number of a part
 abbrev pub part_number : List ℕ → Result ℕ Cause
-part_number word = if bytes_eq word (codes "1") then Ok 1 else (if bytes_eq word (codes "2") then Ok 2 else (if bytes_eq word (codes "3") then Ok 3 else Err BadNumber))
+part_number word =
+    if bytes_eq word (codes "1") then Ok 1
+    else (if bytes_eq word (codes "2") then Ok 2 else (if bytes_eq word (codes "3") then Ok 3 else Err BadNumber))
 
 -- ---- hexadecimal text
 

@@ -18,7 +18,8 @@ fn is_lower(word: &[u8]) -> bool
 
 /// The bytes of a text.
 pub fn hex_bytes(alloc: Global, word: &[u8]) -> Result<Vec<u8>, LineRefused>
-    ensures { MatchResult result (λ bytes. hex_bytes word.now ≡ Ok bytes.items) (λ why. Refuses why (hex_bytes word.now)) }
+    ensures { MatchResult result (λ bytes. hex_bytes word.now ≡ Ok bytes.items)
+        (λ why. Refuses why (hex_bytes word.now)) }
 {
     if !is_lower(word) {
         return Err(LineRefused::Bad(Cause::BadNumber));

@@ -72,7 +72,8 @@ abbrev pub reply_words : Reply → List (List ℕ)
 reply_words Ok = codes "ok" ∷ []
 reply_words (Submitted r) = codes "ok" ∷ request_text r.0 ∷ []
 reply_words (Configured made) = codes "ok" ∷ made_words 0 (four_list made)
-reply_words (Refused code first second) = codes "refused" ∷ decimal code ∷ map decimal (option_to_list first ++ option_to_list second)
+reply_words (Refused code first second) =
+    codes "refused" ∷ decimal code ∷ map decimal (option_to_list first ++ option_to_list second)
 
 -- the packed metadata of a part, two digits for each byte
 abbrev pub part_text : Part → List ℕ
@@ -86,12 +87,15 @@ place_text n s b = behind_spaces (decimal n ∷ decimal s ∷ buffer_text b ∷ 
 abbrev pub entry_words : Entry → List (List ℕ)
 entry_words (Begin word) = codes "begin" ∷ word_text word ∷ []
 entry_words (Call index word reply) = codes "call" ∷ decimal index ∷ word_text word ∷ codes "=" ∷ reply_words reply
-entry_words (Send n r i same targets) = codes "send" ∷ decimal n.0 ∷ item_text r.0 i ∷ mark_text same ∷ map sent_text (four_list targets)
+entry_words (Send n r i same targets) =
+    codes "send" ∷ decimal n.0 ∷ item_text r.0 i ∷ mark_text same ∷ map sent_text (four_list targets)
 entry_words (Dropped n r i) = codes "drop" ∷ decimal n.0 ∷ item_text r.0 i ∷ []
 entry_words (Shutter n time) = codes "shutter" ∷ decimal n.0 ∷ decimal time ∷ []
 entry_words (Partial n k part) = codes "partial" ∷ decimal n.0 ∷ decimal k ∷ part_text part ∷ []
-entry_words (Filled n s b f digest) = codes "buffer" ∷ decimal n.0 ∷ decimal s.0 ∷ buffer_text b.0 ∷ codes "ok" ∷ codes "-" ∷ encode_lower digest ∷ []
-entry_words (Failed n s b f) = codes "buffer" ∷ decimal n.0 ∷ decimal s.0 ∷ buffer_text b.0 ∷ codes "error" ∷ fence_text f ∷ []
+entry_words (Filled n s b f digest) =
+    codes "buffer" ∷ decimal n.0 ∷ decimal s.0 ∷ buffer_text b.0 ∷ codes "ok" ∷ codes "-" ∷ encode_lower digest ∷ []
+entry_words (Failed n s b f) =
+    codes "buffer" ∷ decimal n.0 ∷ decimal s.0 ∷ buffer_text b.0 ∷ codes "error" ∷ fence_text f ∷ []
 entry_words (ErrorRequest n) = codes "error" ∷ codes "request" ∷ decimal n.0 ∷ []
 entry_words (ErrorResult n) = codes "error" ∷ codes "result" ∷ decimal n.0 ∷ []
 entry_words (ErrorBuffer n s) = codes "error" ∷ codes "buffer" ∷ decimal n.0 ∷ decimal s.0 ∷ []

@@ -19,8 +19,8 @@ use std::alloc::Global;
 use std::marker::Model;
 use trace_model::Entry;
 
-/// Writes the lines of a trace. Its room, of 4,096 bytes, is taken when it is made, and no line takes memory. A contract sees
-/// the profile that its first line names.
+/// Writes the lines of a trace. Its room, of 4,096 bytes, is taken when it is made, and no line takes memory. A
+/// contract sees the profile that its first line names.
 #[derive(Drop)]
 pub struct Printer {
     named: Option<Profile>,

@@ -21,8 +21,8 @@ fn text_of(alloc: Global, count: usize) -> Result<Vec<u8>, AllocError> {
     Ok(text)
 }
 
-/// The sink's room, the most that a write takes, the calls that are to fail, whether the trace is written, and how many of
-/// its bytes are.
+/// The sink's room, the most that a write takes, the calls that are to fail, whether the trace is written, and how many
+/// of its bytes are.
 type Case = (u32, u32, &'static [u32], bool, usize);
 
 const CASES: &[Case] = &[

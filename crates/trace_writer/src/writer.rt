@@ -45,8 +45,10 @@ fn put_lines<K: Sink>(
     sink: &mut K,
 ) -> Result<(), Failed>
     requires { list_all is_printable trace.now ≡ true }
-    ensures text { OnOk result (Gathers (K.state sink.old) (K.state sink.new) pieces.new (pieces.old ++ flat_map line_of trace.now)) }
-    ensures failed { OnErr result (Breaks (K.state sink.old) (K.state sink.new) (pieces.old ++ flat_map line_of trace.now)) }
+    ensures text { OnOk result
+        (Gathers (K.state sink.old) (K.state sink.new) pieces.new (pieces.old ++ flat_map line_of trace.now)) }
+    ensures failed { OnErr result
+        (Breaks (K.state sink.old) (K.state sink.new) (pieces.old ++ flat_map line_of trace.now)) }
     ensures faults { Counts result (K.state sink.old).faults (K.state sink.new).faults }
 {
     for entry in trace {

@@ -9,7 +9,8 @@ use Rattle.turn_lock.specs.Turns.{Enters, Leaves}
 module _ {F E J : Type 0} where
   -- the root's view after it has taken in another seat, before it looks
   abbrev pub joining : View F E J → View F E J → View F E J
-  joining v u = record v { seen = longer v.seen u.seen; others = without u.number v.others; told = shorter v.seen u.seen }
+  joining v u =
+      record v { seen = longer v.seen u.seen; others = without u.number v.others; told = shorter v.seen u.seen }
 
 module _ {S F E J : Type 0} where
   -- the look: the shorter history begins the longer one
@@ -20,7 +21,9 @@ module _ {S F E J : Type 0} where
     -- the claim: where the word was 0 the seat has the turn, and the slot with the value
     abbrev pub Claims : Step (Option S) → Me (Option S) (View F E J) → ℕ → Me (Option S) (View F E J) → Type 0
     Claims step m found n =
-        (found ≡ 0 → (value : S) × (n.1 ≡ (0, Some value) ∷ m.1) × ((start : F) → m.0.fixed ≡ Some start → Enters fixed entries jobs start m.0 value n.0))
+        (found ≡ 0 →
+        (value : S) × (n.1 ≡ (0, Some value) ∷ m.1)
+        × ((start : F) → m.0.fixed ≡ Some start → Enters fixed entries jobs start m.0 value n.0))
         × (found ≢ 0 → n ≡ m)
 
   module _ (entries : S → List E) (jobs : S → List J) where

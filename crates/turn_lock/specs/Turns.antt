@@ -12,7 +12,18 @@ module _ {F E J : Type 0} where
 
   -- and the view of the new seat
   abbrev pub split_off : View F E J → View F E J
-  split_off v = record { fixed = v.fixed; number = v.made; seen = v.seen; jobs = []; holds = false; rest = []; others = []; made = 0; told = [] }
+  split_off v =
+      record {
+        fixed = v.fixed;
+        number = v.made;
+        seen = v.seen;
+        jobs = [];
+        holds = false;
+        rest = [];
+        others = [];
+        made = 0;
+        told = [];
+      }
 
   -- the root has taken in the seat with the view u, and has then seen all that both had
   pub record Joins (v u w : View F E J) : Type 0 where

@@ -6,11 +6,33 @@ use Rattle.turn_lock.specs.declared.view.View.{View}
 module _ {F E J : Type 0} where
   -- the view of the first seat, at a value with this fixed part and these entries
   abbrev pub root_view : F → List E → View F E J
-  root_view start seen = record { fixed = Some start; number = 0; seen = seen; jobs = []; holds = false; rest = []; others = []; made = 1; told = [] }
+  root_view start seen =
+      record {
+        fixed = Some start;
+        number = 0;
+        seen = seen;
+        jobs = [];
+        holds = false;
+        rest = [];
+        others = [];
+        made = 1;
+        told = [];
+      }
 
   -- the view that a join leaves to the seat that it takes in
   abbrev pub spent : View F E J
-  spent = record { fixed = None; number = 0; seen = []; jobs = []; holds = false; rest = []; others = []; made = 0; told = [] }
+  spent =
+      record {
+        fixed = None;
+        number = 0;
+        seen = [];
+        jobs = [];
+        holds = false;
+        rest = [];
+        others = [];
+        made = 0;
+        told = [];
+      }
 
   abbrev pub is_live : View F E J → Bool
   is_live v = is_some v.fixed

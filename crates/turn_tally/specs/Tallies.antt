@@ -21,7 +21,9 @@ StandFrom seen places from = (k : ℕ) → k < length places → slice_get seen 
 
 -- the seat that had the view v is ready again, and has seen no less
 abbrev pub IsBack : Turnstile Tally ℕ ℕ ℕ → View ℕ ℕ ℕ → Seat Tally ℕ ℕ ℕ → Type 0
-IsBack turnstile v seat = IsReady turnstile seat × SameSeat v (view seat) × IsPrefix v.seen (view seat).seen × IsPermutation (view seat).jobs v.jobs
+IsBack turnstile v seat =
+    IsReady turnstile seat × SameSeat v (view seat) × IsPrefix v.seen (view seat).seen
+    × IsPermutation (view seat).jobs v.jobs
 
 -- it is ready, and has no ticket
 abbrev pub IsIdle : Turnstile Tally ℕ ℕ ℕ → Seat Tally ℕ ℕ ℕ → Type 0
@@ -33,4 +35,6 @@ IsDone turnstile v seat = IsIdle turnstile seat × SameSeat v (view seat)
 
 -- the root that had the view v is idle again, with the same others, and has seen no less
 abbrev pub IsRootAgain : Turnstile Tally ℕ ℕ ℕ → View ℕ ℕ ℕ → Seat Tally ℕ ℕ ℕ → Type 0
-IsRootAgain turnstile v seat = IsIdle turnstile seat × ((view seat).number ≡ 0) × ((view seat).others ≡ v.others) × IsPrefix v.seen (view seat).seen
+IsRootAgain turnstile v seat =
+    IsIdle turnstile seat × ((view seat).number ≡ 0) × ((view seat).others ≡ v.others)
+    × IsPrefix v.seen (view seat).seen

@@ -12,7 +12,8 @@ use std::sync::Wait;
 use std::thread::{Threads, join_mut};
 use turn_lock::{Seat, Turnstile};
 
-/// Two threads add a number each. The tally comes back, and with the places, if there was memory for all, at which the numbers stand.
+/// Two threads add a number each. The tally comes back, and with the places, if there was memory for all, at which the
+/// numbers stand.
 pub fn add_both<R: Threads + Wait + Sync>(
     rt: &R,
     alloc: Global,

@@ -55,7 +55,9 @@ impl Tally {
     /// Adds a number, and tells its place.
     pub fn add(&mut self, entry: u64) -> Result<usize, NoMemory>
         ensures others { (self.new.name ≡ self.old.name) × (self.new.out.items ≡ self.old.out.items) }
-        ensures added { IfOk result (λ place. (self.new.entries.items ≡ self.old.entries.items ++ entry ∷ []) × (place ≡ vec_len self.old.entries)) }
+        ensures added { IfOk result
+            (λ place. (self.new.entries.items ≡ self.old.entries.items ++ entry ∷ [])
+            × (place ≡ vec_len self.old.entries)) }
         ensures err { OnErr result (self.new.entries.items ≡ self.old.entries.items) }
         ensures begins { IsPrefix self.old.entries.items self.new.entries.items }
     {

@@ -19,7 +19,8 @@ pub fn add_turn<R: Wait>(
     requires { IsReady turnstile.now seat.old }
     ensures seat { IsReady turnstile.now seat.new × SameSeat (view seat.old) (view seat.new) }
     ensures begins { IsPrefix (view seat.old).seen (view seat.new).seen }
-    ensures added { IfOk result (λ place. (slice_get (view seat.new).seen place ≡ Some entry) × (place + 1 ≡ length (view seat.new).seen)) }
+    ensures added { IfOk result
+        (λ place. (slice_get (view seat.new).seen place ≡ Some entry) × (place + 1 ≡ length (view seat.new).seen)) }
     ensures jobs { IsPermutation (view seat.new).jobs (view seat.old).jobs }
 {
     let mut held = turnstile.enter(rt, seat);
@@ -38,7 +39,9 @@ pub fn lend_turn<R: Wait>(
     requires { IsReady turnstile.now seat.old }
     ensures seat { IsReady turnstile.now seat.new × SameSeat (view seat.old) (view seat.new) }
     ensures begins { IsPrefix (view seat.old).seen (view seat.new).seen }
-    ensures lent { IfOk result (λ done. MatchBool done (IsPermutation (view seat.new).jobs (ticket ∷ (view seat.old).jobs)) (IsPermutation (view seat.new).jobs (view seat.old).jobs)) }
+    ensures lent { IfOk result
+        (λ done. MatchBool done (IsPermutation (view seat.new).jobs (ticket ∷ (view seat.old).jobs))
+        (IsPermutation (view seat.new).jobs (view seat.old).jobs)) }
     ensures err { OnErr result (IsPermutation (view seat.new).jobs (view seat.old).jobs) }
 {
     let mut held = turnstile.enter(rt, seat);
@@ -78,7 +81,8 @@ pub fn add_all<R: Wait>(
     requires range { from + count < 2 ^ 64 }
     ensures seat { IsReady turnstile.now seat.new × SameSeat (view seat.old) (view seat.new) }
     ensures begins { IsPrefix (view seat.old).seen (view seat.new).seen }
-    ensures added { IfOk result (λ places. (vec_len places ≡ count) × StandFrom (view seat.new).seen places.items from) }
+    ensures added { IfOk result
+        (λ places. (vec_len places ≡ count) × StandFrom (view seat.new).seen places.items from) }
     ensures jobs { IsPermutation (view seat.new).jobs (view seat.old).jobs }
 {
     let mut places = Vec::new(alloc);

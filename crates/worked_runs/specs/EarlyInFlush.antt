@@ -18,7 +18,9 @@ early_in_flush_script = record {
   early = true;
   faults = [];
   picks = 0 ∷ 0 ∷ 0 ∷ 0 ∷ 1 ∷ 1 ∷ 2 ∷ 3 ∷ [];
-  commands = Configure ((output Raw16 160 120) ∷ []) ∷ Once (item (shot 0 100 10000000 100) 1 (0 ∷ 0 ∷ 0 ∷ 0 ∷ 0 ∷ 0 ∷ 0 ∷ 0 ∷ [])) ∷ Flush ∷ Close ∷ [];
+  commands =
+      Configure ((output Raw16 160 120) ∷ [])
+      ∷ Once (item (shot 0 100 10000000 100) 1 (0 ∷ 0 ∷ 0 ∷ 0 ∷ 0 ∷ 0 ∷ 0 ∷ 0 ∷ [])) ∷ Flush ∷ Close ∷ [];
 }
 
 abbrev pub early_in_flush_trace : List Entry

@@ -19,7 +19,9 @@ early_return_script = record {
   early = true;
   faults = [];
   picks = 0 ∷ 0 ∷ 0 ∷ 0 ∷ 0 ∷ 0 ∷ 0 ∷ 1 ∷ 2 ∷ [];
-  commands = Configure ((output Raw16 160 120) ∷ []) ∷ Once (item (shot 0 100 10000000 100) 1 (0 ∷ 0 ∷ 0 ∷ 0 ∷ 0 ∷ 0 ∷ 0 ∷ 0 ∷ [])) ∷ Close ∷ [];
+  commands =
+      Configure ((output Raw16 160 120) ∷ [])
+      ∷ Once (item (shot 0 100 10000000 100) 1 (0 ∷ 0 ∷ 0 ∷ 0 ∷ 0 ∷ 0 ∷ 0 ∷ 0 ∷ [])) ∷ Close ∷ [];
 }
 
 abbrev pub early_return_trace : List Entry

@@ -1,4 +1,5 @@
--- A flush gives a buffer back with the fence that nobody waited for. The worked row `failed_buffer_keeps_its_fence` of tests/rows.
+-- A flush gives a buffer back with the fence that nobody waited for. The worked row `failed_buffer_keeps_its_fence` of
+-- tests/rows.
 use Rattle.std.specs.Prelude.{true, false, List, [], ◌∷◌, Some, None}
 use Rattle.cam_types.specs.Worked.{shot}
 use Rattle.cam_types.specs.declared.part.Part.TheVariants.{Look, Light, Time}

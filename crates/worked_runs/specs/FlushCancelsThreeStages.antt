@@ -1,4 +1,5 @@
--- A flush finds a frame in progress, one that has done nothing, and two in the queue. The worked row `flush_cancels_three_stages` of tests/rows.
+-- A flush finds a frame in progress, one that has done nothing, and two in the queue. The worked row
+-- `flush_cancels_three_stages` of tests/rows.
 use Rattle.std.specs.Prelude.{true, false, List, [], ◌∷◌, None}
 use Rattle.cam_types.specs.Worked.{shot}
 use Rattle.cam_types.specs.declared.part.Part.TheVariants.{Look}
@@ -20,7 +21,11 @@ flush_cancels_three_stages_script = record {
   picks = 0 ∷ 0 ∷ 0 ∷ 0 ∷ 0 ∷ 2 ∷ 4 ∷ 1 ∷ [];
   commands =
       Configure ((output Raw16 160 120) ∷ [])
-      ∷ Burst ((item (shot 0 100 10000000 100) 1 (0 ∷ 0 ∷ 0 ∷ 0 ∷ 0 ∷ 0 ∷ 0 ∷ 0 ∷ [])) ∷ (item (shot 0 100 10000000 100) 1 (0 ∷ 0 ∷ 0 ∷ 0 ∷ 0 ∷ 0 ∷ 0 ∷ 0 ∷ [])) ∷ (item (shot 0 100 10000000 100) 1 (0 ∷ 0 ∷ 0 ∷ 0 ∷ 0 ∷ 0 ∷ 0 ∷ 0 ∷ [])) ∷ (item (shot 0 100 10000000 100) 1 (0 ∷ 0 ∷ 0 ∷ 0 ∷ 0 ∷ 0 ∷ 0 ∷ 0 ∷ [])) ∷ [])
+      ∷ Burst
+      ((item (shot 0 100 10000000 100) 1 (0 ∷ 0 ∷ 0 ∷ 0 ∷ 0 ∷ 0 ∷ 0 ∷ 0 ∷ []))
+      ∷ (item (shot 0 100 10000000 100) 1 (0 ∷ 0 ∷ 0 ∷ 0 ∷ 0 ∷ 0 ∷ 0 ∷ 0 ∷ []))
+      ∷ (item (shot 0 100 10000000 100) 1 (0 ∷ 0 ∷ 0 ∷ 0 ∷ 0 ∷ 0 ∷ 0 ∷ 0 ∷ []))
+      ∷ (item (shot 0 100 10000000 100) 1 (0 ∷ 0 ∷ 0 ∷ 0 ∷ 0 ∷ 0 ∷ 0 ∷ 0 ∷ [])) ∷ [])
       ∷ Flush
       ∷ Close
       ∷ [];

@@ -16,7 +16,8 @@ job_of fill = record { frame = frame 0; settings = shot 0 100 10000000 100; fill
 abbrev pub fill_of_buffer : FillTarget
 fill_of_buffer = record { stream = stream 0; buffer = buffer 0; spec = output Raw16 160 120 }
 
--- the sixth move is the shutter, the seventh ends the sensor's work, the eleventh takes the buffer, the twelfth ends its fill
+-- the sixth move is the shutter, the seventh ends the sensor's work, the eleventh takes the buffer, the twelfth ends
+-- its fill
 pub record JobsOfOneFrame : Type 0 where
   pub sensor_out : IsJobOut one_frame_script (play one_frame_script 6 []) (job_of None)
   pub sensor_done : ¬ IsJobOut one_frame_script (play one_frame_script 7 []) (job_of None)

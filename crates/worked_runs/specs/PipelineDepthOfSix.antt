@@ -1,4 +1,5 @@
--- Eight requests for two streams, of which six frames may be open. The worked row `pipeline_depth_of_six` of tests/rows.
+-- Eight requests for two streams, of which six frames may be open. The worked row `pipeline_depth_of_six` of
+-- tests/rows.
 use Rattle.std.specs.Prelude.{true, false, List, [], ◌∷◌, None}
 use Rattle.cam_types.specs.Worked.{shot}
 use Rattle.cam_types.specs.declared.part.Part.TheVariants.{Look, Light, Time}
@@ -21,7 +22,15 @@ pipeline_depth_of_six_script = record {
   picks = [];
   commands =
       Configure ((output Yuv 80 60) ∷ (output Yuv 40 30) ∷ [])
-      ∷ Burst ((item (shot 0 100 10000000 100) 1 (0 ∷ 0 ∷ 0 ∷ 0 ∷ 0 ∷ 0 ∷ 0 ∷ 0 ∷ [])) ∷ (item (shot 0 100 10000000 100) 1 (1 ∷ 0 ∷ 0 ∷ 0 ∷ 0 ∷ 0 ∷ 0 ∷ 0 ∷ [])) ∷ (item (shot 0 100 10000000 100) 1 (0 ∷ 0 ∷ 0 ∷ 0 ∷ 0 ∷ 0 ∷ 0 ∷ 0 ∷ [])) ∷ (item (shot 0 100 10000000 100) 1 (1 ∷ 0 ∷ 0 ∷ 0 ∷ 0 ∷ 0 ∷ 0 ∷ 0 ∷ [])) ∷ (item (shot 0 100 10000000 100) 1 (0 ∷ 0 ∷ 0 ∷ 0 ∷ 0 ∷ 0 ∷ 0 ∷ 0 ∷ [])) ∷ (item (shot 0 100 10000000 100) 1 (1 ∷ 0 ∷ 0 ∷ 0 ∷ 0 ∷ 0 ∷ 0 ∷ 0 ∷ [])) ∷ (item (shot 0 100 10000000 100) 1 (0 ∷ 0 ∷ 0 ∷ 0 ∷ 0 ∷ 0 ∷ 0 ∷ 0 ∷ [])) ∷ (item (shot 0 100 10000000 100) 1 (1 ∷ 0 ∷ 0 ∷ 0 ∷ 0 ∷ 0 ∷ 0 ∷ 0 ∷ [])) ∷ [])
+      ∷ Burst
+      ((item (shot 0 100 10000000 100) 1 (0 ∷ 0 ∷ 0 ∷ 0 ∷ 0 ∷ 0 ∷ 0 ∷ 0 ∷ []))
+      ∷ (item (shot 0 100 10000000 100) 1 (1 ∷ 0 ∷ 0 ∷ 0 ∷ 0 ∷ 0 ∷ 0 ∷ 0 ∷ []))
+      ∷ (item (shot 0 100 10000000 100) 1 (0 ∷ 0 ∷ 0 ∷ 0 ∷ 0 ∷ 0 ∷ 0 ∷ 0 ∷ []))
+      ∷ (item (shot 0 100 10000000 100) 1 (1 ∷ 0 ∷ 0 ∷ 0 ∷ 0 ∷ 0 ∷ 0 ∷ 0 ∷ []))
+      ∷ (item (shot 0 100 10000000 100) 1 (0 ∷ 0 ∷ 0 ∷ 0 ∷ 0 ∷ 0 ∷ 0 ∷ 0 ∷ []))
+      ∷ (item (shot 0 100 10000000 100) 1 (1 ∷ 0 ∷ 0 ∷ 0 ∷ 0 ∷ 0 ∷ 0 ∷ 0 ∷ []))
+      ∷ (item (shot 0 100 10000000 100) 1 (0 ∷ 0 ∷ 0 ∷ 0 ∷ 0 ∷ 0 ∷ 0 ∷ 0 ∷ []))
+      ∷ (item (shot 0 100 10000000 100) 1 (1 ∷ 0 ∷ 0 ∷ 0 ∷ 0 ∷ 0 ∷ 0 ∷ 0 ∷ [])) ∷ [])
       ∷ Close
       ∷ [];
 }

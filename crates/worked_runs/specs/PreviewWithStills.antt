@@ -23,7 +23,10 @@ preview_with_stills_script = record {
       Configure ((output Yuv 80 60) ∷ (output Raw16 160 120) ∷ (output Yuv 160 120) ∷ [])
       ∷ Repeat ((item preview 1 (0 ∷ 0 ∷ 0 ∷ 0 ∷ 0 ∷ 0 ∷ 0 ∷ 0 ∷ [])) ∷ [])
       ∷ Await 5
-      ∷ Burst ((item (shot 1 200 50000000 100) 2 (1 ∷ 2 ∷ 0 ∷ 0 ∷ 0 ∷ 0 ∷ 0 ∷ 0 ∷ [])) ∷ (item (shot 1 200 50000000 100) 2 (1 ∷ 2 ∷ 0 ∷ 0 ∷ 0 ∷ 0 ∷ 0 ∷ 0 ∷ [])) ∷ (item (shot 1 200 50000000 100) 2 (1 ∷ 2 ∷ 0 ∷ 0 ∷ 0 ∷ 0 ∷ 0 ∷ 0 ∷ [])) ∷ [])
+      ∷ Burst
+      ((item (shot 1 200 50000000 100) 2 (1 ∷ 2 ∷ 0 ∷ 0 ∷ 0 ∷ 0 ∷ 0 ∷ 0 ∷ []))
+      ∷ (item (shot 1 200 50000000 100) 2 (1 ∷ 2 ∷ 0 ∷ 0 ∷ 0 ∷ 0 ∷ 0 ∷ 0 ∷ []))
+      ∷ (item (shot 1 200 50000000 100) 2 (1 ∷ 2 ∷ 0 ∷ 0 ∷ 0 ∷ 0 ∷ 0 ∷ 0 ∷ [])) ∷ [])
       ∷ Stop
       ∷ Wait
       ∷ Close

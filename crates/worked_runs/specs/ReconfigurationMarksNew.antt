@@ -1,4 +1,5 @@
--- A second configuration: fresh buffers, and the first frame is marked new. The worked row `reconfiguration_marks_new` of tests/rows.
+-- A second configuration: fresh buffers, and the first frame is marked new. The worked row `reconfiguration_marks_new`
+-- of tests/rows.
 use Rattle.std.specs.Prelude.{true, false, List, [], ◌∷◌, None}
 use Rattle.cam_types.specs.Worked.{shot}
 use Rattle.cam_types.specs.declared.part.Part.TheVariants.{Look, Light, Time}

@@ -21,7 +21,8 @@ refusals_of_configurations_script = record {
   commands =
       Configure ((output Yuv 40 30) ∷ [])
       ∷ Configure ([])
-      ∷ Configure ((output Yuv 40 30) ∷ (output Yuv 40 30) ∷ (output Yuv 40 30) ∷ (output Yuv 40 30) ∷ (output Yuv 40 30) ∷ [])
+      ∷ Configure
+      ((output Yuv 40 30) ∷ (output Yuv 40 30) ∷ (output Yuv 40 30) ∷ (output Yuv 40 30) ∷ (output Yuv 40 30) ∷ [])
       ∷ Configure ((input Yuv 160 120) ∷ (output Raw16 160 120) ∷ [])
       ∷ Configure ((output (Other 33) 160 120) ∷ [])
       ∷ Configure ((output Raw16 160 120) ∷ (output Yuv 81 60) ∷ [])

@@ -1,4 +1,5 @@
--- A capture that lacks its last metadata and one of two buffers. The worked row `result_and_buffer_fault_after_two_partials` of tests/rows.
+-- A capture that lacks its last metadata and one of two buffers. The worked row
+-- `result_and_buffer_fault_after_two_partials` of tests/rows.
 use Rattle.std.specs.Prelude.{false, List, [], ◌∷◌, None}
 use Rattle.cam_types.specs.Worked.{shot}
 use Rattle.cam_types.specs.declared.part.Part.TheVariants.{Look, Light}

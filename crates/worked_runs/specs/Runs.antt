@@ -12,7 +12,9 @@ use Rattle.run_model.specs.Played.{chosen, move_at}
 
 -- nothing is left to do: the five parts of a complete run
 abbrev pub is_finished : Script → List Entry → Bool
-is_finished script past = is_all_called script past && (is_quiet past && (is_queue_empty script past && (all_in_pool past && is_all_signalled past)))
+is_finished script past =
+    is_all_called script past
+    && (is_quiet past && (is_queue_empty script past && (all_in_pool past && is_all_signalled past)))
 
 abbrev pub with_move : Option Move → List Move → List Move
 with_move (Some m) h = m ∷ h
@@ -21,7 +23,12 @@ with_move None h = h
 -- the history after so many moves at most: each is the one that the pick chooses, until nothing is left to do
 abbrev pub play : Script → ℕ → List Move → List Move
 play script zero h = h
-play script (suc moves) h = elim (is_finished script (trace_of h)) [ true ↦ h | false ↦ play script moves (with_move (move_at script h (chosen script h)) h) ]
+play script (suc moves) h =
+    elim
+    (is_finished script (trace_of h)) [
+      | true ↦ h
+      | false ↦ play script moves (with_move (move_at script h (chosen script h)) h)
+    ]
 
 -- the trace, its oldest entry first, is the one that the script plays to, and is complete
 pub record Plays (script : Script) (trace : List Entry) : Type 0 where

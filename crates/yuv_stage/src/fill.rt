@@ -68,7 +68,8 @@ pub fn fill_yuv(readout: &Readout, width: u32, height: u32, out: &mut PixelBuf) 
     requires values { All (λ v. (64 ≤ v) × (v ≤ 1023)) readout.now }
     requires size { IsTrue (is_yuv_size width height) }
     requires room { length out.old.bytes ≡ width * height * 3 / 2 }
-    ensures picture { out.new ≡ record { id = out.old.id; bytes = yuv_picture width height readout.now; block = out.old.block } }
+    ensures picture { out.new ≡
+        record { id = out.old.id; bytes = yuv_picture width height readout.now; block = out.old.block } }
     ensures len { length out.new.bytes ≡ width * height * 3 / 2 }
     ensures digest { result ≡ sha256 (yuv_picture width height readout.now) }
 {

@@ -8,5 +8,6 @@ use cam_types::Format;
 
 /// The picture of a YUV stream is the YUV picture of the frame's readout, of the stream's size.
 pub fn a_yuv_stream_has_yuv_pictures()
-    ensures { (spec : SomeSpec) (s : SomeSettings) (n : ℕ) → spec.format ≡ Format.Yuv → picture spec s n ≡ yuv_picture spec.width spec.height (readout s n) }
+    ensures { (spec : SomeSpec) (s : SomeSettings) (n : ℕ) → spec.format ≡ Format.Yuv →
+        picture spec s n ≡ yuv_picture spec.width spec.height (readout s n) }
 {}

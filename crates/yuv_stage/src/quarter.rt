@@ -24,7 +24,8 @@ fn pick_cells(values: &[u16], y: usize, lines: &mut Lines)
     requires green_range { All (λ v. (64 ≤ v) × (v ≤ 1023)) lines.old.green }
     requires blue_range { All (λ v. (64 ≤ v) × (v ≤ 1023)) lines.old.blue }
     ensures red { (k : ℕ) → k < 40 → slice_index lines.new.red k ≡ value_at values.now (k * 4) y }
-    ensures green { (k : ℕ) → k < 40 → slice_index lines.new.green k ≡ (value_at values.now (k * 4 + 1) y + value_at values.now (k * 4) (y + 1)) / 2 }
+    ensures green { (k : ℕ) → k < 40 →
+        slice_index lines.new.green k ≡ (value_at values.now (k * 4 + 1) y + value_at values.now (k * 4) (y + 1)) / 2 }
     ensures blue { (k : ℕ) → k < 40 → slice_index lines.new.blue k ≡ value_at values.now (k * 4 + 1) (y + 1) }
     ensures red_range { All (λ v. (64 ≤ v) × (v ≤ 1023)) lines.new.red }
     ensures green_range { All (λ v. (64 ≤ v) × (v ≤ 1023)) lines.new.green }
@@ -44,7 +45,10 @@ fn write_luma(lines: &Lines, row: &mut [u8])
     requires green_range { All (λ v. (64 ≤ v) × (v ≤ 1023)) lines.now.green }
     requires blue_range { All (λ v. (64 ≤ v) × (v ≤ 1023)) lines.now.blue }
     requires room { length row.old ≡ 40 }
-    ensures { (k : ℕ) → k < 40 → slice_index row.new k ≡ luma (scaled (slice_index lines.now.red k)) (scaled (slice_index lines.now.green k)) (scaled (slice_index lines.now.blue k)) }
+    ensures { (k : ℕ) → k < 40 →
+        slice_index row.new k ≡
+        luma (scaled (slice_index lines.now.red k)) (scaled (slice_index lines.now.green k))
+        (scaled (slice_index lines.now.blue k)) }
 {
     for i in 0..40 {
         row[i] = luma_of(Cell {
@@ -62,8 +66,14 @@ fn write_differences(lines: &Lines, blue: &mut [u8], red: &mut [u8])
     requires blue_range { All (λ v. (64 ≤ v) × (v ≤ 1023)) lines.now.blue }
     requires blue_room { length blue.old ≡ 40 }
     requires red_room { length red.old ≡ 40 }
-    ensures blue { (k : ℕ) → k < 40 → slice_index blue.new k ≡ chroma_blue (scaled (slice_index lines.now.red k)) (scaled (slice_index lines.now.green k)) (scaled (slice_index lines.now.blue k)) }
-    ensures red { (k : ℕ) → k < 40 → slice_index red.new k ≡ chroma_red (scaled (slice_index lines.now.red k)) (scaled (slice_index lines.now.green k)) (scaled (slice_index lines.now.blue k)) }
+    ensures blue { (k : ℕ) → k < 40 →
+        slice_index blue.new k ≡
+        chroma_blue (scaled (slice_index lines.now.red k)) (scaled (slice_index lines.now.green k))
+        (scaled (slice_index lines.now.blue k)) }
+    ensures red { (k : ℕ) → k < 40 →
+        slice_index red.new k ≡
+        chroma_red (scaled (slice_index lines.now.red k)) (scaled (slice_index lines.now.green k))
+        (scaled (slice_index lines.now.blue k)) }
 {
     for i in 0..40 {
         let (blue_difference, red_difference) = chroma_of(Cell {
@@ -159,7 +169,8 @@ fn write_row_pair(
     requires room { length luma_rows.old ≡ 80 }
     requires blue_room { length blue.old ≡ 20 }
     requires red_room { length red.old ≡ 20 }
-    ensures luma { (k : ℕ) → k < 80 → slice_index luma_rows.new k ≡ at_cell luma values.now (k % 40 * 4) (k / 40 * 4 + y) }
+    ensures luma { (k : ℕ) → k < 80 →
+        slice_index luma_rows.new k ≡ at_cell luma values.now (k % 40 * 4) (k / 40 * 4 + y) }
     ensures blue { (k : ℕ) → k < 20 → slice_index blue.new k ≡ at_cell chroma_blue values.now (k * 8) y }
     ensures red { (k : ℕ) → k < 20 → slice_index red.new k ≡ at_cell chroma_red values.now (k * 8) y }
     ensures red_range { All (λ v. (64 ≤ v) × (v ≤ 1023)) lines.new.red }

@@ -43,7 +43,8 @@ pub fn write_chroma<const STEP: usize>(values: &[u16], y: usize, blue: &mut [u8]
     requires least { 2 ≤ STEP }
     requires columns { length blue.old * STEP ≡ 160 }
     requires same { length red.old ≡ length blue.old }
-    ensures blue { (k : ℕ) → k < length blue.new → slice_index blue.new k ≡ at_cell chroma_blue values.now (k * STEP) y }
+    ensures blue { (k : ℕ) → k < length blue.new →
+        slice_index blue.new k ≡ at_cell chroma_blue values.now (k * STEP) y }
     ensures red { (k : ℕ) → k < length red.new → slice_index red.new k ≡ at_cell chroma_red values.now (k * STEP) y }
 {
     for i in 0..blue.len() {

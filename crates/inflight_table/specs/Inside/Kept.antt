@@ -3,8 +3,8 @@ use Rattle.std.specs.List.{list_all}
 use Rattle.inflight_table.specs.declared.row.Row.{Row}
 use Rattle.inflight_table.specs.Rows.{are_in_order, is_sound}
 
--- as many rows as may stand have room, and are at most 16, no more stand, they are in order of frames, and what is parked
--- is in reach
+-- as many rows as may stand have room, and are at most 16, no more stand, they are in order of frames, and what is
+-- parked is in reach
 pub record IsKept {B : Type 0} (rows : List (Row B)) (capacity memory : ℕ) : Type 0 where
   pub few : capacity ≤ 16
   pub room : capacity ≤ memory

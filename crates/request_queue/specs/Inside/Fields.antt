@@ -17,7 +17,8 @@ held waiting cycle repeating place =
     record { queued = waiting.items; repeating = option_map (list_of cycle.items) repeating; place = place }
 
 -- the fields have the room that no call adds to, and hold what a queue may
-pub record IsKept (waiting : Buffer WaitingItem) (cycle : Buffer Item) (repeating : Option RequestId) (place : ℕ) : Type 0 where
+pub record IsKept (waiting : Buffer WaitingItem) (cycle : Buffer Item) (repeating : Option RequestId)
+    (place : ℕ) : Type 0 where
   pub queue_room : waiting.capacity ≡ queue_limit
   pub cycle_room : cycle.capacity ≡ 8
   pub within : IsWithin (held waiting cycle repeating place)

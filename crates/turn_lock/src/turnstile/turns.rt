@@ -16,7 +16,8 @@ impl<S: Kept> Turnstile<S> {
         requires seat { IsSeatOf S.fixed self.now seat.old }
         requires free { (view seat.old).holds ≡ false }
         ensures seat { IsSeatOf S.fixed self.now seat.new }
-        ensures turn { Enters S.fixed S.entries S.jobs (fixed_of S.fixed self.now) (view seat.old) result.value (view seat.new) }
+        ensures turn { Enters S.fixed S.entries S.jobs (fixed_of S.fixed self.now) (view seat.old) result.value
+            (view seat.new) }
     {
         for _ in rt.forever() {
             if self.claim(seat) {
@@ -50,7 +51,8 @@ impl<S: Kept> Turnstile<S> {
         requires free { (view seat.old).holds ≡ false }
         ensures seat { IsOf S.fixed self.now seat.new }
         ensures turn { MatchBool result
-            ((value : S) × Carries seat.new value × Enters S.fixed S.entries S.jobs (fixed_of S.fixed self.now) (view seat.old) value (view seat.new))
+            ((value : S) × Carries seat.new value
+            × Enters S.fixed S.entries S.jobs (fixed_of S.fixed self.now) (view seat.old) value (view seat.new))
             (seat.new.place.me ≡ seat.old.place.me) }
     {
         self.table
@@ -87,9 +89,11 @@ impl<S: Kept> Turnstile<S> {
     fn release(&self, seat: &mut Seat<S>)
         requires seat { IsOf S.fixed self.now seat.old }
         requires turn { (view seat.old).holds ≡ true }
-        requires value { (value : S) × Carries seat.old value × MayLeave S.fixed S.entries S.jobs (fixed_of S.fixed self.now) (view seat.old) value }
+        requires value { (value : S) × Carries seat.old value
+            × MayLeave S.fixed S.entries S.jobs (fixed_of S.fixed self.now) (view seat.old) value }
         ensures seat { IsSeatOf S.fixed self.now seat.new }
-        ensures turn { (value : S) → Carries seat.old value → Leaves S.entries S.jobs (view seat.old) value (view seat.new) }
+        ensures turn { (value : S) → Carries seat.old value →
+            Leaves S.entries S.jobs (view seat.old) value (view seat.new) }
     {
         self.table.shared.store::<Release>(&mut seat.place, 0, 0);
     }
