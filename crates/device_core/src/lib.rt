@@ -11,3 +11,6 @@ mod metadata;
 mod retire;
 
 pub use device::Device;
+
+#[cfg(test)]
+mod tests;

@@ -1,5 +1,5 @@
 //! The queue of captures and the list that repeats.
-ghost use Rattle.std.specs.Prelude.{◌≡◌, ◌↔◌, ◌+◌, ◌<◌, ◌≤◌, [], ◌++◌, length, drop, IfOk, IsErr, IsNone, OnErr, OnOk};
+ghost use Rattle.std.specs.Prelude.{◌≡◌, ◌↔◌, ◌+◌, ◌<◌, ◌≤◌, [], ◌∷◌, ◌++◌, length, drop, is_some, slice_get, IfOk, IsErr, IsNone, OnErr, OnOk};
 ghost use Rattle.circular_buffer.specs.Buffer.{buffer};
 ghost use Rattle.request_queue.specs.Requests.{IsWithin, after_next, first_queued, named, next_item, no_requests, place_after, repeated_at};
 
@@ -10,6 +10,7 @@ use cam_types::{
 use circular_buffer::HeapCircularBuffer;
 use std::alloc::Global;
 use std::marker::Model;
+use std::slice;
 
 /// Which capture comes next: the items that wait, first in, first out, and where none waits the items of the list that
 /// repeats, in a cycle. All its memory is taken by `new`.
@@ -64,6 +65,21 @@ impl Queue {
         Ok(())
     }
 
+    /// Appends the item of a `once`, or nothing where more than 256 items would wait.
+    pub fn push_one(&mut self, request: RequestId, item: Item) -> Result<(), QueueFull>
+        ensures full { IsErr result ↔ (QUEUE_LIMIT < length self.old.queued + 1) }
+        ensures ok { OnOk result
+            (self.new ≡ record self.old { queued = self.old.queued ++ named request 0 (item ∷ []) }) }
+        ensures err { OnErr result (self.new ≡ self.old) }
+    {
+        if self.waiting.len() < QUEUE_LIMIT as usize {
+            append(&mut self.waiting, request, slice::from_ref(&item));
+            Ok(())
+        } else {
+            Err(QueueFull)
+        }
+    }
+
     /// Replaces the list that repeats, and begins with its first item.
     pub fn set_repeat(&mut self, request: RequestId, items: &ItemList)
         requires some { 1 ≤ length items.now }
@@ -82,6 +98,28 @@ impl Queue {
         ensures { self.new ≡ record self.old { repeating = None } }
     {
         self.repeating = None;
+    }
+
+    /// How many items wait.
+    pub fn waiting(&self) -> usize
+        ensures count { result ≡ length self.now.queued }
+        ensures few { result ≤ QUEUE_LIMIT }
+    {
+        self.waiting.len()
+    }
+
+    /// Whether there is a list that repeats.
+    pub fn is_repeating(&self) -> bool
+        ensures { result ≡ is_some self.now.repeating }
+    {
+        self.repeating.is_some()
+    }
+
+    /// The first item that waits, without taking it.
+    pub fn first_waiting(&self) -> Option<WaitingItem>
+        ensures { result ≡ slice_get self.now.queued 0 }
+    {
+        self.waiting.front().copied()
     }
 
     /// What `next` would give.

@@ -207,6 +207,10 @@ fn no_more_than_256_wait(rt: HostRuntime) -> Result<(), Fail> {
     }
     let one_more = queue.push_list(RequestId(8), &items(alloc, 8, 1)?);
     assert_eq!(rt; one_more, Err(QueueFull));
+    assert_eq!(rt; queue.push_one(RequestId(8), item(8, 0)), Err(QueueFull));
+    assert_eq!(rt; queue.waiting(), 256);
+    assert!(rt; queue.first_waiting().is_some() && !queue.is_repeating());
     assert_eq!(rt; queue.next(), Some(given(0, 0, false)));
+    assert_eq!(rt; queue.push_one(RequestId(8), item(8, 0)), Ok(()));
     Ok(())
 }

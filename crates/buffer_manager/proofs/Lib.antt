@@ -1,0 +1,14 @@
+pub mod Lists
+pub mod Turns
+pub mod Spots
+pub mod Moves
+pub mod Pools
+pub mod Pictures
+pub mod Owners
+pub mod Takes
+pub mod Targets
+pub mod Ends
+pub mod Closes
+pub mod Opens
+pub mod Accepted
+pub mod Readings

@@ -1,0 +1,6 @@
+pub mod Managed
+pub mod Slots
+pub mod Kept
+pub mod Streams
+pub mod Taking
+pub mod Closing

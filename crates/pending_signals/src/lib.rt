@@ -1,0 +1,9 @@
+//! The signallers of fences that weren't signalled yet, by the fence's number.
+#![tactic(auto)]
+
+mod pending;
+
+pub use pending::PendingSignals;
+
+#[cfg(test)]
+mod tests;

@@ -1,0 +1,4 @@
+pub mod Lists
+pub mod Unready
+pub mod Candidates
+pub mod ByKind

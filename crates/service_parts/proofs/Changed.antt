@@ -1,0 +1,91 @@
+-- The parts after each move of a run are what the move makes of those before it.
+use Rattle.std.proofs.Common.{◌≡◌, ℕ, ◌+◌, Bool, true, false, List, ◌∷◌, Option, Some, None, refl, sym, ap, ◌∙◌, filter, max, if◌then◌else◌}
+use Rattle.cam_types.specs.Limits.{frame_time}
+use Rattle.cam_types.specs.Rows as view
+use Rattle.cam_types.specs.declared.item.Settings.{Settings}
+use Rattle.cam_types.specs.declared.request.Queued.{Queued}
+use Rattle.cam_types.specs.declared.row.RowView.{RowView}
+use Rattle.cam_types.specs.declared.script.Script.{Script}
+use Rattle.trace_model.specs.declared.entry.Entry.{Entry}
+use Rattle.trace_model.specs.declared.entry.Entry.TheVariants.{Shutter as ShutterEntry}
+use Rattle.trace_model.specs.Open.{is_open}
+use Rattle.trace_model.specs.Shutter.{next_time}
+use Rattle.run_model.specs.declared.step.Move.{Move}
+use Rattle.run_model.specs.declared.step.StepName.{StepName}
+use Rattle.run_model.specs.History.{trace_of}
+use Rattle.run_model.specs.Rows.{row_of, rows}
+use Rattle.run_model.specs.Run.{IsRun}
+use Rattle.bounded_runs.proofs.Legal.{runs_legally}
+use Rattle.buffer_facts.specs.Homes.{Homes}
+use Rattle.client_facts.specs.Clients.{Clients, clients, finishes}
+use Rattle.client_facts.specs.Clients as client
+use Rattle.device_rows.specs.Rows.{row_at}
+use Rattle.queue_facts.specs.Turns.{Turns, next_of, turns}
+use Rattle.queue_facts.proofs.Readings.{next_is}
+use Rattle.row_facts.specs.Rows.{Row, find_row, row}
+use Rattle.row_facts.specs.Rows as frame
+use Rattle.row_facts.proofs.Readings.{finishes_is, found_is}
+use Rattle.state_facts.specs.States.{State, clock_after, repeats_next, settings_next, settings_row}
+use Rattle.state_facts.proofs.Steps.{noted_is}
+use Rattle.run_rows.specs.Changes.{after}
+use Rattle.run_rows.proofs.Frames.{row-found}
+use Rattle.run_rows.proofs.Moved.{changed_is}
+use Rattle.service_parts.specs.After.{client_after, clock_by, ending_frame, ends_by, parts_after, rows_after}
+use Rattle.service_parts.specs.Moves.{settings_at}
+use Rattle.service_parts.specs.Parts.{Parts, kinds, parts}
+use Rattle.service_parts.proofs.Client.{counted}
+use Rattle.service_parts.proofs.Ends.{with_move}
+use Rattle.service_parts.proofs.Accepted.{kinds-noted}
+
+-- ---- the rows
+
+rows-changed : (script : Script) (m : Move) (h : List Move) → IsRun script (m ∷ h) → rows script (m ∷ h) ≡ rows_after (parts script h) m
+rows-changed script m h run =
+    changed_is script m h run
+    ∙ ap (λ (o : Option Queued). filter view.is_open (after (settings_next o) m (rows script h))) (next_is script (trace_of h))
+
+-- ---- the clock
+
+-- both kinds of rows tell the settings of a frame that is open
+settings-same : (script : Script) (h : List Move) (n : ℕ) → settings_row (find_row n (frame.rows script (trace_of h))) ≡ settings_at (row_at n (rows script h))
+settings-same script h n =
+    ap settings_row (found_is script (trace_of h) n)
+    ∙ (by (is_open n (trace_of h)) (row script (trace_of h) n) (row_of script h n) refl ∙ ap settings_at (sym (row-found script h n)))
+  where
+    by : (b : Bool) (r : Row) (v : RowView) → r.settings ≡ v.settings → settings_row (if b then Some r else None) ≡ settings_at (if b then Some v else None)
+    by true r v same = same
+    by false r v same = refl
+
+clock-same : (script : Script) (h : List Move) (e : Entry) (old : ℕ) → clock_after (frame.rows script (trace_of h)) e old ≡ clock_by (rows script h) (Some e) old
+clock-same script h (ShutterEntry n time) old = ap (λ (s : Settings). time + max frame_time s.exposure) (settings-same script h n.0)
+clock-same script h _ old = refl
+
+-- ---- the client
+
+client-changed : (script : Script) (h : List Move) (step : StepName) (e : Entry) → IsRun script (with_move step e h) → clients script (e ∷ trace_of h) ≡ client_after script (repeats_next (next_of (turns script (trace_of h)))) (ends_by (kinds script (trace_of h)) (rows script h) (rows_after (parts script h) (record { step = step; entry = Some e })) (ending_frame step)) (Some e) (clients script (trace_of h))
+client-changed script h step e run =
+    let past = trace_of h in
+    let legal = runs_legally script (with_move step e h) run in
+    let repeats = repeats_next (next_of (turns script past)) in
+    ap (λ (s : State). s.client) (noted_is script past e legal)
+    ∙ (ap (λ b. client.noted script repeats b e (clients script past)) (sym (finishes_is script past e legal))
+    ∙ (counted script h step e run repeats
+    ∙ ap (λ (left : List RowView). client.noted script repeats (ends_by (kinds script past) (rows script h) left (ending_frame step)) e (clients script past)) (rows-changed script (record { step = step; entry = Some e }) h run)))
+
+-- ---- all of it
+
+same-parts : (a b : Clients) (c d : Turns) (k l : List Bool) (x y : Homes) (r s : List RowView) (t u : Option Settings) (i j : ℕ) → a ≡ b → c ≡ d → k ≡ l → x ≡ y → r ≡ s → t ≡ u → i ≡ j → ◌≡◌ {A = Parts} (record { client = a; queue = c; kinds = k; buffers = x; rows = r; last = t; clock = i }) (record { client = b; queue = d; kinds = l; buffers = y; rows = s; last = u; clock = j })
+same-parts a b c d k l x y r s t u i j e1 e2 e3 e4 e5 e6 e7 = rw (e1, e2, e3, e4, e5, e6, e7) refl
+
+changed-by : (script : Script) (h : List Move) (step : StepName) (o : Option Entry) → IsRun script (record { step = step; entry = o } ∷ h) → parts script (record { step = step; entry = o } ∷ h) ≡ parts_after script (record { step = step; entry = o }) (parts script h)
+changed-by script h step None run =
+    same-parts _ _ _ _ _ _ _ _ _ _ _ _ _ _ refl refl refl refl (rows-changed script (record { step = step; entry = None }) h run) refl refl
+changed-by script h step (Some e) run =
+    let past = trace_of h in
+    let legal = runs_legally script (with_move step e h) run in
+    let noted = noted_is script past e legal in
+    same-parts _ _ _ _ _ _ _ _ _ _ _ _ _ _ (client-changed script h step e run) (ap (λ (s : State). s.queue) noted) (kinds-noted script past e legal) (ap (λ (s : State). s.buffers) noted)
+    (rows-changed script (record { step = step; entry = Some e }) h run) (ap (λ (s : State). s.last) noted) (ap (λ (s : State). s.clock) noted ∙ clock-same script h e (next_time script past))
+
+pub changed_parts : (script : Script) (m : Move) (h : List Move) → IsRun script (m ∷ h) → parts script (m ∷ h) ≡ parts_after script m (parts script h)
+changed_parts script m h run = changed-by script h m.step m.entry run

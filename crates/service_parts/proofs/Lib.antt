@@ -1,0 +1,12 @@
+pub mod Sends
+pub mod Lent
+pub mod Pictures
+pub mod Fences
+pub mod Signals
+pub mod Read
+pub mod Accepted
+pub mod Shapes
+pub mod Ends
+pub mod Client
+pub mod Changed
+pub mod Complete
