@@ -1,0 +1,17 @@
+pub mod Ends
+pub mod Runs
+pub mod Fitting
+pub mod Endings
+pub mod Made
+pub mod Signallers
+pub mod Steps
+pub mod FrameSteps
+pub mod Sending
+pub mod Calls
+pub mod Room
+pub mod Shown
+pub mod Outs
+pub mod Told
+pub mod Exposing
+pub mod Rooms
+pub mod Planning

@@ -1,0 +1,47 @@
+use Rattle.std.proofs.Common.{◌≡◌, sym, ap, ◌∙◌}
+use Rattle.capture_queue.specs.Captures.{Captures}
+use Rattle.service_state.proofs.Made.{makes_as, serving_as, shown}
+use Rattle.service_state.proofs.Sending.{drop_numbered}
+use Rattle.service_state.proofs.Steps.{dropped}
+use Rattle.service_state.proofs.state.ServiceState.drop_queued.Goals as goal
+
+pub drop_first-requires-clause-numbered : goal.drop_first-requires-clause-numbered
+drop_first-requires-clause-numbered c =
+    let i = c.self.inside in
+    let s = shown i.script i.client i.captures i.buffers i.fences i.device i.last i.clock in
+    let serving = serving_as s c.args.self.now c.self.view_is c.requires in
+    let at = c.in_ok-first.ensures in
+    let stops = sym c.if-not-is_stopping.ensures in
+    let next : c.next_frame-frame.result.0 ≡ i.captures.turns.numbers = c.next_frame-frame.ensures in
+    let made = dropped s serving c.in_ok-first.first c.next_frame-frame.result stops (sym at) next in
+    drop_numbered s serving c.in_ok-first.first c.next_frame-frame.result next made.ready
+
+pub invariant_of-self : goal.invariant_of-self
+invariant_of-self c =
+    let i = c.self.inside in
+    let v = c.self.invariant in
+    let noted = c.drop_first.ensures i.script c.in_ok-first.first.request c.in_ok-first.first.index c.next_frame-frame.result c.next_frame-frame.ensures in
+    record {
+      faults = v.faults;
+      depth = v.depth;
+      profile = v.profile;
+      requests = ap (λ (q : Captures). q.room) noted ∙ v.requests;
+      fence_room = v.fence_room;
+      signal_room = v.signal_room;
+      early_room = v.early_room;
+      plan = v.plan;
+      specs = v.specs;
+      signallers = v.signallers;
+    }
+
+pub returns : goal.returns
+returns c =
+    let i = c.self.inside in
+    let s = shown i.script i.client i.captures i.buffers i.fences i.device i.last i.clock in
+    let serving = serving_as s c.args.self.now c.self.view_is c.requires in
+    let at = c.in_ok-first.ensures in
+    let stops = sym c.if-not-is_stopping.ensures in
+    let next : c.next_frame-frame.result.0 ≡ i.captures.turns.numbers = c.next_frame-frame.ensures in
+    let made = dropped s serving c.in_ok-first.first c.next_frame-frame.result stops (sym at) next in
+    makes_as s c.args.self.now _ _ c.self.view_is c.requires (λ serving'.
+    rw (c.drop_first.ensures i.script c.in_ok-first.first.request c.in_ok-first.first.index c.next_frame-frame.result next) made)
