@@ -85,3 +85,30 @@ targets-are homes w h =
     let third = ap (option_map four_of) (one-more homes w 2 (3 ∷ [])) ∙ four-before (w 2) (least_target_in homes 2) (least_targets_in homes (filter w (3 ∷ []))) (put_before (target_if (w 3) homes 3) no_four) (there-one homes (w 2) 2 r.0) last in
     let second = ap (option_map four_of) (one-more homes w 1 (2 ∷ (3 ∷ []))) ∙ four-before (w 1) (least_target_in homes 1) (least_targets_in homes (filter w (2 ∷ (3 ∷ [])))) (put_before (target_if (w 2) homes 2) (put_before (target_if (w 3) homes 3) no_four)) (there-one homes (w 1) 1 q.0) third in
     ap (option_map four_of) (one-more homes w 0 (1 ∷ (2 ∷ (3 ∷ [])))) ∙ four-before (w 0) (least_target_in homes 0) (least_targets_in homes (filter w (1 ∷ (2 ∷ (3 ∷ []))))) (put_before (target_if (w 1) homes 1) (put_before (target_if (w 2) homes 2) (put_before (target_if (w 3) homes 3) no_four))) (there-one homes (w 0) 0 p.0) second
+
+-- ---- whether there are buffers for all
+
+some-with : (t : Option Sent) (rest : Option (List Sent)) → is_some (with_target t rest) ≡ (is_some t && is_some rest)
+some-with (Some t) (Some ts) = refl
+some-with (Some t) None = refl
+some-with None (Some ts) = refl
+some-with None None = refl
+
+some-more : (homes : Homes) (w : ℕ → Bool) (s : ℕ) (streams : List ℕ) → is_some (least_targets_in homes (filter w (s ∷ streams))) ≡ (has_one homes (w s) s && is_some (least_targets_in homes (filter w streams)))
+some-more homes w s streams = elim (cases_Bool (w s)) [
+  | inl yes' ↦ rw yes' (some-with (least_target_in homes s) (least_targets_in homes (filter w streams)))
+  | inr no' ↦ rw no' refl
+]
+
+and-true : (b : Bool) → (b && true) ≡ b
+and-true true = refl
+and-true false = refl
+
+-- each stream that is asked for has a buffer at home exactly where the item has its targets
+pub targets-some : (homes : Homes) (w : ℕ → Bool) → (has_one homes (w 0) 0 && (has_one homes (w 1) 1 && (has_one homes (w 2) 2 && has_one homes (w 3) 3))) ≡ is_some (least_targets_in homes (filter w (0 ∷ (1 ∷ (2 ∷ (3 ∷ []))))))
+targets-some homes w =
+    let last = some-more homes w 3 [] ∙ and-true (has_one homes (w 3) 3) in
+    let third = some-more homes w 2 (3 ∷ []) in
+    let second = some-more homes w 1 (2 ∷ (3 ∷ [])) in
+    let first = some-more homes w 0 (1 ∷ (2 ∷ (3 ∷ []))) in
+    rw (first, second, third, last) refl

@@ -82,6 +82,20 @@ impl BufferManager {
         })
     }
 
+    /// The number of the configuration's first buffer.
+    pub fn first_buffer(&self) -> u32
+        ensures { result ≡ self.now.first }
+    {
+        self.first
+    }
+
+    /// How many buffers the configuration has.
+    pub fn buffer_count(&self) -> u32
+        ensures { result ≡ length self.now.places }
+    {
+        self.slots.len() as u32
+    }
+
     /// The number of the next configuration's first buffer.
     pub fn next_buffer(&self) -> u32
         ensures { result ≡ self.now.first + length self.now.places }

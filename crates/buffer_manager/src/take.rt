@@ -37,6 +37,13 @@ impl BufferManager {
         Some(self.take_before(asked[0], 0, second))
     }
 
+    /// Whether each stream that the item asks for has a buffer at home, so that `take` takes them.
+    pub fn has_buffers_for(&self, item: &Item) -> bool
+        ensures { result ≡ is_some (least_targets_in (homes_with [] self.now) (targets_in_order item.now)) }
+    {
+        self.has_each([asks(item, 0), asks(item, 1), asks(item, 2), asks(item, 3)])
+    }
+
     /// Whether each stream that is asked for has a buffer at home.
     fn has_each(&self, asked: [bool; 4]) -> bool
         ensures { result ≡ has_each (homes_with [] self.now) asked }

@@ -1,8 +1,8 @@
-//! Filled buffers that come back, and buffers that come back early.
+//! Filled buffers that come back, and buffers that come back early; whether they may.
 
-ghost use Rattle.std.specs.Prelude.{◌≡◌, ◌↔◌, None, Some, IfSome, IsNone, IsSome, IsTrue};
+ghost use Rattle.std.specs.Prelude.{◌≡◌, ◌↔◌, ◌&&◌, None, Some, IfSome, IsNone, IsSome, IsTrue};
 ghost use Rattle.std.specs.Option.{option_map};
-ghost use Rattle.device_rows.specs.Ready.{is_delivery_ready, is_early_ready, may_return};
+ghost use Rattle.device_rows.specs.Ready.{is_delivery_ready, is_early_ready, is_state, may_return, target_passes};
 ghost use Rattle.device_rows.specs.Rows.{delivered, gone_early, row_at, target_in, with_row};
 ghost use Rattle.device_store.specs.Steps.{ShowsAt};
 ghost use Rattle.device_store.specs.Stored.{specs_of};
@@ -14,6 +14,20 @@ use device_rows::{is_sound, is_state, target_at};
 use device_store::Store;
 
 impl Device {
+    /// Whether `deliver` gives the buffer of a target.
+    pub fn may_deliver(&self, frame: FrameNo, stream: StreamIx) -> bool
+        ensures { result ≡ is_delivery_ready self.now.faults self.now.rows frame.0 stream.0 }
+    {
+        self.may_come_from(TargetState::Filled, frame, stream)
+    }
+
+    /// Whether `early` lets the buffer of a target come back.
+    pub fn may_come_early(&self, frame: FrameNo, stream: StreamIx) -> bool
+        ensures { result ≡ is_early_ready self.now.faults self.now.rows frame.0 stream.0 }
+    {
+        self.may_come_from(TargetState::Out, frame, stream)
+    }
+
     /// Gives the filled buffer of a target, with its picture's digest. None exactly where it isn't filled, it or its
     /// frame failed or will, or an earlier frame holds the stream back.
     pub fn deliver(&mut self, frame: FrameNo, stream: StreamIx) -> Option<(PixelBuf, [u8; 32])>
@@ -24,12 +38,7 @@ impl Device {
             self.new ≡ with_rows (with_row frame.0 (delivered stream) self.old.rows) self.old }
         ensures unchanged { IsNone result → self.new ≡ self.old }
     {
-        let row = self.store.view(frame)?;
-        let target = target_at(row, stream)?;
-        if !is_state(target.state, TargetState::Filled) {
-            return None;
-        }
-        if !may_return(&self.store, self.faults.as_slice(), row, target) {
+        if !self.may_deliver(frame, stream) {
             return None;
         }
         Some(self.store.take_filled(frame, stream))
@@ -45,15 +54,26 @@ impl Device {
             self.new ≡ with_rows (with_row frame.0 (gone_early stream) self.old.rows) self.old }
         ensures unchanged { IsNone result → self.new ≡ self.old }
     {
-        let row = self.store.view(frame)?;
-        let target = target_at(row, stream)?;
-        if !is_state(target.state, TargetState::Out) {
-            return None;
-        }
-        if !may_return(&self.store, self.faults.as_slice(), row, target) {
+        if !self.may_come_early(frame, stream) {
             return None;
         }
         Some(self.store.note_early(frame, stream))
+    }
+
+    /// Whether a target is in the state, and its buffer may come back with its picture, or early.
+    fn may_come_from(&self, state: TargetState, frame: FrameNo, stream: StreamIx) -> bool
+        ensures { result ≡ target_passes
+            (λ row target. is_state target.state state && may_return self.now.faults self.now.rows row target)
+            stream.0 (row_at frame.0 self.now.rows) }
+    {
+        let Some(row) = self.store.view(frame) else {
+            return false;
+        };
+        let Some(target) = target_at(row, stream) else {
+            return false;
+        };
+        is_state(target.state, state)
+            && may_return(&self.store, self.faults.as_slice(), row, target)
     }
 }
 

@@ -13,6 +13,13 @@ use error_notify::{ErrorEntry, next_error};
 use flush_path::verdict;
 
 impl Device {
+    /// The error that `fail_next` tells of a frame. None exactly where none is due.
+    pub fn error_due(&self, frame: FrameNo) -> Option<ErrorEntry>
+        ensures { result ≡ next_error self.now.faults self.now.rows frame.0 }
+    {
+        error_at(&self.store, self.faults.as_slice(), frame)
+    }
+
     /// Tells the error that is due at a frame: the device's failure where it shall fail there, else the next that the
     /// frame's verdict names. None exactly where none is due.
     pub fn fail_next(&mut self, frame: FrameNo) -> Option<ErrorEntry>
@@ -20,7 +27,7 @@ impl Device {
         ensures rows { IfSome result (λ error. self.new ≡ with_rows (with_error error self.old.rows) self.old) }
         ensures unchanged { IsNone result → self.new ≡ self.old }
     {
-        let error = error_at(&self.store, self.faults.as_slice(), frame)?;
+        let error = self.error_due(frame)?;
         self.store.note_error(error);
         Some(error)
     }

@@ -1,8 +1,9 @@
-//! A stage takes a buffer.
+//! A stage takes a buffer; whether it may, and whether it has one.
 ghost use Rattle.std.specs.Prelude.{◌≡◌, ◌↔◌, None, Some, IfSome, IsNone, IsSome, IsTrue};
 ghost use Rattle.std.specs.List.{list_all};
 ghost use Rattle.device_rows.specs.Kept.{have_made_fences};
-ghost use Rattle.device_rows.specs.Ready.{is_fill_ready, is_passed, may_fill};
+ghost use Rattle.device_rows.specs.Jobs.{is_fill_out};
+ghost use Rattle.device_rows.specs.Ready.{is_fill_ready, is_passed, may_fill, target_passes};
 ghost use Rattle.device_rows.specs.Rows.{fill_begun, row_at, with_row};
 ghost use Rattle.device_store.specs.Steps.{fill_job_for};
 ghost use Rattle.device_store.specs.Stored.{specs_of};
@@ -16,6 +17,33 @@ use fence_tokens::Fences;
 use fill_jobs::FillJob;
 
 impl Device {
+    /// Whether `take_fill` gives the job of filling a target's buffer.
+    pub fn may_take_fill(&self, frame: FrameNo, stream: StreamIx, fences: &Fences) -> bool
+        ensures { result ≡
+            is_fill_ready self.now.faults (λ f. is_signalled f fences.now) self.now.rows frame.0 stream.0 }
+    {
+        let Some(row) = self.store.view(frame) else {
+            return false;
+        };
+        let Some(target) = target_at(row, stream) else {
+            return false;
+        };
+        may_fill(self.faults.as_slice(), row, target, fences)
+    }
+
+    /// Whether a stage has a target's buffer.
+    pub fn has_fill_job(&self, frame: FrameNo, stream: StreamIx) -> bool
+        ensures { result ≡ target_passes (λ row target. is_fill_out target.state) stream.0 (row_at frame.0 self.now.rows) }
+    {
+        let Some(row) = self.store.view(frame) else {
+            return false;
+        };
+        let Some(target) = target_at(row, stream) else {
+            return false;
+        };
+        matches!(target.state, TargetState::Out | TargetState::ReturnedEarly)
+    }
+
     /// Gives a stage the job of filling a target's buffer, with the frame's readout. None exactly where the buffer
     /// can't be taken: it or its frame failed or will, it doesn't wait, the readout isn't home, or its acquire fence
     /// isn't signalled. The fences of buffers that wait were made by these.
@@ -35,9 +63,7 @@ impl Device {
         ensures unchanged { IsNone result → self.new ≡ self.old }
         ensures fences { fences.new ≡ fences.old }
     {
-        let row = self.store.view(frame)?;
-        let target = target_at(row, stream)?;
-        if !may_fill(self.faults.as_slice(), row, target, fences) {
+        if !self.may_take_fill(frame, stream, fences) {
             return None;
         }
         Some(self.store.begin_fill(frame, stream, fences))

@@ -1,4 +1,4 @@
-//! Buffers go back that came back early before, or that failed.
+//! Buffers go back that came back early before, or that failed; whether they may.
 ghost use Rattle.std.specs.Prelude.{◌≡◌, ◌↔◌, None, Some, IfSome, IsNone, IsSome, IsTrue};
 ghost use Rattle.std.specs.List.{list_all};
 ghost use Rattle.device_rows.specs.Kept.{have_made_fences};
@@ -16,6 +16,32 @@ use device_rows::{is_state, may_return_failed, target_at};
 use fence_tokens::Fences;
 
 impl Device {
+    /// Whether `finish` gives the buffer of a target.
+    pub fn may_finish(&self, frame: FrameNo, stream: StreamIx) -> bool
+        ensures { result ≡ is_finish_ready self.now.rows frame.0 stream.0 }
+    {
+        let Some(row) = self.store.view(frame) else {
+            return false;
+        };
+        let Some(target) = target_at(row, stream) else {
+            return false;
+        };
+        is_state(target.state, TargetState::EarlyFilled)
+    }
+
+    /// Whether `return_failed` gives the buffer of a target back.
+    pub fn may_return_failed(&self, frame: FrameNo, stream: StreamIx) -> bool
+        ensures { result ≡ is_failed_return_ready self.now.rows frame.0 stream.0 }
+    {
+        let Some(row) = self.store.view(frame) else {
+            return false;
+        };
+        let Some(target) = target_at(row, stream) else {
+            return false;
+        };
+        may_return_failed(row, target)
+    }
+
     /// Gives the buffer of a target that came back early and is filled, with its picture's digest. None exactly where
     /// it isn't so.
     pub fn finish(&mut self, frame: FrameNo, stream: StreamIx) -> Option<(PixelBuf, [u8; 32])>
@@ -26,9 +52,7 @@ impl Device {
             self.new ≡ with_rows (with_row frame.0 (delivered stream) self.old.rows) self.old }
         ensures unchanged { IsNone result → self.new ≡ self.old }
     {
-        let row = self.store.view(frame)?;
-        let target = target_at(row, stream)?;
-        if !is_state(target.state, TargetState::EarlyFilled) {
+        if !self.may_finish(frame, stream) {
             return None;
         }
         Some(self.store.take_filled(frame, stream))
@@ -51,9 +75,7 @@ impl Device {
         ensures unchanged { IsNone result → self.new ≡ self.old }
         ensures fences { fences.new ≡ fences.old }
     {
-        let row = self.store.view(frame)?;
-        let target = target_at(row, stream)?;
-        if !may_return_failed(row, target) {
+        if !self.may_return_failed(frame, stream) {
             return None;
         }
         Some(self.store.take_failed(frame, stream, fences))

@@ -12,6 +12,19 @@ use device_store::Store;
 use partial_results::part;
 
 impl Device {
+    /// The metadata result that `partial` gives of a frame. None exactly where it gives none.
+    pub fn part_due(&self, frame: FrameNo) -> Option<(u8, Part)>
+        ensures { result ≡ next_part self.now.faults self.now.rows frame.0 }
+    {
+        let row = self.store.view(frame)?;
+        let time = row.shutter?;
+        if !may_send_part(&self.store, self.faults.as_slice(), row) {
+            return None;
+        }
+        let number = row.parts + 1;
+        Some((number, part(number, row.settings, time)))
+    }
+
     /// Gives the next metadata result of a frame: its number and its part. None exactly where it isn't exposed, its
     /// metadata has ended, it fails whole or will, or the part is the last and it shall lack it or the metadata of an
     /// earlier frame hasn't ended.
@@ -21,14 +34,9 @@ impl Device {
             (λ sent. self.new ≡ with_rows (with_row frame.0 (with_part sent.0) self.old.rows) self.old) }
         ensures unchanged { IsNone result → self.new ≡ self.old }
     {
-        let row = self.store.view(frame)?;
-        let time = row.shutter?;
-        if !may_send_part(&self.store, self.faults.as_slice(), row) {
-            return None;
-        }
-        let number = row.parts + 1;
+        let (number, part) = self.part_due(frame)?;
         self.store.note_part(frame, number);
-        Some((number, part(number, row.settings, time)))
+        Some((number, part))
     }
 }
 

@@ -55,6 +55,15 @@ impl PendingSignals {
         Some(self.signallers.remove(place))
     }
 
+    /// Whether the signaller of a fence stands.
+    pub fn stands(&self, fence: u32) -> bool
+        ensures { result ≡ stands fence self.now.numbers }
+    {
+        self.signallers
+            .iter()
+            .any(|signaller| signaller.number() == fence)
+    }
+
     /// How many signallers stand.
     pub fn len(&self) -> u32
         ensures value { result ≡ length self.now.numbers }

@@ -21,6 +21,7 @@ fn signallers_are_taken_by_number(rt: HostRuntime) -> Result<(), Fail> {
         Some(signaller) => assert_eq!(rt; fences.signal(signaller), 1),
         None => panic!(rt; "fence 1 has no signaller"),
     }
+    assert_eq!(rt; (pending.stands(0), pending.stands(1)), (true, false));
     match pending.take(1) {
         Some(signaller) => panic!(rt; "fence {} twice", signaller.number()),
         None => {}

@@ -15,3 +15,4 @@ pub mod Told
 pub mod Exposing
 pub mod Rooms
 pub mod Planning
+pub mod Readiness

@@ -99,7 +99,7 @@ impl ServiceState {
     }
 
     /// What replies ask of the other parts.
-    fn around(&self) -> Around
+    pub(crate) fn around(&self) -> Around
         ensures around { IsAround result self.now.parts.queue self.now.parts.buffers }
         ensures quiet { result.quiet ≡ is_no_row self.now.parts.rows }
         ensures next { result.next_buffer ≡ self.now.parts.buffers.first + length self.now.parts.buffers.places }

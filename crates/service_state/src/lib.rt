@@ -6,6 +6,8 @@ mod end_frame;
 mod errors;
 mod fills;
 mod openings;
+mod reading;
+mod ready;
 mod releases;
 mod results;
 mod returns;

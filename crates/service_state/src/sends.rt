@@ -74,7 +74,7 @@ impl ServiceState {
     }
 
     /// Whether the item may be sent, whatever buffers are at home.
-    fn may_go(&self, next: Queued) -> bool
+    pub(crate) fn may_go(&self, next: Queued) -> bool
         ensures { result ≡ may_go_by self.now.script self.now.parts next }
     {
         !self.client.is_stopping()
