@@ -1,5 +1,5 @@
 -- The forms of the command line. (docs/FORMATS.md, words)
-use Rattle.std.specs.Prelude.{ℕ, ◌-◌, ◌^◌, Bool, ◌&&◌, List, [], ◌∷◌, Option, Some, None, codes, nat_eq, if◌then◌else◌}
+use Rattle.std.specs.Prelude.{ℕ, ◌-◌, ◌^◌, Bool, true, ◌&&◌, List, [], ◌∷◌, Option, Some, None, codes, nat_eq, nat_le, if◌then◌else◌}
 use Rattle.std.specs.Borrow.{Bor}
 use Rattle.std.specs.Cmp.Lexicographic.{pointwise}
 use Rattle.text_parts.specs.Numbers.{number_within}
@@ -43,3 +43,8 @@ abbrev pub form_of : List (Bor (List ℕ)) → Option Form
 form_of (word ∷ []) = alone word.now
 form_of (first ∷ second ∷ third ∷ []) = of_three first.now second.now third.now
 form_of _ = None
+
+-- a script is generated of at most 200 commands
+abbrev pub is_few : Form → Bool
+is_few (Gen seed count) = nat_le count 200
+is_few form = true

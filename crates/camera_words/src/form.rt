@@ -1,7 +1,7 @@
 //! The forms of the command line.
 
-ghost use Rattle.std.specs.Prelude.{◌≡◌};
-ghost use Rattle.camera_words.specs.Forms.{alone, form_of, gen_of, of_three, run_of};
+ghost use Rattle.std.specs.Prelude.{◌≡◌, IfSome, IsTrue};
+ghost use Rattle.camera_words.specs.Forms.{alone, form_of, gen_of, is_few, of_three, run_of};
 
 use text_parts::number_within;
 
@@ -24,7 +24,8 @@ pub enum Form {
 
 /// A form of one word.
 fn alone(word: &str) -> Option<Form>
-    ensures { result ≡ alone word.now }
+    ensures form { result ≡ alone word.now }
+    ensures few { IfSome result (λ form. IsTrue (is_few form)) }
 {
     match word {
         "play" => Some(Form::Play),
@@ -37,7 +38,8 @@ fn alone(word: &str) -> Option<Form>
 
 /// A run with so many workers, 1 to 8.
 fn run_of(workers: &str) -> Option<Form>
-    ensures { result ≡ run_of workers.now }
+    ensures form { result ≡ run_of workers.now }
+    ensures few { IfSome result (λ form. IsTrue (is_few form)) }
 {
     let workers = number_within(workers.as_bytes(), 1, WORKER_LIMIT)?;
     Some(Form::Run {
@@ -47,7 +49,8 @@ fn run_of(workers: &str) -> Option<Form>
 
 /// A script made from a seed, with at most 200 commands.
 fn gen_of(seed: &str, count: &str) -> Option<Form>
-    ensures { result ≡ gen_of seed.now count.now }
+    ensures form { result ≡ gen_of seed.now count.now }
+    ensures few { IfSome result (λ form. IsTrue (is_few form)) }
 {
     let seed = number_within(seed.as_bytes(), 0, u64::MAX)?;
     let count = number_within(count.as_bytes(), 0, COUNT_LIMIT)?;
@@ -59,7 +62,8 @@ fn gen_of(seed: &str, count: &str) -> Option<Form>
 
 /// A form of three words.
 fn of_three(first: &str, second: &str, third: &str) -> Option<Form>
-    ensures { result ≡ of_three first.now second.now third.now }
+    ensures form { result ≡ of_three first.now second.now third.now }
+    ensures few { IfSome result (λ form. IsTrue (is_few form)) }
 {
     match (first, second) {
         ("run", "--workers") => run_of(third),
@@ -70,7 +74,8 @@ fn of_three(first: &str, second: &str, third: &str) -> Option<Form>
 
 /// The form that the words have. There are no other spellings of a form, and no abbreviations.
 pub fn form_of(words: &[&str]) -> Option<Form>
-    ensures { result ≡ form_of words.now }
+    ensures form { result ≡ form_of words.now }
+    ensures few { IfSome result (λ form. IsTrue (is_few form)) }
 {
     match words {
         [word] => alone(word),
