@@ -45,7 +45,7 @@ fn answer<S: Source, K: Sink>(
         × WritesNothing (K.state sink.old) (K.state sink.new)) }
     ensures sink_failed { IfOk result (λ status. status.number ≡ 4
         → Rose (K.state sink.old).faults (K.state sink.new).faults) }
-    ensures known { IfOk result (λ status. status.number ≤ 6) }
+    ensures known { IfOk result (λ status. status.number ≤ 5) }
     ensures no_memory { OnErr result (WritesNothing (K.state sink.old) (K.state sink.new)) }
 {
     let mut words = Vec::new(alloc);

@@ -3,5 +3,4 @@ pub mod Answers
 pub mod Says
 pub mod Judging
 pub mod Converting
-pub mod Ends
-pub mod Counting
+pub mod Commands

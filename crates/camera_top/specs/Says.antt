@@ -1,52 +1,53 @@
-use Rattle.std.specs.Prelude.{◌≡◌, ◌==◌, ◌≤◌, ℕ, false, length, List, Option, Some, None, Result, Ok, Err, ◌⊎◌, codes, reverse, if◌then◌else◌}
+use Rattle.std.specs.Prelude.{◌≡◌, ◌==◌, ℕ, List, Option, Some, None, Result, Ok, Err, reverse, if◌then◌else◌}
 use Rattle.io_edge.specs.States.{SinkState, Writes}
 use Rattle.cam_types.specs.declared.profile.Profile.{Profile}
 use Rattle.cam_types.specs.declared.script.Script.{Script}
+use Rattle.generated_scripts.specs.Generated.{generated}
 use Rattle.run_laws.specs.Lawful.{KeepsLaws}
 use Rattle.script_text.specs.Causes.{number_of}
 use Rattle.script_text.specs.Grammar.{script_of}
 use Rattle.script_text.specs.declared.cause.ScriptRefused.{ScriptRefused}
 use Rattle.script_text.specs.declared.cause.ScriptRefused.TheVariants.{Bad, NoMemory}
-use Rattle.run_model.specs.Bounds.{move_bound}
 use Rattle.run_model.specs.History.{trace_of}
+use Rattle.run_model.specs.Played.{IsPlayedRun}
 use Rattle.run_model.specs.declared.step.Move.{Move}
-use Rattle.service_core.specs.First.{IsFirstPlayedRun, IsFirstStuck}
-use Rattle.service_core.specs.RawScripts.{is_raw_script}
+use Rattle.trace_model.specs.Summary.{summary_of}
 use Rattle.trace_text.specs.Spelling.{spelling}
+use Rattle.trace_text.specs.Summary.{summary_line}
 use Rattle.judge_text.specs.Lines.{refused_script_text}
+use Rattle.camera_top.specs.Answers.{Answers}
+use Rattle.camera_top.specs.declared.prepared.Output.{Output}
+use Rattle.camera_top.specs.declared.prepared.Output.TheVariants.{Trace, Summary}
 
--- The status and the whole text that belong to an input: what `play` writes. (docs/FORMATS.md)
+-- The status and the whole text that belong to an input: what `play` and `gen` write. (docs/FORMATS.md)
 
 -- the profile that the first line of a script's trace names: none for a script of version 1
 abbrev pub named_profile : Script → Option Profile
 named_profile script = if script.version == 1 then None else Some script.profile
 
--- the text of the trace of a history
-abbrev pub trace_text : Script → List Move → List ℕ
-trace_text script history = spelling (named_profile script) (reverse (trace_of history))
+-- the text of a history: its whole trace, or the summary of that
+abbrev pub text_in : Output → Script → List Move → List ℕ
+text_in Trace script history = spelling (named_profile script) (reverse (trace_of history))
+text_in Summary script history = summary_line (summary_of (reverse (trace_of history)))
 
--- the text is the trace of the played run of the script, which is complete within the bound on moves
-pub record IsPlayedText (script : Script) (text : List ℕ) : Type 0 where
+-- the text is that of the played run of the script, which is complete
+pub record IsPlayedText (output : Output) (script : Script) (text : List ℕ) : Type 0 where
   pub history : List Move
-  pub run : IsFirstPlayedRun script history
-  pub within : length history ≤ move_bound script
-  pub shown : text ≡ trace_text script history
+  pub run : IsPlayedRun script history
+  pub shown : text ≡ text_in output script history
 
--- the run of the script can't go on, and isn't complete
-pub record IsUnfinishedText (script : Script) (text : List ℕ) : Type 0 where
+-- the whole text of the script's played run is written, or the status is 4 and the sink failed: nothing else is answered
+pub record PlaysAs (output : Output) (script : Script) (status : ℕ) (before after : SinkState) : Type 0 where
   pub history : List Move
-  pub stuck : IsFirstStuck script history
-  pub shown : text ≡ codes "unfinished\n"
+  pub run : IsPlayedRun script history
+  pub answers : Answers 0 (text_in output script history) status before after
 
--- of a script: its trace, the refusal of a script that isn't played yet, or that the run is unfinished
-abbrev pub SaysOfScript : Script → ℕ → List ℕ → Type 0
-SaysOfScript script status text =
-    ((status ≡ 0) × IsPlayedText script text)
-    ⊎ (((status ≡ 1) × (is_raw_script script ≡ false) × (text ≡ refused_script_text 0 39))
-    ⊎ ((status ≡ 6) × IsUnfinishedText script text))
+-- of a script that is played
+abbrev pub SaysOfScript : Output → Script → ℕ → List ℕ → Type 0
+SaysOfScript output script status text = (status ≡ 0) × IsPlayedText output script text
 
 abbrev pub SaysOf : Result Script ScriptRefused → ℕ → List ℕ → Type 0
-SaysOf (Ok script) status text = SaysOfScript script status text
+SaysOf (Ok script) status text = SaysOfScript Trace script status text
 SaysOf (Err (Bad line cause)) status text = (status ≡ 1) × (text ≡ refused_script_text line (number_of cause))
 SaysOf (Err NoMemory) status text = ⊥
 
@@ -54,12 +55,20 @@ SaysOf (Err NoMemory) status text = ⊥
 abbrev pub Says : List ℕ → ℕ → List ℕ → Type 0
 Says input status text = SaysOf (script_of input) status text
 
+-- of a seed and a count: the summary of the script that they generate
+abbrev pub SaysOfSeed : ℕ → ℕ → ℕ → List ℕ → Type 0
+SaysOfSeed seed count status text = SaysOfScript Summary (generated seed count) status text
+
+-- the text of the script's played run was written, which is complete and keeps the laws
+pub record IsWholeRun (output : Output) (script : Script) (before after : SinkState) : Type 0 where
+  pub history : List Move
+  pub run : IsPlayedRun script history
+  pub lawful : KeepsLaws script (trace_of history)
+  pub written : Writes before after (text_in output script history)
+
 -- the headline: the source's bytes spell a script, and what was written is the spelling of the trace of its played run,
 -- which is complete and keeps the laws
 pub record IsWhole (input : List ℕ) (before after : SinkState) : Type 0 where
   pub script : Script
   pub meaning : script_of input ≡ Ok script
-  pub history : List Move
-  pub run : IsFirstPlayedRun script history
-  pub lawful : KeepsLaws script (trace_of history)
-  pub written : Writes before after (trace_text script history)
+  pub played : IsWholeRun Trace script before after

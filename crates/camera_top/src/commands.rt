@@ -1,19 +1,21 @@
 //! What the words ask for.
-ghost use Rattle.std.specs.Prelude.{◌≡◌, ◌≤◌, true, false, IfSome, Option};
+ghost use Rattle.std.specs.Prelude.{◌≡◌, ◌≤◌, ℕ, true, false, IfSome, Option};
 ghost use Rattle.std.specs.Io.KnownBytes.{IsAtEnd};
 ghost use Rattle.io_edge.specs.Faults.{Rose};
 ghost use Rattle.io_edge.specs.States.{Writes, WritesNothing};
-ghost use Rattle.judge_text.specs.Meaning.{Judges};
 ghost use Rattle.camera_words.specs.Forms.{form_of};
-ghost use Rattle.camera_top.specs.Answers.{Answers, Tells, help_text, usage_line};
-ghost use Rattle.camera_top.specs.Converting.{ConvertsInput, IsConverted};
+ghost use Rattle.generated_scripts.specs.Generated.{generated};
+ghost use Rattle.camera_top.specs.Answers.{Answers, help_text, usage_line};
+ghost use Rattle.camera_top.specs.Commands.{TellsOf};
+ghost use Rattle.camera_top.specs.Converting.{IsConverted};
 ghost use Rattle.camera_top.specs.Judging.{IsJudgedLegal};
-ghost use Rattle.camera_top.specs.Says.{IsWhole, Says};
+ghost use Rattle.camera_top.specs.Says.{IsWhole, IsWholeRun};
 ghost use Rattle.camera_top.specs.Words.{is_built, reads};
 
 use crate::convert::convert_call;
 use crate::judge::check_call;
-use crate::player::play_call;
+use crate::player::{gen_call, play_call};
+use crate::prepared::Output;
 use crate::status::{Status, answer};
 use camera_words::{Form, form_of};
 use io_edge::{Sink, Source};
@@ -34,34 +36,20 @@ pub fn camera_main<S: Source, K: Sink>(
     source: &mut S,
     sink: &mut K,
 ) -> Status
-    // Words that are no form, or a form whose command isn't built yet: the usage line.
-    ensures usage { is_built (form_of words.now) ≡ false
-        → Answers 2 usage_line result.number (K.state sink.old) (K.state sink.new) }
+    // The status and the text are those that belong to the form that the words have, and to the input's meaning.
+    ensures tells { TellsOf (form_of words.now) (S.left source.old) result.number (K.state sink.old)
+        (K.state sink.new) }
     ensures usage_only { result.number ≡ 2 → is_built (form_of words.now) ≡ false }
 
-    // `help`: the help text.
-    ensures help { form_of words.now ≡ Option.Some Form.Help
-        → Answers 0 help_text result.number (K.state sink.old) (K.state sink.new) }
-
-    // `play`: as `play_call` says.
-    ensures plays { form_of words.now ≡ Option.Some Form.Play
-        → Tells Says (S.left source.old) result.number (K.state sink.old) (K.state sink.new) }
-
-    // `check`: as `check_call` says.
-    ensures judges { form_of words.now ≡ Option.Some Form.Check
-        → Tells Judges (S.left source.old) result.number (K.state sink.old) (K.state sink.new) }
-
-    // `convert`: as `convert_call` says.
-    ensures converts { form_of words.now ≡ Option.Some Form.Convert
-        → Tells ConvertsInput (S.left source.old) result.number (K.state sink.old) (K.state sink.new) }
-
     // Status 0: the help text; or the source was read to its end, and the whole trace of the script's played run was
-    // written, which is complete; or the trace that was read is a complete legal run of the script that was read; or
-    // the trace that was read was written as one of version 2.
+    // written, which is complete; or the summary of that of the generated script; or the trace that was read is a
+    // complete legal run of the script that was read; or the trace that was read was written as one of version 2.
     ensures help_done { form_of words.now ≡ Option.Some Form.Help → result.number ≡ 0
         → Writes (K.state sink.old) (K.state sink.new) help_text }
     ensures play_done { form_of words.now ≡ Option.Some Form.Play → result.number ≡ 0 → IsAtEnd (S.left source.new)
         × IfSome (S.left source.old) (λ input. IsWhole input (K.state sink.old) (K.state sink.new)) }
+    ensures gen_done { (seed count : ℕ) → form_of words.now ≡ Option.Some (Form.Gen seed count) → result.number ≡ 0
+        → IsWholeRun Output.Summary (generated seed count) (K.state sink.old) (K.state sink.new) }
     ensures check_done { form_of words.now ≡ Option.Some Form.Check → result.number ≡ 0 → IsAtEnd (S.left source.new)
         × IfSome (S.left source.old) (λ input. IsJudgedLegal input (K.state sink.old) (K.state sink.new)) }
     ensures convert_done { form_of words.now ≡ Option.Some Form.Convert → result.number ≡ 0
@@ -75,14 +63,15 @@ pub fn camera_main<S: Source, K: Sink>(
         × WritesNothing (K.state sink.old) (K.state sink.new) }
     ensures sink_failed { result.number ≡ 4 → Rose (K.state sink.old).faults (K.state sink.new).faults }
     ensures no_memory { result.number ≡ 5 → WritesNothing (K.state sink.old) (K.state sink.new) }
-    ensures known { result.number ≤ 6 }
+    ensures known { result.number ≤ 5 }
 {
     match form_of(words) {
         Some(Form::Play) => play_call(alloc, source, sink),
         Some(Form::Check) => check_call(alloc, source, sink),
         Some(Form::Convert) => convert_call(alloc, source, sink),
         Some(Form::Help) => help_call(sink),
-        Some(Form::Run { .. } | Form::Gen { .. }) | None => usage(sink),
+        Some(Form::Gen { seed, count }) => gen_call(alloc, seed, count, sink),
+        Some(Form::Run { .. }) | None => usage(sink),
     }
 }
 

@@ -4,10 +4,9 @@
 mod commands;
 mod convert;
 mod judge;
-mod laws;
 mod player;
+mod prepared;
 mod refusal;
-mod run_to_end;
 mod status;
 #[cfg(test)]
 mod tests;
@@ -15,6 +14,6 @@ mod tests;
 pub use commands::{camera_main, help_call};
 pub use convert::convert_call;
 pub use judge::check_call;
-pub use laws::complete_runs_are_not_stuck;
-pub use player::play_call;
+pub use player::{gen_call, play_call};
+pub use prepared::{Output, Prepared, play_prepared, prepare};
 pub use status::Status;

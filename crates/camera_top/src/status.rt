@@ -6,7 +6,7 @@ ghost use Rattle.camera_top.specs.Answers.{Answers};
 use io_edge::{Sink, write_all};
 
 /// How the program ended: 0 done, 1 the input is refused, 2 the words are no form, 3 the source failed, 4 the sink
-/// failed, 5 there was no memory, 6 a run was left unfinished.
+/// failed, 5 there was no memory.
 #[derive(Clone, Copy, Debug, PartialEq, Eq)]
 pub struct Status {
     pub number: u8,
@@ -24,8 +24,6 @@ impl Status {
     pub const SINK_FAILED: Status = Status { number: 4 };
 
     pub const NO_MEMORY: Status = Status { number: 5 };
-
-    pub const UNFINISHED: Status = Status { number: 6 };
 }
 
 /// Writes the text, and gives the status, or 4 where the sink failed.

@@ -1,6 +1,7 @@
 //! The top call over ends in memory: pieces, faults, full rooms.
 use super::*;
 use io_edge::{MemSink, MemSource};
+use std::alloc::{AllocError, Global};
 use std::test::Fail;
 
 const SCRIPT: &[u8] = b"camera 1\nconfigure raw16:160x120\nonce 0,100,10000000,100@0\n";
@@ -17,7 +18,16 @@ const VERSION: &[u8] = b"refused script 1 32\n";
 
 const NUMBER: &[u8] = b"refused script 3 34\n";
 
-const NOT_BUILT: &[u8] = b"refused script 0 39\n";
+/// What a configure of two streams writes, and one of a deeper profile.
+const TWO_STREAMS: &[u8] =
+    b"trace 1\nbegin configure\ncall 0 configure = ok 0:b0+5 1:b5+6\nbegin close\ncall 1 close = ok\nend\n";
+
+const DEEPER_CONFIGURED: &[u8] =
+    b"trace 2 8 3 7\nbegin configure\ncall 0 configure = ok 0:b0+5\nbegin close\ncall 1 close = ok\nend\n";
+
+/// The summary of the script that a seed generates without commands of its own.
+const NO_COMMANDS: &[u8] =
+    b"commands 2 frames 0 dropped 0 results 0 request-errors 0 result-errors 0 buffers-ok 0 buffers-error 0 entries 4\n";
 
 const TOO_LONG: &[u8] = b"refused script 0 37\n";
 
@@ -284,9 +294,9 @@ const CASES: &[Case] = &[
         room: 9000,
         sink_piece: 64,
         sink_failing: &[],
-        status: 1,
-        text: Text::Line(NOT_BUILT),
-        written: 20,
+        status: 0,
+        text: Text::Line(VERSION_TWO),
+        written: 48,
     },
     Case {
         words: &["play"],
@@ -296,9 +306,9 @@ const CASES: &[Case] = &[
         room: 9000,
         sink_piece: 64,
         sink_failing: &[],
-        status: 1,
-        text: Text::Line(NOT_BUILT),
-        written: 20,
+        status: 0,
+        text: Text::Line(DEEPER_CONFIGURED),
+        written: 93,
     },
     Case {
         words: &["check"],
@@ -560,9 +570,9 @@ const CASES: &[Case] = &[
         room: 9000,
         sink_piece: 64,
         sink_failing: &[],
-        status: 1,
-        text: Text::Line(NOT_BUILT),
-        written: 20,
+        status: 0,
+        text: Text::Line(TWO_STREAMS),
+        written: 94,
     },
     Case {
         words: &["play"],
@@ -572,21 +582,9 @@ const CASES: &[Case] = &[
         room: 9000,
         sink_piece: 64,
         sink_failing: &[],
-        status: 1,
-        text: Text::Line(NOT_BUILT),
-        written: 20,
-    },
-    Case {
-        words: &["play"],
-        input: b"camera 1\nconfigure raw16:160x120\nrepeat preview@0\n",
-        source_piece: 7,
-        source_failing: &[],
-        room: 9000,
-        sink_piece: 64,
-        sink_failing: &[],
-        status: 1,
-        text: Text::Line(NOT_BUILT),
-        written: 20,
+        status: 0,
+        text: Text::Line(NO_FRAME),
+        written: 87,
     },
     Case {
         words: &["play"],
@@ -673,7 +671,7 @@ const CASES: &[Case] = &[
         written: 79,
     },
     Case {
-        words: &["gen", "1", "2"],
+        words: &["gen", "1", "201"],
         input: SCRIPT,
         source_piece: 7,
         source_failing: &[],
@@ -683,6 +681,30 @@ const CASES: &[Case] = &[
         status: 2,
         text: Text::Line(USAGE),
         written: 79,
+    },
+    Case {
+        words: &["gen", "7", "0"],
+        input: SCRIPT,
+        source_piece: 7,
+        source_failing: &[1],
+        room: 9000,
+        sink_piece: 64,
+        sink_failing: &[],
+        status: 0,
+        text: Text::Line(NO_COMMANDS),
+        written: 112,
+    },
+    Case {
+        words: &["gen", "7", "0"],
+        input: SCRIPT,
+        source_piece: 7,
+        source_failing: &[],
+        room: 9000,
+        sink_piece: 50,
+        sink_failing: &[2],
+        status: 4,
+        text: Text::Line(NO_COMMANDS),
+        written: 50,
     },
     Case {
         words: &["play", ""],
@@ -740,4 +762,32 @@ fn a_script_may_have_65_536_bytes(rt: HostRuntime) -> Result<(), Fail> {
     assert_eq!(rt; status.number, 1);
     assert_eq!(rt; sink.bytes(), TOO_LONG);
     Ok(())
+}
+
+/// A sink whose third call fails has taken two whole pieces: the front of what a sink takes that doesn't fail.
+#[test]
+fn a_long_trace_breaks_at_a_piece(rt: HostRuntime) -> Result<(), Fail> {
+    let alloc = rt.alloc();
+    let whole = trace_of_thirty_two(alloc, Vec::new(alloc))?;
+    let broken = trace_of_thirty_two(alloc, vec![in alloc; 3]?)?;
+    assert_eq!(rt; whole.0, 0);
+    assert_eq!(rt; broken.0, 4);
+    let text = whole.1.as_slice();
+    assert_eq!(rt; text.len(), 15_709);
+    assert!(rt; text.len() > 8_192);
+    assert_eq!(rt; broken.1.as_slice(), &text[..8_192]);
+    Ok(())
+}
+
+/// Plays a burst of thirty-two requests, and gives the status and what a sink takes of which these calls fail.
+fn trace_of_thirty_two(alloc: Global, failing: Vec<u32>) -> Result<(u8, Vec<u8>), AllocError> {
+    let mut script = b"camera 1\nconfigure yuv:40x30\nburst".to_vec(alloc)?;
+    for _ in 0..32 {
+        script.extend_from_slice(b" 0,100,10000000,100@0")?;
+    }
+    script.push(b'\n')?;
+    let mut source = MemSource::new(script, 4_096, Vec::new(alloc));
+    let mut sink = MemSink::new(alloc, 20_000, 4_096, failing)?;
+    let status = camera_main(alloc, &["play"], &mut source, &mut sink);
+    Ok((status.number, sink.bytes().to_vec(alloc)?))
 }

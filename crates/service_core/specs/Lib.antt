@@ -1,5 +1,3 @@
-pub mod RawScripts
-pub mod First
-pub mod Fit
-pub mod Due
 pub mod Answers
+pub mod Inside
+pub mod Jobs

@@ -1,147 +1,37 @@
-//! Which scripts are run, a run of two requests, by the steps that are chosen and by each step's name, and what is
-//! refused.
+//! Worked runs, call by call: each adds the entries of the worked trace of its script.
+ghost use Rattle.cam_types.specs.declared.job.JobView.{JobView as SomeJob};
+ghost use Rattle.run_model.specs.Jobs.{IsJobOut};
+
 use super::*;
 use cam_types::{
-    BufferId, Command, CommandList, Fault, FaultList, FenceNo, Format, Four, FrameNo, Item,
-    Listing, Made, NoMemory, Part, Profile, Reply, RequestId, Script, Settings, SpecList, StreamIx,
-    StreamSpec, Targets, Word,
+    BufferId, Command, CommandList, FenceNo, Format, Four, FrameNo, Item, Listing, Made, NoMemory,
+    Part, Profile, Reply, RequestId, Script, Settings, SpecList, StreamIx, StreamSpec, Targets,
+    Word,
 };
-use std::alloc::Global;
+use std::alloc::{AllocError, Global};
+use std::process::Abort;
 use std::test::Fail;
 use trace_model::{Entry, Sent};
 
-/// A command of a script, or what its head or its device has.
-#[derive(Clone, Copy, Debug, PartialEq, Eq)]
-enum Line {
-    Fault,
-    /// Buffers may come back early.
-    Early,
-    /// The second version of scripts.
-    Second,
-    /// The device takes only two RAW16 buffers.
-    TwoBuffers,
-    /// One RAW16 stream.
-    Raw,
-    /// Two RAW16 streams.
-    TwoRaw,
-    /// A request of a level.
-    Once(u32),
-    /// A request for another stream.
-    OnceOf(u8),
-    Repeat,
-    Close,
-}
-
-/// The lines of a script, and whether the service runs it.
-const SCRIPTS: &[(&[Line], bool)] = &[
-    (TWO_REQUESTS, true),
-    (NO_REQUEST, true),
-    (&[Line::Raw, Line::Once(255), Line::Close], true),
-    (&[Line::Raw, Line::Once(256), Line::Close], true),
-    (
-        &[Line::Fault, Line::Raw, Line::Once(100), Line::Close],
-        false,
-    ),
-    (
-        &[Line::Early, Line::Raw, Line::Once(100), Line::Close],
-        false,
-    ),
-    (
-        &[Line::Second, Line::Raw, Line::Once(100), Line::Close],
-        false,
-    ),
-    (
-        &[Line::TwoBuffers, Line::Raw, Line::Once(100), Line::Close],
-        false,
-    ),
-    (&[Line::TwoRaw, Line::Once(100), Line::Close], false),
-    (&[Line::Raw, Line::Repeat, Line::Close], false),
-    (&[Line::Raw, Line::Once(100)], true),
-    (&[Line::Once(100), Line::Close], true),
-    (REFUSALS, true),
-    (&[], true),
-    (&[Line::Raw, Line::Close, Line::Raw, Line::Close], false),
-];
-
-/// Scripts and their traces.
-const RUNS: &[(&[Line], &[Entry])] = &[(TWO_REQUESTS, &TRACE), (REFUSALS, &REFUSED)];
-
-const REFUSALS: &[Line] = &[
-    Line::Once(100),
-    Line::Raw,
-    Line::OnceOf(3),
-    Line::Close,
-    Line::Once(100),
-    Line::Close,
-];
-
-/// The trace of the refusals: before the configure, of an unknown stream, and after the close.
-const REFUSED: [Entry; 9] = [
-    Entry::Call {
-        index: 0,
-        word: Word::Once,
-        reply: Reply::Refused {
-            code: 1,
-            first: None,
-            second: None,
-        },
-    },
-    Entry::Begin {
-        word: Word::Configure,
-    },
-    Entry::Call {
-        index: 1,
-        word: Word::Configure,
-        reply: CONFIGURED,
-    },
-    Entry::Call {
-        index: 2,
-        word: Word::Once,
-        reply: Reply::Refused {
-            code: 6,
-            first: Some(0),
-            second: Some(3),
-        },
-    },
-    Entry::Begin { word: Word::Close },
-    Entry::Call {
-        index: 3,
-        word: Word::Close,
-        reply: Reply::Ok,
-    },
-    Entry::Call {
-        index: 4,
-        word: Word::Once,
-        reply: Reply::Refused {
-            code: 2,
-            first: None,
-            second: None,
-        },
-    },
-    Entry::Begin { word: Word::Close },
-    Entry::Call {
-        index: 5,
-        word: Word::Close,
-        reply: Reply::Refused {
-            code: 2,
-            first: None,
-            second: None,
-        },
-    },
-];
-
-const TWO_REQUESTS: &[Line] = &[Line::Raw, Line::Once(100), Line::Once(100), Line::Close];
-
-const NO_REQUEST: &[Line] = &[Line::Raw, Line::Close];
-
-const LOOK: Part = Part::Look {
-    pattern: 0,
-    level: 100,
+const RAW: StreamSpec = StreamSpec {
+    input: false,
+    format: Format::Raw16,
+    width: 160,
+    height: 120,
 };
 
-const LIGHT: Part = Part::Light {
-    exposure: 10_000_000,
-    iso: 100,
+/// One grey picture of stream 0.
+const ITEM: Item = Item {
+    settings: Settings {
+        pattern: 0,
+        level: 100,
+        exposure: 10_000_000,
+        iso: 100,
+    },
+    targets: Targets {
+        count: 1,
+        list: [0; 8],
+    },
 };
 
 /// The SHA-256 of 19,200 values 464, low byte first.
@@ -149,6 +39,12 @@ const PICTURE: [u8; 32] = [
     0x49, 0x1c, 0x98, 0xe2, 0x3a, 0x1d, 0xc0, 0x43, 0x57, 0xf3, 0x9f, 0xa7, 0x45, 0x73, 0x41, 0xce,
     0x54, 0x6f, 0x88, 0x35, 0x9e, 0xbd, 0xda, 0x8a, 0x69, 0xdd, 0x70, 0xfe, 0xe6, 0xc2, 0x31, 0x4c,
 ];
+
+const FRAME: FrameNo = FrameNo(0);
+
+const SECOND: FrameNo = FrameNo(1);
+
+const STREAM: StreamIx = StreamIx(0);
 
 const CONFIGURED: Reply = Reply::Configured(Four {
     a: Some(Made {
@@ -160,9 +56,9 @@ const CONFIGURED: Reply = Reply::Configured(Four {
     d: None,
 });
 
-const FIRST_TARGET: Four<Sent> = Four {
+const FIRST_BUFFER: Four<Sent> = Four {
     a: Some(Sent {
-        stream: StreamIx(0),
+        stream: STREAM,
         buffer: BufferId(0),
         fence: None,
     }),
@@ -171,9 +67,9 @@ const FIRST_TARGET: Four<Sent> = Four {
     d: None,
 };
 
-const SECOND_TARGET: Four<Sent> = Four {
+const SECOND_BUFFER: Four<Sent> = Four {
     a: Some(Sent {
-        stream: StreamIx(0),
+        stream: STREAM,
         buffer: BufferId(1),
         fence: None,
     }),
@@ -182,8 +78,13 @@ const SECOND_TARGET: Four<Sent> = Four {
     d: None,
 };
 
-/// The trace of two like requests.
-const TRACE: [Entry; 22] = [
+const LOOK: Part = Part::Look {
+    pattern: 0,
+    level: 100,
+};
+
+/// The trace of one frame.
+const ONE_FRAME: [Entry; 13] = [
     Entry::Begin {
         word: Word::Configure,
     },
@@ -198,91 +99,129 @@ const TRACE: [Entry; 22] = [
         reply: Reply::Submitted(RequestId(0)),
     },
     Entry::Send {
-        frame: FrameNo(0),
+        frame: FRAME,
         request: RequestId(0),
         item: 0,
         same: false,
-        targets: FIRST_TARGET,
-    },
-    Entry::Call {
-        index: 2,
-        word: Word::Once,
-        reply: Reply::Submitted(RequestId(1)),
+        targets: FIRST_BUFFER,
     },
     Entry::Begin { word: Word::Close },
     Entry::Shutter {
-        frame: FrameNo(0),
+        frame: FRAME,
         time: 1_000_000_000,
     },
     Entry::Partial {
-        frame: FrameNo(0),
+        frame: FRAME,
         number: 1,
         part: LOOK,
     },
     Entry::Partial {
-        frame: FrameNo(0),
+        frame: FRAME,
         number: 2,
-        part: LIGHT,
+        part: Part::Light {
+            exposure: 10_000_000,
+            iso: 100,
+        },
     },
     Entry::Partial {
-        frame: FrameNo(0),
+        frame: FRAME,
         number: 3,
         part: Part::Time {
             timestamp: 1_000_000_000,
         },
     },
     Entry::Filled {
-        frame: FrameNo(0),
-        stream: StreamIx(0),
+        frame: FRAME,
+        stream: STREAM,
         buffer: BufferId(0),
         fence: None,
         digest: PICTURE,
-    },
-    Entry::Send {
-        frame: FrameNo(1),
-        request: RequestId(1),
-        item: 0,
-        same: true,
-        targets: SECOND_TARGET,
     },
     Entry::Release {
         buffer: BufferId(0),
         fence: FenceNo(0),
     },
     Entry::Signal { fence: FenceNo(0) },
+    Entry::Call {
+        index: 2,
+        word: Word::Close,
+        reply: Reply::Ok,
+    },
+];
+
+/// The trace of a flush while a stage fills the first of four frames.
+const FLUSHED: [Entry; 18] = [
+    Entry::Begin {
+        word: Word::Configure,
+    },
+    Entry::Call {
+        index: 0,
+        word: Word::Configure,
+        reply: CONFIGURED,
+    },
+    Entry::Call {
+        index: 1,
+        word: Word::Burst,
+        reply: Reply::Submitted(RequestId(0)),
+    },
+    Entry::Send {
+        frame: FRAME,
+        request: RequestId(0),
+        item: 0,
+        same: false,
+        targets: FIRST_BUFFER,
+    },
+    Entry::Send {
+        frame: SECOND,
+        request: RequestId(0),
+        item: 1,
+        same: true,
+        targets: SECOND_BUFFER,
+    },
     Entry::Shutter {
-        frame: FrameNo(1),
-        time: 1_033_333_333,
+        frame: FRAME,
+        time: 1_000_000_000,
     },
     Entry::Partial {
-        frame: FrameNo(1),
+        frame: FRAME,
         number: 1,
         part: LOOK,
     },
-    Entry::Partial {
-        frame: FrameNo(1),
-        number: 2,
-        part: LIGHT,
+    Entry::Begin { word: Word::Flush },
+    Entry::Dropped {
+        frame: FrameNo(2),
+        request: RequestId(0),
+        item: 2,
     },
-    Entry::Partial {
-        frame: FrameNo(1),
-        number: 3,
-        part: Part::Time {
-            timestamp: 1_033_333_333,
-        },
+    Entry::Dropped {
+        frame: FrameNo(3),
+        request: RequestId(0),
+        item: 3,
     },
-    Entry::Filled {
-        frame: FrameNo(1),
-        stream: StreamIx(0),
+    Entry::ErrorResult { frame: FRAME },
+    Entry::ErrorBuffer {
+        frame: FRAME,
+        stream: STREAM,
+    },
+    Entry::ErrorRequest { frame: SECOND },
+    Entry::Failed {
+        frame: SECOND,
+        stream: STREAM,
         buffer: BufferId(1),
         fence: None,
-        digest: PICTURE,
     },
-    Entry::Release {
-        buffer: BufferId(1),
-        fence: FenceNo(1),
+    Entry::Failed {
+        frame: FRAME,
+        stream: STREAM,
+        buffer: BufferId(0),
+        fence: None,
     },
-    Entry::Signal { fence: FenceNo(1) },
+    Entry::Call {
+        index: 2,
+        word: Word::Flush,
+        reply: Reply::Ok,
+    },
+    Entry::Begin { word: Word::Close },
     Entry::Call {
         index: 3,
         word: Word::Close,
@@ -297,136 +236,151 @@ fn add<T: Drop>(list: &mut Listing<T>, entry: T) -> Result<(), NoMemory> {
     list.push(entry)
 }
 
-fn item(level: u32, stream: u8) -> Item {
-    Item {
-        settings: Settings {
-            pattern: 0,
-            level,
-            exposure: 10_000_000,
-            iso: 100,
-        },
-        targets: Targets {
-            count: 1,
-            list: [stream, 0, 0, 0, 0, 0, 0, 0],
-        },
-    }
+/// One frame of one RAW16 stream.
+fn one_capture(alloc: Global) -> Result<CommandList, NoMemory> {
+    let mut specs: SpecList = Listing::new(alloc);
+    add(&mut specs, RAW)?;
+    let mut commands = Listing::new(alloc);
+    add(&mut commands, Command::Configure(specs))?;
+    add(&mut commands, Command::Once(ITEM))?;
+    add(&mut commands, Command::Close)?;
+    Ok(commands)
 }
 
-fn raw_streams(alloc: Global, count: u32) -> Result<SpecList, NoMemory> {
-    let mut specs = Listing::new(alloc);
-    for _ in 0..count {
-        let spec = StreamSpec {
-            input: false,
-            format: Format::Raw16,
-            width: 160,
-            height: 120,
-        };
-        add(&mut specs, spec)?;
-    }
-    Ok(specs)
+/// Four frames in a burst, and a flush.
+fn burst_and_flush(alloc: Global) -> Result<CommandList, NoMemory> {
+    let mut specs: SpecList = Listing::new(alloc);
+    add(&mut specs, RAW)?;
+    let mut items = Listing::new(alloc);
+    add(&mut items, ITEM)?;
+    add(&mut items, ITEM)?;
+    add(&mut items, ITEM)?;
+    add(&mut items, ITEM)?;
+    let mut commands = Listing::new(alloc);
+    add(&mut commands, Command::Configure(specs))?;
+    add(&mut commands, Command::Burst(items))?;
+    add(&mut commands, Command::Flush)?;
+    add(&mut commands, Command::Close)?;
+    Ok(commands)
 }
 
-/// The command of a line, if it is one.
-fn command(alloc: Global, line: Line) -> Result<Option<Command>, NoMemory> {
-    Ok(match line {
-        Line::Fault | Line::Early | Line::Second | Line::TwoBuffers => None,
-        Line::Raw => Some(Command::Configure(raw_streams(alloc, 1)?)),
-        Line::TwoRaw => Some(Command::Configure(raw_streams(alloc, 2)?)),
-        Line::Once(level) => Some(Command::Once(item(level, 0))),
-        Line::OnceOf(stream) => Some(Command::Once(item(100, stream))),
-        Line::Repeat => Some(Command::Repeat(Listing::new(alloc))),
-        Line::Close => Some(Command::Close),
-    })
-}
-
-fn has(lines: &[Line], wanted: Line) -> bool {
-    lines.iter().any(|line| *line == wanted)
-}
-
-fn script(alloc: Global, lines: &[Line]) -> Result<Script, NoMemory> {
-    let mut faults: FaultList = Listing::new(alloc);
-    let mut commands: CommandList = Listing::new(alloc);
-    for line in lines {
-        match command(alloc, *line)? {
-            Some(command) => add(&mut commands, command)?,
-            None if *line == Line::Fault => add(&mut faults, Fault::Request(FrameNo(0)))?,
-            None => {}
-        }
-    }
-    Ok(Script {
-        version: if has(lines, Line::Second) { 2 } else { 1 },
-        profile: Profile {
-            raw: if has(lines, Line::TwoBuffers) { 2 } else { 3 },
-            ..Profile::PLAIN
-        },
-        early: has(lines, Line::Early),
-        faults,
+/// The service of a script with these commands alone.
+fn open(alloc: Global, commands: CommandList) -> Result<Service, NoMemory> {
+    let script = Script {
+        version: 1,
+        profile: Profile::PLAIN,
+        early: false,
+        faults: Listing::new(alloc),
         picks: Listing::new(alloc),
         commands,
-    })
+    };
+    if script.is_valid() {
+        Service::open(alloc, script)
+    } else {
+        Err(AllocError)
+    }
+}
+
+/// A configure, a request, and its first frame.
+fn submit(service: &mut Service) {
+    let _ = service.client();
+    let _ = service.client();
+    let _ = service.client();
+    let _ = service.send();
+}
+
+/// The three metadata results of the frame.
+fn tell_metadata(service: &mut Service) {
+    let _ = service.partial(FRAME);
+    let _ = service.partial(FRAME);
+    let _ = service.partial(FRAME);
+}
+
+/// The exposure that is due begins, and ends.
+fn expose(service: &mut Service) {
+    match service.shutter() {
+        Shuttered::Began(_, job) => service.sensor_done(job.expose()),
+        Shuttered::NotBegun => {}
+    }
+}
+
+/// A stage fills a buffer.
+fn fill(service: &mut Service, frame: FrameNo, stream: StreamIx) {
+    match service.take_fill(frame, stream) {
+        Some(job) => service.fill_done(job.fill()),
+        None => {}
+    }
+}
+
+/// The service is done, and ends.
+fn end(rt: &impl Abort, service: Service) {
+    if !service.done() {
+        panic!(rt; "the run isn't complete");
+    }
+    service.is_a_run();
+    service.scrap();
 }
 
 #[test]
-fn runs_raw_scripts_alone(rt: HostRuntime) -> Result<(), Fail> {
-    for (lines, want) in SCRIPTS {
-        let script = script(rt.alloc(), lines)?;
-        assert_eq!(rt; is_raw_script(&script), *want, "{lines:?}");
-    }
+fn one_frame(rt: HostRuntime) -> Result<(), Fail> {
+    let alloc = rt.alloc();
+    let mut service = open(alloc, one_capture(alloc)?)?;
+    submit(&mut service);
+    let _ = service.client();
+    expose(&mut service);
+    tell_metadata(&mut service);
+    fill(&mut service, FRAME, STREAM);
+    let _ = service.deliver(FRAME, STREAM);
+    let _ = service.release(BufferId(0));
+    let _ = service.signal(FenceNo(0));
+    assert_eq!(rt; service.client(), Step::Did(ONE_FRAME[12]));
+    assert_eq!(rt; service.client(), Step::NotReady);
+    assert_eq!(rt; service.trace(), &ONE_FRAME[..]);
+    assert_eq!(rt; service.pick(), 0);
+    end(&rt, service);
     Ok(())
 }
 
-#[test]
-fn chooses_each_step_of_a_run(rt: HostRuntime) -> Result<(), Fail> {
-    for (lines, trace) in RUNS {
-        let script = script(rt.alloc(), lines)?;
-        assert!(rt; is_raw_script(&script));
-        let mut service = Service::open(rt.alloc(), script)?;
-        for want in *trace {
-            assert!(rt; !service.done());
-            match service.chosen() {
-                Some(step) => assert_eq!(rt; service.step(step), Step::Did(*want)),
-                None => assert!(rt; false, "{want:?}"),
-            }
+/// A flush begins, and what can be stopped is stopped. A job that is out stays out.
+fn flush(service: &mut Service)
+    ensures { (job : SomeJob) → IsJobOut service.old.script service.old.history job →
+        IsJobOut service.new.script service.new.history job }
+{
+    let _ = service.client();
+    let _ = service.drop_queued();
+    let _ = service.drop_queued();
+    let _ = service.fail(FRAME);
+    let _ = service.fail(FRAME);
+    let _ = service.fail(SECOND);
+    let _ = service.return_failed(SECOND, STREAM);
+    service.is_a_run();
+}
+
+/// A flush while a stage fills a buffer.
+fn fill_through_a_flush(service: &mut Service) {
+    match service.take_fill(FRAME, STREAM) {
+        Some(job) => {
+            flush(service);
+            service.fill_done(job.fill());
         }
-        assert!(rt; service.done());
-        assert_eq!(rt; service.chosen(), None);
-        service.is_a_run();
-        assert_eq!(rt; service.trace(), *trace);
-        service.scrap();
+        None => {}
     }
-    Ok(())
 }
 
 #[test]
-fn makes_each_step_by_its_name(rt: HostRuntime) -> Result<(), Fail> {
-    let script = script(rt.alloc(), TWO_REQUESTS)?;
-    assert!(rt; is_raw_script(&script));
-    let mut service = Service::open(rt.alloc(), script)?;
-    assert_eq!(rt; service.send(), Step::NotReady);
-    assert_eq!(rt; service.client(), Step::Did(TRACE[0]));
-    assert_eq!(rt; service.client(), Step::Did(TRACE[1]));
-    assert_eq!(rt; service.client(), Step::Did(TRACE[2]));
-    assert_eq!(rt; service.send(), Step::Did(TRACE[3]));
-    assert_eq!(rt; service.shutter(), Step::Did(TRACE[6]));
-    assert_eq!(rt; service.partial(FrameNo(0)), Step::Did(TRACE[7]));
-    assert_eq!(rt;
-        service.deliver(FrameNo(0), StreamIx(0)),
-        Step::Did(TRACE[10])
-    );
-    assert_eq!(rt; service.release(BufferId(0)), Step::Did(TRACE[12]));
-    assert_eq!(rt; service.signal(FenceNo(0)), Step::Did(TRACE[13]));
-    assert_eq!(rt; service.signal(FenceNo(0)), Step::NotReady);
-    Ok(())
-}
-
-#[test]
-fn closes_without_a_request(rt: HostRuntime) -> Result<(), Fail> {
-    let script = script(rt.alloc(), NO_REQUEST)?;
-    assert!(rt; is_raw_script(&script));
-    let mut service = Service::open(rt.alloc(), script)?;
-    assert_eq!(rt; service.send(), Step::NotReady);
-    assert_eq!(rt; service.client(), Step::Did(TRACE[0]));
-    assert_eq!(rt; service.client(), Step::Did(TRACE[1]));
-    assert_eq!(rt; service.send(), Step::NotReady);
+fn flush_while_a_fill_is_out(rt: HostRuntime) -> Result<(), Fail> {
+    let alloc = rt.alloc();
+    let mut service = open(alloc, burst_and_flush(alloc)?)?;
+    submit(&mut service);
+    let _ = service.send();
+    expose(&mut service);
+    let _ = service.partial(FRAME);
+    fill_through_a_flush(&mut service);
+    let _ = service.return_failed(FRAME, STREAM);
+    let _ = service.client();
+    let _ = service.client();
+    let _ = service.client();
+    assert_eq!(rt; service.trace(), &FLUSHED[..]);
+    end(&rt, service);
     Ok(())
 }

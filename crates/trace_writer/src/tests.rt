@@ -11,6 +11,10 @@ const BEGIN: Entry = Entry::Begin { word: Word::Flush };
 /// A trace of 4,812 bytes: one piece and 716 bytes more.
 const TRACE: [Entry; 400] = [BEGIN; 400];
 
+/// What is counted of it.
+const SUMMARY: &[u8] =
+    b"commands 0 frames 0 dropped 0 results 0 request-errors 0 result-errors 0 buffers-ok 0 buffers-error 0 entries 400\n";
+
 /// The text of so many of its entries.
 fn text_of(alloc: Global, count: usize) -> Result<Vec<u8>, AllocError> {
     let mut text = b"trace 1\n".to_vec(alloc)?;
@@ -77,5 +81,15 @@ fn the_first_line_names_the_profile(rt: HostRuntime) -> Result<(), Fail> {
     let mut sink = MemSink::new(alloc, 100, 100, Vec::new(alloc))?;
     assert!(rt; writer.write(&[], &mut sink).is_ok());
     assert_eq!(rt; sink.bytes(), b"trace 2 8 3 7\nend\n".as_slice());
+    Ok(())
+}
+
+#[test]
+fn a_summary_is_one_line(rt: HostRuntime) -> Result<(), Fail> {
+    let alloc = rt.alloc();
+    let mut writer = TraceWriter::new(alloc, None)?;
+    let mut sink = MemSink::new(alloc, 200, 7, Vec::new(alloc))?;
+    assert!(rt; writer.write_summary(&TRACE, &mut sink).is_ok());
+    assert_eq!(rt; sink.bytes(), SUMMARY);
     Ok(())
 }

@@ -1,16 +1,18 @@
-//! A whole trace, written line by line.
+//! A whole trace, written line by line, or its summary.
 
 ghost use Rattle.std.specs.Prelude.{◌≡◌, ◌++◌, OnOk, OnErr, IfOk, IsTrue, [], true};
 ghost use Rattle.std.specs.List.{flat_map, list_all};
 ghost use Rattle.io_edge.specs.Faults.{Counts};
 ghost use Rattle.io_edge.specs.States.{Breaks, Writes};
 ghost use Rattle.trace_model.specs.Printable.{is_printable};
+ghost use Rattle.trace_model.specs.Summary.{summary_of};
 ghost use Rattle.trace_text.specs.Spelling.{line_of, spelling};
+ghost use Rattle.trace_text.specs.Summary.{summary_line};
 ghost use Rattle.trace_writer.specs.Pieces.{Gathers, text_behind};
 
 use crate::pieces::Pieces;
 use cam_types::{NoMemory, Profile};
-use io_edge::{Failed, Sink};
+use io_edge::{Failed, Sink, write_all};
 use std::alloc::Global;
 use std::marker::Model;
 use trace_model::Entry;
@@ -109,5 +111,17 @@ impl TraceWriter {
             trace,
             sink,
         )
+    }
+
+    /// Writes the line of a trace's summary. It takes no memory.
+    pub fn write_summary<K: Sink>(&mut self, trace: &[Entry], sink: &mut K) -> Result<(), Failed>
+        ensures same { self.new ≡ self.old }
+        ensures written { OnOk result
+            (Writes (K.state sink.old) (K.state sink.new) (summary_line (summary_of trace.now))) }
+        ensures failed { OnErr result
+            (Breaks (K.state sink.old) (K.state sink.new) (summary_line (summary_of trace.now))) }
+        ensures faults { Counts result (K.state sink.old).faults (K.state sink.new).faults }
+    {
+        write_all(sink, self.printer.summary(trace))
     }
 }

@@ -1,8 +1,16 @@
-use Rattle.std.proofs.Common.{◌∙◌, sym}
-use Rattle.service_core.specs.Fit.{facts_of}
-use Rattle.run_model.specs.History.{trace_of}
-use Rattle.service_core.proofs.Due.{release-is}
+use Rattle.service_core.proofs.Keeping.{note_answers, note_keeps, note_room, serves}
 use Rattle.service_core.proofs.service.Service.release.Goals as goal
 
-pub make-requires : goal.make-requires
-make-requires c = rw (← c.self.view_is) (c.due_release-due.ensures ∙ sym (release-is c.self.inside.script (trace_of c.self.inside.history) (facts_of c.self.inside.tables) c.self.invariant.4 c.args.buffer))
+pub release-entry-requires : goal.release-entry-requires
+release-entry-requires c = serves c.self.inside.state c.self.inside.log c.self.invariant
+
+pub note-requires-clause-room : goal.note-requires-clause-room
+note-requires-clause-room c = note_room c.self.inside.state _ c.self.inside.log _ _ c.self.invariant c.release-entry.ensures
+
+pub invariant_of-self : goal.invariant_of-self
+invariant_of-self c =
+    rw c.note.ensures.log (note_keeps c.self.inside.state _ c.self.inside.log _ _ c.self.invariant c.release-entry.ensures)
+
+pub returns : goal.returns
+returns c =
+    rw (← c.self.view_is, c.note.ensures.answer, c.note.ensures.log) (note_answers c.self.inside.state _ c.self.inside.log _ _ c.self.invariant c.release-entry.ensures)

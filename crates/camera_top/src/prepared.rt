@@ -1,0 +1,141 @@
+//! A run with all its memory taken: the script is opened, and room for printing is there, before the first move.
+ghost use Rattle.std.specs.Prelude.{◌≡◌, IfOk, IsTrue};
+ghost use Rattle.cam_types.specs.Script.{is_valid};
+ghost use Rattle.io_edge.specs.States.{Breaks, Writes};
+ghost use Rattle.camera_top.specs.Answers.{Answers};
+ghost use Rattle.camera_top.specs.Says.{PlaysAs, named_profile, text_in};
+
+use crate::status::Status;
+use cam_types::{NoMemory, Profile, Script};
+use io_edge::Sink;
+use job_hands::Hands;
+use job_moves::no_job_is_out_at_first;
+use service_core::Service;
+use settle::{close, play};
+use std::alloc::Global;
+use std::marker::Model;
+use trace_writer::TraceWriter;
+
+/// What is written of a run.
+#[derive(Clone, Copy, Debug, PartialEq, Eq)]
+pub enum Output {
+    /// Its whole trace.
+    Trace,
+    /// One line, with how much of each the trace has.
+    Summary,
+}
+
+/// A run that isn't begun, with all the memory that it and its printing need. A contract sees its script. It can't be
+/// let go: `play_prepared` or `scrap` ends it.
+pub struct Prepared {
+    service: Service,
+    hands: Hands,
+    writer: TraceWriter,
+}
+
+impl Model for Prepared {
+    ghost use Rattle.std.specs.Prelude.{◌≡◌, []};
+    ghost use Rattle.cam_types.specs.declared.script.Script.{Script as AScript};
+    ghost use Rattle.camera_top.specs.Says.{named_profile};
+
+    ghost Value = { AScript };
+
+    ghost view = { λ p. p.service.script };
+
+    ghost invariant = { λ p. (p.service.history ≡ []) × (p.hands ≡ []) × (p.writer ≡ named_profile p.service.script) };
+}
+
+impl Prepared {
+    /// Ends a run that was never begun.
+    pub fn scrap(self) {
+        let Prepared {
+            service,
+            hands,
+            writer: _,
+        } = self;
+        no_job_is_out_at_first();
+        close(service, hands);
+    }
+}
+
+/// Takes all the memory that the run of a script and its printing need.
+pub fn prepare(alloc: Global, script: Script) -> Result<Prepared, NoMemory>
+    requires { IsTrue (is_valid script) }
+    ensures { IfOk result (λ prepared. prepared ≡ script) }
+{
+    let writer = TraceWriter::new(alloc, named_profile(&script))?;
+    let service = Service::open(alloc, script)?;
+    Ok(Prepared {
+        service,
+        hands: Hands::new(),
+        writer,
+    })
+}
+
+/// Plays the run, and writes its trace or its summary. It takes no memory: the status is 0, or 4 where the sink failed.
+pub fn play_prepared<K: Sink>(prepared: Prepared, output: Output, sink: &mut K) -> Status
+    ensures { PlaysAs output prepared result.number (K.state sink.old) (K.state sink.new) }
+{
+    no_job_is_out_at_first();
+    let Prepared {
+        mut service,
+        mut hands,
+        mut writer,
+    } = prepared;
+    play(&mut service, &mut hands);
+    let status = write_run(&mut writer, &service, output, sink);
+    close(service, hands);
+    status
+}
+
+/// The profile that the first line of a script's trace names: none for a script of version 1.
+fn named_profile(script: &Script) -> Option<Profile>
+    ensures { result ≡ named_profile script.now }
+{
+    if script.version == 1 {
+        None
+    } else {
+        Some(script.profile)
+    }
+}
+
+/// Writes the trace of a service, or its summary.
+fn write_run<K: Sink>(
+    writer: &mut TraceWriter,
+    service: &Service,
+    output: Output,
+    sink: &mut K,
+) -> Status
+    requires { writer.old ≡ named_profile service.now.script }
+    ensures { Answers 0 (text_in output service.now.script service.now.history) result.number
+        (K.state sink.old) (K.state sink.new) }
+{
+    match output {
+        Output::Trace => write_trace(writer, service, sink),
+        Output::Summary => write_summary(writer, service, sink),
+    }
+}
+
+/// Writes the trace of a service.
+fn write_trace<K: Sink>(writer: &mut TraceWriter, service: &Service, sink: &mut K) -> Status
+    requires { writer.old ≡ named_profile service.now.script }
+    ensures { Answers 0 (text_in Output.Trace service.now.script service.now.history) result.number
+        (K.state sink.old) (K.state sink.new) }
+{
+    service.is_a_run();
+    match writer.write(service.trace(), sink) {
+        Ok(()) => Status::DONE,
+        Err(_) => Status::SINK_FAILED,
+    }
+}
+
+/// Writes the summary of a service's trace.
+fn write_summary<K: Sink>(writer: &mut TraceWriter, service: &Service, sink: &mut K) -> Status
+    ensures { Answers 0 (text_in Output.Summary service.now.script service.now.history) result.number
+        (K.state sink.old) (K.state sink.new) }
+{
+    match writer.write_summary(service.trace(), sink) {
+        Ok(()) => Status::DONE,
+        Err(_) => Status::SINK_FAILED,
+    }
+}

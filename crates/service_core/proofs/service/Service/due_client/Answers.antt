@@ -1,9 +1,0 @@
-use Rattle.std.proofs.Common.{◌∙◌, sym}
-use Rattle.service_core.specs.Fit.{facts_of}
-use Rattle.run_model.specs.History.{trace_of}
-use Rattle.service_core.proofs.RawLemmas.{raw}
-use Rattle.service_core.proofs.Answering.{client-is}
-use Rattle.service_core.proofs.service.Service.due_client.Goals as goal
-
-pub returns : goal.returns
-returns c = rw (← c.self.view_is) (c.due_client.ensures ∙ rw c.get-command.ensures (sym (client-is c.self.inside.script (trace_of c.self.inside.history) (facts_of c.self.inside.tables) (raw c.self.inside.script c.self.invariant.0) c.self.invariant.4)))

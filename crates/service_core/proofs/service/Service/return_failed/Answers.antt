@@ -1,0 +1,16 @@
+use Rattle.service_core.proofs.Keeping.{note_answers, note_keeps, note_room, serves}
+use Rattle.service_core.proofs.service.Service.return_failed.Goals as goal
+
+pub return_failed-entry-requires : goal.return_failed-entry-requires
+return_failed-entry-requires c = serves c.self.inside.state c.self.inside.log c.self.invariant
+
+pub note-requires-clause-room : goal.note-requires-clause-room
+note-requires-clause-room c = note_room c.self.inside.state _ c.self.inside.log _ _ c.self.invariant c.return_failed-entry.ensures
+
+pub invariant_of-self : goal.invariant_of-self
+invariant_of-self c =
+    rw c.note.ensures.log (note_keeps c.self.inside.state _ c.self.inside.log _ _ c.self.invariant c.return_failed-entry.ensures)
+
+pub returns : goal.returns
+returns c =
+    rw (← c.self.view_is, c.note.ensures.answer, c.note.ensures.log) (note_answers c.self.inside.state _ c.self.inside.log _ _ c.self.invariant c.return_failed-entry.ensures)

@@ -1,0 +1,4 @@
+pub mod OneRun
+pub mod Making
+pub mod Choosing
+pub mod Settling

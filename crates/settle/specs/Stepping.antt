@@ -1,0 +1,49 @@
+use Rattle.std.specs.Prelude.{◌≡◌, ℕ, ◌%◌, List, ◌++◌, Option, Some, length, slice_get}
+use Rattle.cam_types.specs.declared.job.JobView.{JobView}
+use Rattle.trace_model.specs.Complete.{IsComplete}
+use Rattle.run_model.specs.declared.step.Move.{Move}
+use Rattle.run_model.specs.declared.step.StepName.{StepName}
+use Rattle.run_model.specs.History.{trace_of}
+use Rattle.run_model.specs.Played.{candidates}
+use Rattle.room_log.specs.State.{State}
+use Rattle.job_moves.specs.Outs.{AreOut}
+use Rattle.service_core.specs.Answers.{Makes}
+use Rattle.settle.specs.declared.stepping.Stepped.{Stepped}
+use Rattle.settle.specs.declared.stepping.Stepped.TheVariants.{Done, Finished}
+
+-- What a player makes of a service, whose jobs it has in hand.
+
+-- the hands hold just the jobs that are out
+abbrev pub HoldsJobs : State → List JobView → Type 0
+HoldsJobs s jobs = AreOut s.script s.history jobs
+
+-- the step was ready, and is made: nothing else is changed
+pub record MakesStep (old new : State) (step : StepName) : Type 0 where
+  pub move : Move
+  pub of : move.step ≡ step
+  pub made : Makes move old new
+
+-- the step that a pick chooses among those that are ready
+abbrev pub picked : State → ℕ → Option StepName
+picked s pick = let ready = candidates s.script s.history in slice_get ready (pick % length ready)
+
+pub record MakesPicked (old new : State) (pick : ℕ) (step : StepName) : Type 0 where
+  pub going : ¬ IsComplete old.script (trace_of old.history)
+  pub picked : picked old pick ≡ Some step
+  pub made : MakesStep old new step
+
+pub record IsFinished (old new : State) : Type 0 where
+  pub complete : IsComplete old.script (trace_of old.history)
+  pub same : new ≡ old
+
+-- the chosen step is made; or the run is complete, and nothing changes
+abbrev pub AnswersPick : State → ℕ → Stepped → State → Type 0
+AnswersPick old pick (Done step) new = MakesPicked old new pick step
+AnswersPick old pick Finished new = IsFinished old new
+
+-- so many steps more were made, and the run is complete
+pub record IsSettledBy (old new : State) (count : ℕ) : Type 0 where
+  pub moves : List Move
+  pub many : length moves ≡ count
+  pub left : new ≡ record { script = old.script; history = moves ++ old.history }
+  pub complete : IsComplete new.script (trace_of new.history)

@@ -1,0 +1,22 @@
+//! Laws on played runs: functions that do nothing, and whose contracts hold of every script and every history.
+ghost use Rattle.std.specs.Prelude.{◌≡◌, List, Some, length, IsTrue};
+ghost use Rattle.cam_types.specs.declared.script.Script.{Script as SomeScript};
+ghost use Rattle.run_model.specs.declared.step.Move.{Move as SomeMove};
+ghost use Rattle.run_model.specs.Played.{IsPlayedRun, chosen, pick_at};
+ghost use Rattle.run_model.specs.Ready.{is_ready};
+
+use run_model::StepName;
+
+/// A script has one played run.
+#[tactic(auto, using(crate::proofs::OneRun::one_played_run))]
+pub fn the_picks_make_one_run()
+    ensures { (script : SomeScript) (a b : List SomeMove) → IsPlayedRun script a → IsPlayedRun script b → a ≡ b }
+{}
+
+/// Where the pick is 0, as it is in a script without picks, a send that is ready is the step that is chosen: nothing but
+/// a send stands after a moment at which one is ready.
+#[tactic(auto, using(crate::proofs::OneRun::send_first))]
+pub fn sends_go_first()
+    ensures { (script : SomeScript) (h : List SomeMove) → pick_at script (length h) ≡ 0
+        → IsTrue (is_ready script h StepName.Send) → chosen script h ≡ Some StepName.Send }
+{}

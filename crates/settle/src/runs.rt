@@ -1,0 +1,53 @@
+//! Runs to their end: by the script's picks, or by the first candidates.
+ghost use Rattle.std.specs.Prelude.{◌≡◌, []};
+ghost use Rattle.run_model.specs.Played.{IsPlayed, IsPlayedRun};
+ghost use Rattle.settle.specs.Stepping.{HoldsJobs, IsSettledBy};
+
+use crate::stepping::{Stepped, pick_step, step_at};
+use job_hands::Hands;
+use job_moves::{jobs_that_end_are_out, no_job_is_out_at_rest};
+use service_core::Service;
+
+/// Makes the steps that the picks choose until the run is complete. No job is out then.
+pub fn play(service: &mut Service, hands: &mut Hands)
+    requires jobs { HoldsJobs service.old hands.old }
+    requires played { IsPlayed service.old.script service.old.history }
+    ensures script { service.new.script ≡ service.old.script }
+    ensures played { IsPlayedRun service.new.script service.new.history }
+    ensures jobs { HoldsJobs service.new hands.new }
+    ensures none { hands.new ≡ [] }
+{
+    no_job_is_out_at_rest();
+    while let Stepped::Done(_) = pick_step(service, hands) {
+        service.is_a_run();
+    }
+    service.is_a_run();
+}
+
+/// Makes the first candidates until the run is complete, and answers how many. No job is out then.
+pub fn settle(service: &mut Service, hands: &mut Hands) -> u64
+    requires { HoldsJobs service.old hands.old }
+    ensures settled { IsSettledBy service.old service.new result }
+    ensures jobs { HoldsJobs service.new hands.new }
+    ensures none { hands.new ≡ [] }
+{
+    no_job_is_out_at_rest();
+    let mut count = 0;
+    while let Stepped::Done(_) = step_at(service, hands, 0) {
+        service.is_a_run();
+        count += 1;
+    }
+    service.is_a_run();
+    count
+}
+
+/// Ends a service of which no job is out, and the hands.
+pub fn close(service: Service, hands: Hands)
+    requires jobs { HoldsJobs service hands }
+    requires none { hands ≡ [] }
+{
+    jobs_that_end_are_out();
+    service.is_a_run();
+    hands.close();
+    service.scrap();
+}

@@ -1,0 +1,90 @@
+//! Scripts are settled in the steps that their worked runs have.
+use super::*;
+use cam_types::{
+    Command, CommandList, FaultList, Format, Item, PickList, Profile, Script, Settings, SpecList,
+    StreamSpec, Targets,
+};
+use job_hands::Hands;
+use job_moves::no_job_is_out_at_first;
+use service_core::Service;
+use std::alloc::{AllocError, Global};
+use std::process::Abort;
+use std::test::Fail;
+
+const RAW: StreamSpec = StreamSpec {
+    input: false,
+    format: Format::Raw16,
+    width: 160,
+    height: 120,
+};
+
+/// One grey picture of stream 0.
+const ITEM: Item = Item {
+    settings: Settings {
+        pattern: 0,
+        level: 100,
+        exposure: 10_000_000,
+        iso: 100,
+    },
+    targets: Targets {
+        count: 1,
+        list: [0; 8],
+    },
+};
+
+/// A script of these commands.
+fn script_of(alloc: Global, commands: CommandList) -> Script {
+    Script {
+        version: 1,
+        profile: Profile::PLAIN,
+        early: false,
+        faults: FaultList::new(alloc),
+        picks: PickList::new(alloc),
+        commands,
+    }
+}
+
+/// A close alone.
+fn no_capture(alloc: Global) -> Result<CommandList, AllocError> {
+    let mut commands = CommandList::new(alloc);
+    commands.push(Command::Close)?;
+    Ok(commands)
+}
+
+/// A configure, a request and a close.
+fn one_capture(alloc: Global) -> Result<CommandList, AllocError> {
+    let mut specs = SpecList::new(alloc);
+    specs.push(RAW)?;
+    let mut commands = CommandList::new(alloc);
+    commands.push(Command::Configure(specs))?;
+    commands.push(Command::Once(ITEM))?;
+    commands.push(Command::Close)?;
+    Ok(commands)
+}
+
+/// How many steps settle the script.
+fn steps_of(rt: &impl Abort, alloc: Global, script: Script) -> Result<u64, AllocError> {
+    assert!(rt; script.is_valid());
+    no_job_is_out_at_first();
+    let mut service = Service::open(alloc, script)?;
+    let mut hands = Hands::new();
+    let steps = settle(&mut service, &mut hands);
+    close(service, hands);
+    Ok(steps)
+}
+
+#[test]
+fn an_empty_script_is_settled_in_two_steps(rt: HostRuntime) -> Result<(), Fail> {
+    let alloc = rt.alloc();
+    let script = script_of(alloc, no_capture(alloc)?);
+    assert_eq!(rt; steps_of(&rt, alloc, script)?, 2);
+    Ok(())
+}
+
+#[test]
+fn one_frame_is_settled_in_sixteen_steps(rt: HostRuntime) -> Result<(), Fail> {
+    let alloc = rt.alloc();
+    let script = script_of(alloc, one_capture(alloc)?);
+    assert_eq!(rt; steps_of(&rt, alloc, script)?, 16);
+    Ok(())
+}
