@@ -1,7 +1,10 @@
 //! The program: it hands the words, standard input and standard output to the top call, and ends with its status.
 #![tactic(auto)]
 
-ghost use Rattle.std.specs.Prelude.{◌≡◌, ◌≤◌, IfOk, OnErr};
+ghost use Rattle.std.specs.Prelude.{◌≡◌, ◌≤◌, ℕ, List, map, string_bytes, IfOk, OnErr};
+ghost use Rattle.std.specs.Borrow.{Bor};
+ghost use Rattle.camera_top.specs.Commands.{TellsOf};
+ghost use Rattle.camera_words.specs.Forms.{form_of};
 ghost use Rattle.io_edge.specs.Faults.{Rose};
 ghost use Rattle.io_edge.specs.States.{WritesNothing};
 ghost use Rattle.camera_prog.specs.Ends.{number_of};
@@ -41,6 +44,10 @@ fn answer<S: Source, K: Sink>(
     source: &mut S,
     sink: &mut K,
 ) -> Result<Status, NoMemory>
+    // What the top call says of words with these texts.
+    ensures tells { (words : List (Bor (List ℕ))) → map (λ word. word.now) words ≡ map string_bytes texts.now →
+        IfOk result (λ status. TellsOf (form_of words) (S.left source.old) status.number
+        (K.state sink.old) (K.state sink.new)) }
     ensures source_failed { IfOk result (λ status. status.number ≡ 3 → Rose (S.faults source.old) (S.faults source.new)
         × WritesNothing (K.state sink.old) (K.state sink.new)) }
     ensures sink_failed { IfOk result (λ status. status.number ≡ 4
