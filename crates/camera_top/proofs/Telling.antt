@@ -7,7 +7,7 @@ use Rattle.script_text.specs.Grammar.{script_of}
 use Rattle.script_text.specs.declared.cause.Cause.{Cause}
 use Rattle.script_text.specs.declared.cause.Cause.TheVariants.{Limit}
 use Rattle.script_text.specs.declared.cause.ScriptRefused.TheVariants.{Bad}
-use Rattle.camera_top.specs.Answers.{AnswersWithMemory, Tells, TellsBy}
+use Rattle.call_status.specs.Answers.{AnswersWithMemory, Tells, TellsBy}
 use Rattle.judge_text.specs.Lines.{refused_script_text}
 use Rattle.camera_top.specs.Says.{IsWholeRun, Says, SaysOf, SaysOfScript}
 use Rattle.camera_top.specs.declared.prepared.Output.{Output}

@@ -3,8 +3,9 @@ use Rattle.io_edge.specs.States.{SinkState}
 use Rattle.camera_words.specs.declared.form.Form.{Form}
 use Rattle.camera_words.specs.declared.form.Form.TheVariants.{Play, Check, Convert, Gen, Help}
 use Rattle.judge_text.specs.Meaning.{Judges}
-use Rattle.camera_top.specs.Answers.{Answers, Tells, TellsBy, help_text, usage_line}
+use Rattle.call_status.specs.Answers.{Answers, Tells, TellsBy}
 use Rattle.camera_top.specs.Converting.{ConvertsInput}
+use Rattle.camera_top.specs.Help.{help_text, usage_line}
 use Rattle.camera_top.specs.Says.{Says, SaysOfSeed}
 
 -- What the program answers and writes for each form that its words have: what belongs to the input's meaning, or to the

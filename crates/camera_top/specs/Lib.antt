@@ -1,5 +1,5 @@
 pub mod Words
-pub mod Answers
+pub mod Help
 pub mod Says
 pub mod Judging
 pub mod Converting

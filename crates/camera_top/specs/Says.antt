@@ -15,7 +15,7 @@ use Rattle.trace_model.specs.Summary.{summary_of}
 use Rattle.trace_text.specs.Spelling.{spelling}
 use Rattle.trace_text.specs.Summary.{summary_line}
 use Rattle.judge_text.specs.Lines.{refused_script_text}
-use Rattle.camera_top.specs.Answers.{Answers}
+use Rattle.call_status.specs.Answers.{Answers}
 use Rattle.camera_top.specs.declared.prepared.Output.{Output}
 use Rattle.camera_top.specs.declared.prepared.Output.TheVariants.{Trace, Summary}
 

@@ -5,9 +5,10 @@ ghost use Rattle.io_edge.specs.Faults.{Rose};
 ghost use Rattle.io_edge.specs.States.{Writes, WritesNothing};
 ghost use Rattle.camera_words.specs.Forms.{form_of};
 ghost use Rattle.generated_scripts.specs.Generated.{generated};
-ghost use Rattle.camera_top.specs.Answers.{Answers, help_text, usage_line};
+ghost use Rattle.call_status.specs.Answers.{Answers, Untouched};
 ghost use Rattle.camera_top.specs.Commands.{TellsOf};
 ghost use Rattle.camera_top.specs.Converting.{IsConverted};
+ghost use Rattle.camera_top.specs.Help.{help_text, usage_line};
 ghost use Rattle.camera_top.specs.Judging.{IsJudgedLegal};
 ghost use Rattle.camera_top.specs.Says.{IsWhole, IsWholeRun};
 ghost use Rattle.camera_top.specs.Words.{is_built, reads};
@@ -16,7 +17,7 @@ use crate::convert::convert_call;
 use crate::judge::check_call;
 use crate::player::{gen_call, play_call};
 use crate::prepared::Output;
-use crate::status::{Status, answer};
+use call_status::{Status, answer};
 use camera_words::{Form, form_of};
 use io_edge::{Sink, Source};
 use std::alloc::Global;
@@ -62,7 +63,8 @@ pub fn camera_main<S: Source, K: Sink>(
     ensures source_failed { result.number ≡ 3 → Rose (S.faults source.old) (S.faults source.new)
         × WritesNothing (K.state sink.old) (K.state sink.new) }
     ensures sink_failed { result.number ≡ 4 → Rose (K.state sink.old).faults (K.state sink.new).faults }
-    ensures no_memory { result.number ≡ 5 → WritesNothing (K.state sink.old) (K.state sink.new) }
+    ensures no_memory { result.number ≡ 5 → (S.faults source.new ≡ S.faults source.old)
+        × Untouched (K.state sink.old) (K.state sink.new) }
     ensures known { result.number ≤ 5 }
 {
     match form_of(words) {

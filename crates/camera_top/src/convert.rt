@@ -6,11 +6,11 @@ ghost use Rattle.io_edge.specs.Faults.{Rose};
 ghost use Rattle.io_edge.specs.States.{Writes, WritesNothing};
 ghost use Rattle.trace_model.specs.Printable.{is_printable};
 ghost use Rattle.trace_reader.specs.Grammar.{trace_of};
-ghost use Rattle.camera_top.specs.Answers.{Tells, TellsBy};
+ghost use Rattle.call_status.specs.Answers.{Tells, TellsBy, Untouched};
 ghost use Rattle.camera_top.specs.Converting.{Converts, ConvertsInput, IsConverted};
 
 use crate::refusal::{TOO_LONG, refuse_trace};
-use crate::status::Status;
+use call_status::Status;
 use io_edge::{ReadBytes, ReadFault, Sink, Source, read_all};
 use judge_text::profile_of;
 use std::alloc::Global;
@@ -30,7 +30,8 @@ pub fn convert_call<S: Source, K: Sink>(alloc: Global, source: &mut S, sink: &mu
     ensures source_failed { result.number ≡ 3 → Rose (S.faults source.old) (S.faults source.new)
         × WritesNothing (K.state sink.old) (K.state sink.new) }
     ensures sink_failed { result.number ≡ 4 → Rose (K.state sink.old).faults (K.state sink.new).faults }
-    ensures no_memory { result.number ≡ 5 → WritesNothing (K.state sink.old) (K.state sink.new) }
+    ensures no_memory { result.number ≡ 5 → (S.faults source.new ≡ S.faults source.old)
+        × Untouched (K.state sink.old) (K.state sink.new) }
     ensures known { result.number ≤ 5 }
     ensures no_usage { result.number ≢ 2 }
 {

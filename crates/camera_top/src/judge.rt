@@ -6,11 +6,11 @@ ghost use Rattle.io_edge.specs.States.{Writes, WritesNothing};
 ghost use Rattle.trace_reader.specs.Grammar.{trace_of};
 ghost use Rattle.judge_text.specs.Lines.{verdict_status, verdict_text};
 ghost use Rattle.judge_text.specs.Meaning.{Judges, JudgesBoth, JudgesTrace, JudgesWhole};
-ghost use Rattle.camera_top.specs.Answers.{AnswersWithMemory, Tells, TellsBy};
+ghost use Rattle.call_status.specs.Answers.{AnswersWithMemory, Tells, TellsBy, Untouched};
 ghost use Rattle.camera_top.specs.Judging.{IsJudgedLegal};
 
 use crate::refusal::{TOO_LONG, refuse_script, refuse_trace};
-use crate::status::{Status, answer};
+use call_status::{Status, answer};
 use cam_types::Script;
 use io_edge::{ReadBytes, ReadFault, Sink, Source, read_all};
 use judge_text::{parts_of, profiles_agree, verdict_text};
@@ -36,7 +36,8 @@ pub fn check_call<S: Source, K: Sink>(alloc: Global, source: &mut S, sink: &mut 
     ensures source_failed { result.number ≡ 3 → Rose (S.faults source.old) (S.faults source.new)
         × WritesNothing (K.state sink.old) (K.state sink.new) }
     ensures sink_failed { result.number ≡ 4 → Rose (K.state sink.old).faults (K.state sink.new).faults }
-    ensures no_memory { result.number ≡ 5 → WritesNothing (K.state sink.old) (K.state sink.new) }
+    ensures no_memory { result.number ≡ 5 → (S.faults source.new ≡ S.faults source.old)
+        × Untouched (K.state sink.old) (K.state sink.new) }
     ensures known { result.number ≤ 5 }
     ensures no_usage { result.number ≢ 2 }
 {

@@ -7,7 +7,6 @@ mod judge;
 mod player;
 mod prepared;
 mod refusal;
-mod status;
 #[cfg(test)]
 mod tests;
 
@@ -16,4 +15,4 @@ pub use convert::convert_call;
 pub use judge::check_call;
 pub use player::{gen_call, play_call};
 pub use prepared::{Output, Prepared, play_prepared, prepare};
-pub use status::Status;
+pub use call_status::Status;

@@ -6,12 +6,12 @@ ghost use Rattle.cam_types.specs.Script.{is_valid};
 ghost use Rattle.generated_scripts.specs.Generated.{generated};
 ghost use Rattle.io_edge.specs.Faults.{Rose};
 ghost use Rattle.io_edge.specs.States.{WritesNothing};
-ghost use Rattle.camera_top.specs.Answers.{Tells, TellsBy};
+ghost use Rattle.call_status.specs.Answers.{Tells, TellsBy, Untouched};
 ghost use Rattle.camera_top.specs.Says.{IsWhole, IsWholeRun, Says, SaysOfScript, SaysOfSeed};
 
 use crate::prepared::{Output, play_prepared, prepare};
 use crate::refusal::refuse_script;
-use crate::status::Status;
+use call_status::Status;
 use cam_types::{SCRIPT_BYTES, Script};
 use generated_scripts::{generate, generated_scripts_are_valid};
 use io_edge::{ReadBytes, ReadFault, Sink, Source, read_all};
@@ -31,7 +31,8 @@ pub fn play_call<S: Source, K: Sink>(alloc: Global, source: &mut S, sink: &mut K
     ensures source_failed { result.number ≡ 3 → Rose (S.faults source.old) (S.faults source.new)
         × WritesNothing (K.state sink.old) (K.state sink.new) }
     ensures sink_failed { result.number ≡ 4 → Rose (K.state sink.old).faults (K.state sink.new).faults }
-    ensures no_memory { result.number ≡ 5 → WritesNothing (K.state sink.old) (K.state sink.new) }
+    ensures no_memory { result.number ≡ 5 → (S.faults source.new ≡ S.faults source.old)
+        × Untouched (K.state sink.old) (K.state sink.new) }
     ensures known { result.number ≤ 5 }
     ensures no_usage { result.number ≢ 2 }
 {
@@ -53,7 +54,7 @@ pub fn gen_call<K: Sink>(alloc: Global, seed: u64, count: u32, sink: &mut K) -> 
     // The status is 0, or 4 or 5 for its reason.
     ensures tells { TellsBy (SaysOfSeed seed count) result.number (K.state sink.old) (K.state sink.new) }
     ensures sink_failed { result.number ≡ 4 → Rose (K.state sink.old).faults (K.state sink.new).faults }
-    ensures no_memory { result.number ≡ 5 → WritesNothing (K.state sink.old) (K.state sink.new) }
+    ensures no_memory { result.number ≡ 5 → Untouched (K.state sink.old) (K.state sink.new) }
     ensures known { (result.number ≡ 0) ⊎ ((result.number ≡ 4) ⊎ (result.number ≡ 5)) }
 {
     a_complete_run_keeps_the_laws();

@@ -2,10 +2,10 @@
 ghost use Rattle.std.specs.Prelude.{◌≡◌, IfOk, IsTrue};
 ghost use Rattle.cam_types.specs.Script.{is_valid};
 ghost use Rattle.io_edge.specs.States.{Breaks, Writes};
-ghost use Rattle.camera_top.specs.Answers.{Answers};
+ghost use Rattle.call_status.specs.Answers.{Answers};
 ghost use Rattle.camera_top.specs.Says.{PlaysAs, named_profile, text_in};
 
-use crate::status::Status;
+use call_status::Status;
 use cam_types::{NoMemory, Profile, Script};
 use io_edge::Sink;
 use job_hands::Hands;

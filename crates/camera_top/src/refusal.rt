@@ -2,9 +2,9 @@
 ghost use Rattle.std.specs.Prelude.{◌≡◌, ◌⊎◌};
 ghost use Rattle.io_edge.specs.States.{WritesNothing};
 ghost use Rattle.judge_text.specs.Lines.{refused_script_text, refused_trace_text};
-ghost use Rattle.camera_top.specs.Answers.{AnswersWithMemory};
+ghost use Rattle.call_status.specs.Answers.{AnswersWithMemory};
 
-use crate::status::{Status, answer};
+use call_status::{Status, answer};
 use io_edge::Sink;
 use judge_text::{refused_script_text, refused_trace_text};
 use std::alloc::Global;

@@ -1,7 +1,7 @@
 //! How the program ends, and the answer that is written.
 ghost use Rattle.std.specs.Prelude.{◌≡◌, ◌⊎◌, ◌<◌, length};
 ghost use Rattle.io_edge.specs.States.{Writes};
-ghost use Rattle.camera_top.specs.Answers.{Answers};
+ghost use Rattle.call_status.specs.Answers.{Answers};
 
 use io_edge::{Sink, write_all};
 

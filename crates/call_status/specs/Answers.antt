@@ -1,19 +1,16 @@
-use Rattle.std.specs.Prelude.{◌≡◌, ℕ, ◌⊎◌, List, ◌++◌, Option, IfSome, codes}
+use Rattle.std.specs.Prelude.{◌≡◌, ℕ, ◌⊎◌, List, Option, IfSome}
 use Rattle.io_edge.specs.Faults.{Rose}
 use Rattle.io_edge.specs.States.{Breaks, SinkState, Writes, WritesNothing}
 
--- What the program answers, and what it writes then: the states of the sink before and after a call. (docs/FORMATS.md)
-
-abbrev pub usage_line : List ℕ
-usage_line = codes "usage: camera play | run --workers N | check | gen SEED COUNT | convert | help\n"
-
--- what `help` writes
-abbrev pub help_text : List ℕ
-help_text = codes "camera: plays, runs and judges HAL3 camera scripts\n" ++ usage_line
+-- What a command answers, and what it writes then: the states of the sink before and after a call. (docs/FORMATS.md)
 
 -- the whole text was written and no fault was counted
 abbrev pub Written : List ℕ → SinkState → SinkState → Type 0
 Written text before after = Writes before after text × (after.faults ≡ before.faults)
+
+-- nothing was written and no fault was counted
+abbrev pub Untouched : SinkState → SinkState → Type 0
+Untouched before after = WritesNothing before after × (after.faults ≡ before.faults)
 
 -- the sink failed, and a front of the text was written
 abbrev pub Broken : List ℕ → SinkState → SinkState → Type 0
@@ -24,16 +21,16 @@ abbrev pub Answers : ℕ → List ℕ → ℕ → SinkState → SinkState → Ty
 Answers wanted text status before after =
     ((status ≡ wanted) × Written text before after) ⊎ ((status ≡ 4) × Broken text before after)
 
--- the same, or the status is 5, memory ran out and nothing was written
+-- the same, or the status is 5, memory ran out, nothing was written and no fault was counted
 abbrev pub AnswersWithMemory : ℕ → List ℕ → ℕ → SinkState → SinkState → Type 0
 AnswersWithMemory wanted text status before after =
-    ((status ≡ 5) × WritesNothing before after) ⊎ Answers wanted text status before after
+    ((status ≡ 5) × Untouched before after) ⊎ Answers wanted text status before after
 
 -- What a call answers and writes: a status and a text that belong to its input; 4 and a front of that text where the
--- sink failed; 5 where memory ran out, and nothing is written.
+-- sink failed; 5 where memory ran out, nothing is written and no fault is counted.
 abbrev pub TellsBy : (ℕ → List ℕ → Type 0) → ℕ → SinkState → SinkState → Type 0
 TellsBy Belongs status before after =
-    ((status ≡ 5) × WritesNothing before after)
+    ((status ≡ 5) × Untouched before after)
     ⊎ ((wanted : ℕ) × (text : List ℕ) × Belongs wanted text × Answers wanted text status before after)
 
 -- The same of a call that reads its input: what the source has left, where it tells that. At status 3 the source
