@@ -1,4 +1,6 @@
 //! The steps that add an entry and give out no job.
+ghost use Rattle.std.specs.Prelude.{◌≡◌, false};
+ghost use Rattle.job_moves.specs.Outs.{moves_a_job};
 ghost use Rattle.service_core.specs.Answers.{AnswersStep};
 
 use crate::note::note;
@@ -94,5 +96,29 @@ impl Service {
     {
         let entry = self.state.finish(frame, stream);
         note(&mut self.log, StepName::Finish(frame, stream), entry)
+    }
+
+    /// Makes a step that gives out no job and takes none back, where it is ready.
+    pub fn make(&mut self, step: StepName) -> Step
+        requires { moves_a_job step ≡ false }
+        ensures { AnswersStep step self.old result self.new }
+    {
+        match step {
+            StepName::Send => self.send(),
+            StepName::Release(buffer) => self.release(buffer),
+            StepName::Signal(fence) => self.signal(fence),
+            StepName::Client => self.client(),
+            StepName::DropQueued => self.drop_queued(),
+            StepName::Fail(frame) => self.fail(frame),
+            StepName::ReturnFailed(frame, stream) => self.return_failed(frame, stream),
+            StepName::Partial(frame) => self.partial(frame),
+            StepName::Deliver(frame, stream) => self.deliver(frame, stream),
+            StepName::Early(frame, stream) => self.early(frame, stream),
+            StepName::Finish(frame, stream) => self.finish(frame, stream),
+            StepName::Shutter => unreachable!(),
+            StepName::SensorDone(_) => unreachable!(),
+            StepName::TakeFill(_, _) => unreachable!(),
+            StepName::FillDone(_, _) => unreachable!(),
+        }
     }
 }

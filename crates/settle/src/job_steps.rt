@@ -1,12 +1,13 @@
 //! The steps that take a job out, which then is in the player's hands, and those that give one back: it is worked on
 //! just before.
-ghost use Rattle.std.specs.Prelude.{IsTrue};
+ghost use Rattle.std.specs.Prelude.{◌≡◌, Some, IsTrue, option_map, slice_get};
+ghost use Rattle.job_hands.specs.Held.{name_of};
 ghost use Rattle.run_model.specs.declared.step.StepName.TheVariants.{FillDone, SensorDone, Shutter, TakeFill};
 ghost use Rattle.run_model.specs.Ready.{is_ready};
-ghost use Rattle.settle.specs.Stepping.{HoldsJobs, MakesStep};
+ghost use Rattle.settle.specs.Stepping.{EndsJob, HoldsJobs, MakesStep};
 
 use cam_types::{FrameNo, StreamIx};
-use job_hands::Hands;
+use job_hands::{Hands, JobName, the_first_job_is_found_by_its_frame};
 use job_moves::{
     a_move_gives_a_job_back, a_move_takes_a_job_out, few_jobs_are_out, jobs_that_end_are_out,
 };
@@ -83,5 +84,19 @@ pub(crate) fn end_fill(service: &mut Service, hands: &mut Hands, frame: FrameNo,
             service.is_a_run();
         }
         None => unreachable!(),
+    }
+}
+
+/// Ends the first job in hand.
+pub(crate) fn end_job(service: &mut Service, hands: &mut Hands, job: JobName)
+    requires jobs { HoldsJobs service.old hands.old }
+    requires first { option_map name_of (slice_get hands.old 0) ≡ Some job }
+    ensures ended { EndsJob service.old service.new }
+    ensures jobs { HoldsJobs service.new hands.new }
+{
+    the_first_job_is_found_by_its_frame();
+    match job.stream {
+        Some(stream) => end_fill(service, hands, job.frame, stream),
+        None => end_exposure(service, hands, job.frame),
     }
 }

@@ -1,8 +1,9 @@
 //! Runs to their end: by the script's picks, or by the first candidates.
 ghost use Rattle.std.specs.Prelude.{◌≡◌, []};
 ghost use Rattle.run_model.specs.Played.{IsPlayed, IsPlayedRun};
-ghost use Rattle.settle.specs.Stepping.{HoldsJobs, IsSettledBy};
+ghost use Rattle.settle.specs.Stepping.{HoldsJobs, IsFinishedBy, IsSettledBy};
 
+use crate::job_steps::end_job;
 use crate::stepping::{Stepped, pick_step, step_at};
 use job_hands::Hands;
 use job_moves::{jobs_that_end_are_out, no_job_is_out_at_rest};
@@ -24,7 +25,7 @@ pub fn play(service: &mut Service, hands: &mut Hands)
     service.is_a_run();
 }
 
-/// Makes the first candidates until the run is complete, and answers how many. No job is out then.
+/// Makes the first candidate again and again until the run is complete, and answers how many. No job is out then.
 pub fn settle(service: &mut Service, hands: &mut Hands) -> u64
     requires { HoldsJobs service.old hands.old }
     ensures settled { IsSettledBy service.old service.new result }
@@ -39,6 +40,19 @@ pub fn settle(service: &mut Service, hands: &mut Hands) -> u64
     }
     service.is_a_run();
     count
+}
+
+/// Works on the jobs in hand and gives them back. No job is out then.
+pub fn finish(service: &mut Service, hands: &mut Hands)
+    requires { HoldsJobs service.old hands.old }
+    ensures finished { IsFinishedBy service.old service.new }
+    ensures jobs { HoldsJobs service.new hands.new }
+    ensures none { hands.new ≡ [] }
+{
+    while let Some(job) = hands.first() {
+        end_job(service, hands, job);
+        service.is_a_run();
+    }
 }
 
 /// Ends a service of which no job is out, and the hands.

@@ -1,7 +1,6 @@
 //! A step that is ready is made, whatever its kind.
 ghost use Rattle.std.specs.Prelude.{◌≡◌, false, IsTrue};
 ghost use Rattle.run_model.specs.Ready.{is_ready};
-ghost use Rattle.service_core.specs.Answers.{AnswersStep};
 ghost use Rattle.job_moves.specs.Outs.{moves_a_job};
 ghost use Rattle.settle.specs.Stepping.{HoldsJobs, MakesStep};
 
@@ -36,32 +35,8 @@ fn make_alone(service: &mut Service, hands: &Hands, step: StepName)
     ensures jobs { HoldsJobs service.new hands.now }
 {
     other_moves_leave_the_jobs();
-    match try_step(service, step) {
+    match service.make(step) {
         Step::Did(_) => service.is_a_run(),
         Step::NotReady => unreachable!(),
-    }
-}
-
-/// Makes a step that is of no job, where it is ready.
-fn try_step(service: &mut Service, step: StepName) -> Step
-    requires { moves_a_job step ≡ false }
-    ensures { AnswersStep step service.old result service.new }
-{
-    match step {
-        StepName::Send => service.send(),
-        StepName::Release(buffer) => service.release(buffer),
-        StepName::Signal(fence) => service.signal(fence),
-        StepName::Client => service.client(),
-        StepName::DropQueued => service.drop_queued(),
-        StepName::Fail(frame) => service.fail(frame),
-        StepName::ReturnFailed(frame, stream) => service.return_failed(frame, stream),
-        StepName::Partial(frame) => service.partial(frame),
-        StepName::Deliver(frame, stream) => service.deliver(frame, stream),
-        StepName::Early(frame, stream) => service.early(frame, stream),
-        StepName::Finish(frame, stream) => service.finish(frame, stream),
-        StepName::Shutter => unreachable!(),
-        StepName::SensorDone(_) => unreachable!(),
-        StepName::TakeFill(_, _) => unreachable!(),
-        StepName::FillDone(_, _) => unreachable!(),
     }
 }

@@ -1,4 +1,6 @@
 //! Scripts are settled in the steps that their worked runs have.
+ghost use Rattle.settle.specs.Stepping.{HoldsJobs};
+
 use super::*;
 use cam_types::{
     Command, CommandList, FaultList, Format, Item, PickList, Profile, Script, Settings, SpecList,
@@ -6,6 +8,8 @@ use cam_types::{
 };
 use job_hands::Hands;
 use job_moves::no_job_is_out_at_first;
+use run_model::{Kind, StepName};
+use service_choice::{candidates, first, is_ready};
 use service_core::Service;
 use std::alloc::{AllocError, Global};
 use std::process::Abort;
@@ -86,5 +90,56 @@ fn one_frame_is_settled_in_sixteen_steps(rt: HostRuntime) -> Result<(), Fail> {
     let alloc = rt.alloc();
     let script = script_of(alloc, one_capture(alloc)?);
     assert_eq!(rt; steps_of(&rt, alloc, script)?, 16);
+    Ok(())
+}
+
+/// Makes so many steps, each the first candidate.
+fn go_on(service: &mut Service, hands: &mut Hands, steps: u64)
+    requires { HoldsJobs service.old hands.old }
+    ensures { HoldsJobs service.new hands.new }
+{
+    for _ in 0..steps {
+        let _ = step_at(service, hands, 0);
+    }
+}
+
+/// Once the configuration and the request are accepted, the frame may be sent, or the close begin.
+#[test]
+fn candidates_stand_in_their_order(rt: HostRuntime) -> Result<(), Fail> {
+    let alloc = rt.alloc();
+    let script = script_of(alloc, one_capture(alloc)?);
+    assert!(rt; script.is_valid());
+    no_job_is_out_at_first();
+    let mut service = Service::open(alloc, script)?;
+    let mut hands = Hands::new();
+    go_on(&mut service, &mut hands, 3);
+    let listed = candidates(alloc, &service);
+    let send = first(&service, Kind::Send);
+    let shutter = first(&service, Kind::Shutter);
+    let may_drop = is_ready(&service, StepName::DropQueued);
+    let steps = settle(&mut service, &mut hands);
+    close(service, hands);
+    assert_eq!(rt; listed?.as_slice(), &[StepName::Send, StepName::Client][..]);
+    assert_eq!(rt; (send, shutter, may_drop), (Some(StepName::Send), None, false));
+    assert_eq!(rt; steps, 13);
+    Ok(())
+}
+
+/// The sixth step of one frame is its shutter: the sensor's job is in hand, and is given back without another step.
+#[test]
+fn a_job_in_hand_is_finished(rt: HostRuntime) -> Result<(), Fail> {
+    let alloc = rt.alloc();
+    let script = script_of(alloc, one_capture(alloc)?);
+    assert!(rt; script.is_valid());
+    no_job_is_out_at_first();
+    let mut service = Service::open(alloc, script)?;
+    let mut hands = Hands::new();
+    go_on(&mut service, &mut hands, 6);
+    let was_held = !hands.is_empty();
+    finish(&mut service, &mut hands);
+    let steps = settle(&mut service, &mut hands);
+    close(service, hands);
+    assert!(rt; was_held);
+    assert_eq!(rt; steps, 9);
     Ok(())
 }

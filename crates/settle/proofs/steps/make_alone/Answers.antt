@@ -5,7 +5,7 @@ use Rattle.settle.proofs.steps.make_alone.Goals as goal
 pub returns-clause-jobs : goal.returns-clause-jobs
 returns-clause-jobs c =
     let old = c.args.service.now in
-    let new = c.try_step.new.service in
+    let new = c.make.new.self in
     let made = c.in-Did.ensures in
     let m = adds c.args.step c.in-Did.field-0 in
     let run = run_on old new m made.left c.is_a_run.ensures.run in
