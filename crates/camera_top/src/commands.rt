@@ -73,7 +73,7 @@ pub fn camera_main<S: Source, K: Sink>(
         Some(Form::Convert) => convert_call(alloc, source, sink),
         Some(Form::Help) => help_call(sink),
         Some(Form::Gen { seed, count }) => gen_call(alloc, seed, count, sink),
-        Some(Form::Run { .. }) | None => usage(sink),
+        Some(Form::Run { .. } | Form::Auto | Form::Reprocess) | None => usage(sink),
     }
 }
 

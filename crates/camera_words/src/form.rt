@@ -11,7 +11,7 @@ const WORKER_LIMIT: u64 = 8;
 /// The most commands of a script that is made.
 const COUNT_LIMIT: u64 = 200;
 
-/// What the words ask for: `play`, `run --workers N`, `check`, `gen SEED COUNT`, `convert` or `help`.
+/// What the words ask for: `play`, `run --workers N`, `check`, `gen SEED COUNT`, `convert`, `auto`, `reprocess` or `help`.
 #[derive(Clone, Copy, Debug, PartialEq, Eq)]
 pub enum Form {
     Play,
@@ -19,6 +19,8 @@ pub enum Form {
     Check,
     Gen { seed: u64, count: u32 },
     Convert,
+    Auto,
+    Reprocess,
     Help,
 }
 
@@ -31,6 +33,8 @@ fn alone(word: &str) -> Option<Form>
         "play" => Some(Form::Play),
         "check" => Some(Form::Check),
         "convert" => Some(Form::Convert),
+        "auto" => Some(Form::Auto),
+        "reprocess" => Some(Form::Reprocess),
         "help" => Some(Form::Help),
         _ => None,
     }
