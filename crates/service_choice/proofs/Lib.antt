@@ -1,1 +1,3 @@
-pub mod Kinds
+pub mod FirstOfKind
+pub mod Listed
+pub mod Reading

@@ -534,21 +534,29 @@ fn open(alloc: Global, commands: CommandList, early: bool) -> Result<Service, No
     }
 }
 
-/// Makes these steps, which are of no job. A job that is out stays out.
+/// Makes these steps, but for those of jobs. A job that is out stays out.
 fn make_all(service: &mut Service, steps: &[StepName])
     ensures { (job : SomeJob) → IsJobOut service.old.script service.old.history job →
         IsJobOut service.new.script service.new.history job }
 {
     for step in steps {
-        match *step {
-            StepName::Shutter => {}
-            StepName::SensorDone(_) => {}
-            StepName::TakeFill(_, _) => {}
-            StepName::FillDone(_, _) => {}
-            alone => {
-                let _ = service.make(alone);
-                service.is_a_run();
-            }
+        make_alone(service, *step);
+    }
+}
+
+/// Makes a step, if it isn't one of a job. A job that is out stays out.
+fn make_alone(service: &mut Service, step: StepName)
+    ensures { (job : SomeJob) → IsJobOut service.old.script service.old.history job →
+        IsJobOut service.new.script service.new.history job }
+{
+    match step {
+        StepName::Shutter => {}
+        StepName::SensorDone(_) => {}
+        StepName::TakeFill(_, _) => {}
+        StepName::FillDone(_, _) => {}
+        alone => {
+            let _ = service.make(alone);
+            service.is_a_run();
         }
     }
 }

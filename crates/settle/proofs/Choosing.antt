@@ -1,5 +1,5 @@
 -- The candidate that is chosen is ready, and one is chosen where there is some.
-use Rattle.std.proofs.Common.{◌≡◌, ℕ, zero, suc, ◌%◌, ◌<◌, Bool, true, List, [], ◌∷◌, Some, None, sym, ap, ◌∙◌, arith, inl, inr, length, filter, slice_get}
+use Rattle.std.proofs.Common.{◌≡◌, ℕ, zero, suc, ◌%◌, ◌<◌, Bool, true, List, [], ◌∷◌, Some, None, arith, inl, inr, length, filter, slice_get}
 use Rattle.std.proofs.lemmas.Bool.{cases_Bool}
 use Rattle.cam_types.specs.declared.script.Script.{Script}
 use Rattle.run_model.specs.declared.step.Move.{Move}
@@ -7,15 +7,6 @@ use Rattle.run_model.specs.declared.step.StepName.{StepName}
 use Rattle.run_model.specs.History.{trace_of}
 use Rattle.run_model.specs.Played.{candidates, steps}
 use Rattle.run_model.specs.Ready.{is_ready}
-use Rattle.ready_steps.specs.Candidates.{candidates_by}
-use Rattle.room_log.specs.State.{State}
-use Rattle.service_core.specs.Answers.{serving}
-use Rattle.service_parts.specs.Parts.{parts}
-use Rattle.service_state.specs.Serving.{Serving}
-
--- the candidates, read from the parts
-pub read : (s : State) (v : Serving) → v ≡ serving s → candidates s.script s.history ≡ candidates_by s.script (parts s.script s.history) → candidates_by v.script v.parts ≡ candidates s.script s.history
-read s v same law = ap (λ (x : Serving). candidates_by x.script x.parts) same ∙ sym law
 
 got : (xs : List StepName) (i : ℕ) → i < length xs → slice_get xs i ≡ None → ⊥
 got [] i l h = absurd (omega arith)

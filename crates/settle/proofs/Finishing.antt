@@ -1,18 +1,16 @@
 -- Jobs that are given back one by one.
-use Rattle.std.proofs.Common.{◌≡◌, ℕ, true, List, [], ◌∷◌, ◌++◌, Option, Some, None, refl, sym, ap, ◌∙◌, slice_get, subst, IsTrue}
+use Rattle.std.proofs.Common.{◌≡◌, true, List, [], ◌∷◌, Option, Some, None, refl, sym, ap, ◌∙◌, slice_get, subst}
 use Rattle.std.specs.Option.{option_map}
 use Rattle.cam_types.specs.declared.job.FillTarget.{FillTarget}
 use Rattle.cam_types.specs.declared.job.JobView.{JobView}
-use Rattle.cam_types.specs.declared.number.FrameNo.{FrameNo}
 use Rattle.cam_types.specs.declared.number.StreamIx.{StreamIx}
 use Rattle.cam_types.specs.declared.script.Script.{Script}
 use Rattle.job_hands.specs.Held.{held_at, name_of}
 use Rattle.job_hands.specs.declared.name.JobName.{JobName}
 use Rattle.job_moves.specs.Outs.{AreOut}
 use Rattle.run_model.specs.declared.step.Move.{Move}
-use Rattle.run_model.specs.declared.step.StepName.{StepName}
 use Rattle.run_model.specs.declared.step.StepName.TheVariants.{FillDone, SensorDone}
-use Rattle.run_model.specs.Jobs.{IsFillJob, IsJobOut, IsOutWith, is_fill_out, is_sensor_out}
+use Rattle.run_model.specs.Jobs.{IsJobOut, IsOutWith, is_fill_out, is_sensor_out}
 use Rattle.run_model.specs.Ready.{is_ready}
 use Rattle.room_log.specs.State.{State}
 use Rattle.service_core.specs.Answers.{after}
@@ -65,3 +63,8 @@ fill_ready script h name stream first some =
     let is = ap (λ (n : JobName). n.stream) first.named ∙ some in
     let out : is_fill_out h name.frame.0 stream.0 ≡ true = rw frame at (fill-out script h first.job first.job.fill stream first.out is) in
     rw out refl
+
+-- no job is the first of no jobs alone
+pub none_left : (jobs : List JobView) → option_map name_of (slice_get jobs 0) ≡ None → jobs ≡ []
+none_left [] none = refl
+none_left (job ∷ jobs) none = absurd (cc)

@@ -120,7 +120,10 @@ fn candidates_stand_in_their_order(rt: HostRuntime) -> Result<(), Fail> {
     let steps = settle(&mut service, &mut hands);
     close(service, hands);
     assert_eq!(rt; listed?.as_slice(), &[StepName::Send, StepName::Client][..]);
-    assert_eq!(rt; (send, shutter, may_drop), (Some(StepName::Send), None, false));
+    assert_eq!(rt;
+        (send, shutter, may_drop),
+        (Some(StepName::Send), None, false)
+    );
     assert_eq!(rt; steps, 13);
     Ok(())
 }
