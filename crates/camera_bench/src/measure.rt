@@ -6,7 +6,7 @@ ghost use Rattle.cam_types.specs.Picture.{is_yuv_size};
 
 use cam_types::{BufferId, FrameNo, PixelBuf, Readout, Settings};
 use raw_stage::{fill_raw, fill_raw_bands};
-use sensor_sim::{SensorJob, a_readout_lies_between_dark_and_full};
+use sensor_sim::{ExposedJob, SensorJob, a_readout_lies_between_dark_and_full};
 use sha2::{Digest, Sha256};
 use std::alloc::Global;
 use std::io;
@@ -83,6 +83,16 @@ const DEAREST: Cost = Cost {
     seen: 0,
 };
 
+/// Exposes in so many bands, or by the plain call.
+fn expose<R: Threads + Sync>(rt: &R, bands: Option<u32>, job: SensorJob) -> ExposedJob
+    requires { IfSome bands (λ n. (1 ≤ n) × (n ≤ 8)) }
+{
+    match bands {
+        None => job.expose(),
+        Some(bands) => job.expose_bands(rt, bands),
+    }
+}
+
 /// Times a round of exposures, each in so many bands or by the plain call, and gives the readout back.
 fn expose_round<R: Clock + Threads + Sync>(
     rt: &R,
@@ -96,11 +106,7 @@ fn expose_round<R: Clock + Threads + Sync>(
     let start = Instant::now(rt);
     for n in 0..FRAMES {
         let job = SensorJob::new(FrameNo(n), ramp(), readout);
-        let exposed = match bands {
-            None => job.expose(),
-            Some(bands) => job.expose_bands(rt, bands),
-        };
-        let (_, _, back) = exposed.into_parts();
+        let (_, _, back) = expose(rt, bands, job).into_parts();
         seen ^= back.values()[n as usize].to_le_bytes()[0];
         readout = back;
     }
@@ -125,6 +131,24 @@ pub fn time_expose<R: Clock + Threads + Sync>(
     best
 }
 
+/// Fills with the RAW16 picture in so many bands, or by the plain call.
+fn draw_raw<R: Threads + Sync>(
+    rt: &R,
+    bands: Option<u32>,
+    readout: &Readout,
+    out: &mut PixelBuf,
+) -> [u8; 32]
+    requires bands { IfSome bands (λ n. (1 ≤ n) × (n ≤ 8)) }
+    requires values { All (λ v. (64 ≤ v) × (v ≤ 1023)) readout.now }
+    requires room { length out.old.bytes ≡ 38400 }
+    ensures { length out.new.bytes ≡ 38400 }
+{
+    match bands {
+        None => fill_raw(readout, out),
+        Some(bands) => fill_raw_bands(rt, readout, bands, out),
+    }
+}
+
 /// Times a round of the RAW16 fill.
 fn raw_round<R: Clock + Threads + Sync>(
     rt: &R,
@@ -140,11 +164,7 @@ fn raw_round<R: Clock + Threads + Sync>(
     let mut seen = 0;
     let start = Instant::now(rt);
     for _ in 0..FRAMES {
-        let digest = match bands {
-            None => fill_raw(readout, out),
-            Some(bands) => fill_raw_bands(rt, readout, bands, out),
-        };
-        seen ^= digest[0];
+        seen ^= draw_raw(rt, bands, readout, out)[0];
     }
     cost_since(rt, start, seen)
 }
@@ -168,6 +188,27 @@ pub fn time_raw<R: Clock + Threads + Sync>(
     best
 }
 
+/// Fills with the YUV picture in so many bands, or by the plain call.
+fn draw_yuv<R: Threads + Sync>(
+    rt: &R,
+    bands: Option<u32>,
+    readout: &Readout,
+    width: u32,
+    height: u32,
+    out: &mut PixelBuf,
+) -> [u8; 32]
+    requires bands { IfSome bands (λ n. (1 ≤ n) × (n ≤ 8)) }
+    requires values { All (λ v. (64 ≤ v) × (v ≤ 1023)) readout.now }
+    requires size { IsTrue (is_yuv_size width height) }
+    requires room { length out.old.bytes ≡ width * height * 3 / 2 }
+    ensures { length out.new.bytes ≡ width * height * 3 / 2 }
+{
+    match bands {
+        None => fill_yuv(readout, width, height, out),
+        Some(bands) => fill_yuv_bands(rt, readout, width, height, bands, out),
+    }
+}
+
 /// Times a round of the YUV fill.
 fn yuv_round<R: Clock + Threads + Sync>(
     rt: &R,
@@ -186,11 +227,7 @@ fn yuv_round<R: Clock + Threads + Sync>(
     let mut seen = 0;
     let start = Instant::now(rt);
     for _ in 0..FRAMES {
-        let digest = match bands {
-            None => fill_yuv(readout, width, height, out),
-            Some(bands) => fill_yuv_bands(rt, readout, width, height, bands, out),
-        };
-        seen ^= digest[0];
+        seen ^= draw_yuv(rt, bands, readout, width, height, out)[0];
     }
     cost_since(rt, start, seen)
 }

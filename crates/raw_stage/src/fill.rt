@@ -51,6 +51,13 @@ fn write_bands<R: Threads + Sync>(rt: &R, bands: u32, values: &[u16], bytes: &mu
     );
 }
 
+/// The SHA-256 of what a buffer shows.
+fn digest_of(out: &PixelBuf) -> [u8; 32]
+    ensures { result ≡ sha256 out.now.bytes }
+{
+    Sha256::digest(out.bytes())
+}
+
 /// Writes the RAW16 picture of a readout into a buffer that shows its 38,400 bytes, and answers the SHA-256 of them.
 /// It takes no memory.
 pub fn fill_raw(readout: &Readout, out: &mut PixelBuf) -> [u8; 32]
@@ -61,7 +68,7 @@ pub fn fill_raw(readout: &Readout, out: &mut PixelBuf) -> [u8; 32]
     ensures digest { result ≡ sha256 (raw_picture readout.now) }
 {
     write_bytes(readout.values(), out.bytes_mut());
-    Sha256::digest(out.bytes())
+    digest_of(out)
 }
 
 /// Writes the RAW16 picture of a readout as `fill_raw` does, its rows in 1 to 8 bands that are written side by side, each
@@ -81,5 +88,5 @@ pub fn fill_raw_bands<R: Threads + Sync>(
     ensures digest { result ≡ sha256 (raw_picture readout.now) }
 {
     write_bands(rt, bands, readout.values(), out.bytes_mut());
-    Sha256::digest(out.bytes())
+    digest_of(out)
 }

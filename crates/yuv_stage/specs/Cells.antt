@@ -8,9 +8,9 @@ at_cell part values x y = part (red_of values x y) (green_of values x y) (blue_o
 -- whole rows of the plane Y of a picture of the sensor's size, from the row 2 * pair on: two rows have the same cells
 abbrev pub AreWideRows : List ℕ → ℕ → List ℕ → Type 0
 AreWideRows values pair rows = (k : ℕ) → k < length rows →
-  slice_index rows k ≡ at_cell luma values (k % 160 / 2 * 2) ((k / 320 + pair) * 2)
+    slice_index rows k ≡ at_cell luma values (k % 160 / 2 * 2) ((k / 320 + pair) * 2)
 
 -- whole rows of one of the planes Cb and Cr, from a row on: cells are so many columns and rows of the sensor apart
 abbrev pub AreChromaRows : (ℕ → ℕ → ℕ → ℕ) → List ℕ → ℕ → ℕ → ℕ → List ℕ → Type 0
 AreChromaRows part values step width first rows = (k : ℕ) → k < length rows →
-  slice_index rows k ≡ at_cell part values (k % width * step) ((k / width + first) * step)
+    slice_index rows k ≡ at_cell part values (k % width * step) ((k / width + first) * step)

@@ -79,6 +79,13 @@ fn write_picture(values: &[u16], width: u32, height: u32, bytes: &mut [u8])
     }
 }
 
+/// The SHA-256 of what a buffer shows.
+fn digest_of(out: &PixelBuf) -> [u8; 32]
+    ensures { result ≡ sha256 out.now.bytes }
+{
+    Sha256::digest(out.bytes())
+}
+
 /// Writes the YUV picture of a readout, of 160 x 120, 80 x 60 or 40 x 30 pixels, into a buffer that shows its bytes,
 /// three for two pixels, and answers the SHA-256 of them. It takes no memory.
 pub fn fill_yuv(readout: &Readout, width: u32, height: u32, out: &mut PixelBuf) -> [u8; 32]
@@ -91,7 +98,7 @@ pub fn fill_yuv(readout: &Readout, width: u32, height: u32, out: &mut PixelBuf) 
     ensures digest { result ≡ sha256 (yuv_picture width height readout.now) }
 {
     write_picture(readout.values(), width, height, out.bytes_mut());
-    Sha256::digest(out.bytes())
+    digest_of(out)
 }
 
 /// Writes the YUV picture of a readout as `fill_yuv` does, the rows of one of 160 x 120 in 1 to 8 bands that are written
@@ -119,5 +126,5 @@ pub fn fill_yuv_bands<R: Threads + Sync>(
         return fill_yuv(readout, width, height, out);
     }
     write_wide_bands(rt, bands, readout.values(), out.bytes_mut());
-    Sha256::digest(out.bytes())
+    digest_of(out)
 }
