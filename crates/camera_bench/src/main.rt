@@ -13,7 +13,7 @@ fn main(rt: HostRuntime) -> io::Result<()> {
         .skip(1)
         .any(|word| word.as_str() == "measure")
     {
-        report::print_costs(&rt)
+        report::print_costs(&rt, rt.alloc())
     } else {
         println!(rt;
             "With the word measure: what an exposure, a RAW16 fill and the YUV fills cost beside their digests."

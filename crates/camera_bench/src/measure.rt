@@ -1,17 +1,18 @@
 //! Measures what a frame takes, by kinds of work.
-ghost use Rattle.std.specs.Prelude.{◌≡◌, ◌*◌, ◌/◌, ◌<◌, ◌≤◌, ◌^◌, None, IfOk, IsTrue, length};
+ghost use Rattle.std.specs.Prelude.{◌≡◌, ◌*◌, ◌/◌, ◌<◌, ◌≤◌, ◌^◌, None, IfOk, IfSome, IsTrue, length};
 ghost use Rattle.std.specs.List.{All};
 ghost use Rattle.cam_types.specs.Metadata.{range_fault};
 ghost use Rattle.cam_types.specs.Picture.{is_yuv_size};
 
 use cam_types::{BufferId, FrameNo, PixelBuf, Readout, Settings};
-use raw_stage::fill_raw;
-use sensor_sim::{SensorJob, a_readout_lies_between_dark_and_full};
+use raw_stage::{fill_raw, fill_raw_bands};
+use sensor_sim::{ExposedJob, SensorJob, a_readout_lies_between_dark_and_full};
 use sha2::{Digest, Sha256};
 use std::alloc::Global;
 use std::io;
+use std::thread::{Threads, join};
 use std::time::{Clock, Instant};
-use yuv_stage::fill_yuv;
+use yuv_stage::{fill_yuv, fill_yuv_bands};
 
 /// The frames of a round.
 const FRAMES: u32 = 8;
@@ -82,100 +83,203 @@ const DEAREST: Cost = Cost {
     seen: 0,
 };
 
-/// Times a round of exposures, and gives the readout back.
-fn expose_round(clock: &impl Clock, readout: Readout) -> (io::Result<Cost>, Readout) {
+/// Exposes in so many bands, or by the plain call.
+fn expose<R: Threads + Sync>(rt: &R, bands: Option<u32>, job: SensorJob) -> ExposedJob
+    requires { IfSome bands (λ n. (1 ≤ n) × (n ≤ 8)) }
+{
+    match bands {
+        None => job.expose(),
+        Some(bands) => job.expose_bands(rt, bands),
+    }
+}
+
+/// Times a round of exposures, each in so many bands or by the plain call, and gives the readout back.
+fn expose_round<R: Clock + Threads + Sync>(
+    rt: &R,
+    bands: Option<u32>,
+    readout: Readout,
+) -> (io::Result<Cost>, Readout)
+    requires { IfSome bands (λ n. (1 ≤ n) × (n ≤ 8)) }
+{
     let mut readout = readout;
     let mut seen = 0;
-    let start = Instant::now(clock);
+    let start = Instant::now(rt);
     for n in 0..FRAMES {
         let job = SensorJob::new(FrameNo(n), ramp(), readout);
-        let (_, _, back) = job.expose().into_parts();
+        let (_, _, back) = expose(rt, bands, job).into_parts();
         seen ^= back.values()[n as usize].to_le_bytes()[0];
         readout = back;
     }
-    (cost_since(clock, start, seen), readout)
+    (cost_since(rt, start, seen), readout)
 }
 
-/// Times exposures.
-pub fn time_expose(rt: &HostRuntime) -> io::Result<Cost> {
-    let mut readout = Readout::new(rt.alloc())?;
+/// Times exposures in so many bands, or by the plain call.
+pub fn time_expose<R: Clock + Threads + Sync>(
+    rt: &R,
+    alloc: Global,
+    bands: Option<u32>,
+) -> io::Result<Cost>
+    requires { IfSome bands (λ n. (1 ≤ n) × (n ≤ 8)) }
+{
+    let mut readout = Readout::new(alloc)?;
     let mut best = Ok(DEAREST);
     for _ in 0..ROUNDS {
-        let (cost, back) = expose_round(rt, readout);
+        let (cost, back) = expose_round(rt, bands, readout);
         readout = back;
         best = cheaper(best, cost);
     }
     best
 }
 
+/// Fills with the RAW16 picture in so many bands, or by the plain call.
+fn draw_raw<R: Threads + Sync>(
+    rt: &R,
+    bands: Option<u32>,
+    readout: &Readout,
+    out: &mut PixelBuf,
+) -> [u8; 32]
+    requires bands { IfSome bands (λ n. (1 ≤ n) × (n ≤ 8)) }
+    requires values { All (λ v. (64 ≤ v) × (v ≤ 1023)) readout.now }
+    requires room { length out.old.bytes ≡ 38400 }
+    ensures { length out.new.bytes ≡ 38400 }
+{
+    match bands {
+        None => fill_raw(readout, out),
+        Some(bands) => fill_raw_bands(rt, readout, bands, out),
+    }
+}
+
 /// Times a round of the RAW16 fill.
-fn raw_round(clock: &impl Clock, readout: &Readout, out: &mut PixelBuf) -> io::Result<Cost>
+fn raw_round<R: Clock + Threads + Sync>(
+    rt: &R,
+    bands: Option<u32>,
+    readout: &Readout,
+    out: &mut PixelBuf,
+) -> io::Result<Cost>
+    requires bands { IfSome bands (λ n. (1 ≤ n) × (n ≤ 8)) }
     requires values { All (λ v. (64 ≤ v) × (v ≤ 1023)) readout.now }
     requires room { length out.old.bytes ≡ 38400 }
     ensures { length out.new.bytes ≡ 38400 }
 {
     let mut seen = 0;
-    let start = Instant::now(clock);
+    let start = Instant::now(rt);
     for _ in 0..FRAMES {
-        seen ^= fill_raw(readout, out)[0];
+        seen ^= draw_raw(rt, bands, readout, out)[0];
     }
-    cost_since(clock, start, seen)
+    cost_since(rt, start, seen)
 }
 
-/// Times the RAW16 fill with its digest.
-pub fn time_raw(rt: &HostRuntime, readout: &Readout) -> io::Result<Cost>
-    requires { All (λ v. (64 ≤ v) × (v ≤ 1023)) readout.now }
+/// Times the RAW16 fill with its digest, in so many bands or by the plain call.
+pub fn time_raw<R: Clock + Threads + Sync>(
+    rt: &R,
+    alloc: Global,
+    readout: &Readout,
+    bands: Option<u32>,
+) -> io::Result<Cost>
+    requires bands { IfSome bands (λ n. (1 ≤ n) × (n ≤ 8)) }
+    requires values { All (λ v. (64 ≤ v) × (v ≤ 1023)) readout.now }
 {
-    let mut out = buffer(rt.alloc(), 38_400)?;
+    let mut out = buffer(alloc, 38_400)?;
     let mut best = Ok(DEAREST);
     for _ in 0..ROUNDS {
-        best = cheaper(best, raw_round(rt, readout, &mut out));
+        best = cheaper(best, raw_round(rt, bands, readout, &mut out));
     }
     let _ = out.into_block();
     best
 }
 
+/// Fills with the YUV picture in so many bands, or by the plain call.
+fn draw_yuv<R: Threads + Sync>(
+    rt: &R,
+    bands: Option<u32>,
+    readout: &Readout,
+    width: u32,
+    height: u32,
+    out: &mut PixelBuf,
+) -> [u8; 32]
+    requires bands { IfSome bands (λ n. (1 ≤ n) × (n ≤ 8)) }
+    requires values { All (λ v. (64 ≤ v) × (v ≤ 1023)) readout.now }
+    requires size { IsTrue (is_yuv_size width height) }
+    requires room { length out.old.bytes ≡ width * height * 3 / 2 }
+    ensures { length out.new.bytes ≡ width * height * 3 / 2 }
+{
+    match bands {
+        None => fill_yuv(readout, width, height, out),
+        Some(bands) => fill_yuv_bands(rt, readout, width, height, bands, out),
+    }
+}
+
 /// Times a round of the YUV fill.
-fn yuv_round(
-    clock: &impl Clock,
+fn yuv_round<R: Clock + Threads + Sync>(
+    rt: &R,
+    bands: Option<u32>,
     readout: &Readout,
     width: u32,
     height: u32,
     out: &mut PixelBuf,
 ) -> io::Result<Cost>
+    requires bands { IfSome bands (λ n. (1 ≤ n) × (n ≤ 8)) }
     requires values { All (λ v. (64 ≤ v) × (v ≤ 1023)) readout.now }
     requires size { IsTrue (is_yuv_size width height) }
     requires room { length out.old.bytes ≡ width * height * 3 / 2 }
     ensures { length out.new.bytes ≡ width * height * 3 / 2 }
 {
     let mut seen = 0;
-    let start = Instant::now(clock);
+    let start = Instant::now(rt);
     for _ in 0..FRAMES {
-        seen ^= fill_yuv(readout, width, height, out)[0];
+        seen ^= draw_yuv(rt, bands, readout, width, height, out)[0];
     }
-    cost_since(clock, start, seen)
+    cost_since(rt, start, seen)
 }
 
-/// Times the YUV fill of a size with its digest.
-pub fn time_yuv(rt: &HostRuntime, readout: &Readout, width: u32, height: u32) -> io::Result<Cost>
+/// Times the YUV fill of a size with its digest, in so many bands or by the plain call.
+pub fn time_yuv<R: Clock + Threads + Sync>(
+    rt: &R,
+    alloc: Global,
+    readout: &Readout,
+    width: u32,
+    height: u32,
+    bands: Option<u32>,
+) -> io::Result<Cost>
+    requires bands { IfSome bands (λ n. (1 ≤ n) × (n ≤ 8)) }
     requires values { All (λ v. (64 ≤ v) × (v ≤ 1023)) readout.now }
     requires size { IsTrue (is_yuv_size width height) }
 {
-    let mut out = buffer(rt.alloc(), width * height * 3 / 2)?;
+    let mut out = buffer(alloc, width * height * 3 / 2)?;
     let mut best = Ok(DEAREST);
     for _ in 0..ROUNDS {
-        best = cheaper(best, yuv_round(rt, readout, width, height, &mut out));
+        best = cheaper(best, yuv_round(rt, bands, readout, width, height, &mut out));
     }
     let _ = out.into_block();
     best
 }
 
-/// Times the digest of so many bytes alone.
-pub fn time_digest(rt: &HostRuntime, bytes: usize) -> io::Result<Cost> {
-    let block = vec![in rt.alloc(); 7u8; bytes]?;
+/// Times a thread that does nothing, from its start until it is joined.
+pub fn time_thread<R: Clock + Threads>(rt: &R) -> io::Result<Cost> {
     let mut best = Ok(DEAREST);
     for _ in 0..ROUNDS {
-        best = cheaper(best, digest_round(rt, block.as_slice()));
+        best = cheaper(best, thread_round(rt));
+    }
+    best
+}
+
+/// Times a round of threads.
+fn thread_round<R: Clock + Threads>(rt: &R) -> io::Result<Cost> {
+    let mut seen = 0;
+    let start = Instant::now(rt);
+    for n in 0..FRAMES {
+        let (one, other) = join(rt, || n, || n + 1);
+        seen ^= one ^ other;
+    }
+    cost_since(rt, start, seen.to_le_bytes()[0])
+}
+
+/// Times the digest of so many bytes alone.
+pub fn time_digest(clock: &impl Clock, alloc: Global, bytes: usize) -> io::Result<Cost> {
+    let block = vec![in alloc; 7u8; bytes]?;
+    let mut best = Ok(DEAREST);
+    for _ in 0..ROUNDS {
+        best = cheaper(best, digest_round(clock, block.as_slice()));
     }
     best
 }

@@ -1,13 +1,21 @@
 //! Prints what was measured, beside the digest of as many bytes.
-use crate::measure::{Cost, exposed, ramp, time_digest, time_expose, time_raw, time_yuv};
-use cam_types::FrameNo;
-use std::io;
+ghost use Rattle.std.specs.Prelude.{◌≤◌};
+ghost use Rattle.std.specs.List.{All};
 
-/// Microseconds with one decimal.
-fn print_line(rt: &HostRuntime, name: &str, work: Cost, digest: Cost) -> io::Result<()> {
+use crate::measure::{
+    Cost, exposed, ramp, time_digest, time_expose, time_raw, time_thread, time_yuv,
+};
+use cam_types::{FrameNo, Readout};
+use std::alloc::Global;
+use std::io;
+use std::thread::Threads;
+use std::time::Clock;
+
+/// Prints what a frame takes and what its digest takes, in microseconds with one decimal, and the ratio of the two.
+fn print_cost(rt: &impl Print, work: Cost, digest: Cost) -> io::Result<()> {
     let percent = work.nanos.saturating_mul(100) / digest.nanos.max(1);
     println!(rt;
-        "{name:<20} {:>6}.{} {:>6}.{} {:>4}.{:02}",
+        " {:>6}.{} {:>6}.{} {:>4}.{:02}",
         work.nanos / 1000,
         work.nanos % 1000 / 100,
         digest.nanos / 1000,
@@ -17,30 +25,101 @@ fn print_line(rt: &HostRuntime, name: &str, work: Cost, digest: Cost) -> io::Res
     )
 }
 
-/// Prints a line for each kind of work: what a frame takes, what the digest of as many bytes takes alone, and the
-/// ratio of the two.
-pub fn print_costs(rt: &HostRuntime) -> io::Result<()> {
-    println!(rt; "microseconds a frame     work   digest  ratio")?;
-    let readout = exposed(rt.alloc(), FrameNo(3), ramp())?;
-    let raw_digest = time_digest(rt, 38_400)?;
-    print_line(rt, "expose (of RAW16)", time_expose(rt)?, raw_digest)?;
-    print_line(rt, "RAW16 160 x 120", time_raw(rt, &readout)?, raw_digest)?;
+/// Prints the line of a plain call.
+fn print_line(rt: &impl Print, name: &str, work: Cost, digest: Cost) -> io::Result<()> {
+    print!(rt; "{name:<20}")?;
+    print_cost(rt, work, digest)
+}
+
+/// Prints the line of the same work in so many bands.
+fn print_bands(rt: &impl Print, bands: u32, work: Cost, digest: Cost) -> io::Result<()> {
+    print!(rt; "  bands: {bands:<11}")?;
+    print_cost(rt, work, digest)
+}
+
+/// 1, 2, 4 and 8 bands.
+fn bands_at(step: u32) -> u32
+    ensures { (1 ≤ result) × (result ≤ 8) }
+{
+    match step {
+        0 => 1,
+        1 => 2,
+        2 => 4,
+        _ => 8,
+    }
+}
+
+/// Prints what the works on the largest pictures take, plain and in 1, 2, 4 and 8 bands.
+fn print_large<R: Clock + Print + Threads + Sync>(
+    rt: &R,
+    alloc: Global,
+    readout: &Readout,
+) -> io::Result<()>
+    requires { All (λ v. (64 ≤ v) × (v ≤ 1023)) readout.now }
+{
+    let raw_digest = time_digest(rt, alloc, 38_400)?;
+    print_line(
+        rt,
+        "expose (of RAW16)",
+        time_expose(rt, alloc, None)?,
+        raw_digest,
+    )?;
+    for step in 0..4 {
+        let bands = bands_at(step);
+        print_bands(rt, bands, time_expose(rt, alloc, Some(bands))?, raw_digest)?;
+    }
+    print_line(
+        rt,
+        "RAW16 160 x 120",
+        time_raw(rt, alloc, readout, None)?,
+        raw_digest,
+    )?;
+    for step in 0..4 {
+        let bands = bands_at(step);
+        print_bands(
+            rt,
+            bands,
+            time_raw(rt, alloc, readout, Some(bands))?,
+            raw_digest,
+        )?;
+    }
+    let yuv_digest = time_digest(rt, alloc, 28_800)?;
     print_line(
         rt,
         "YUV 160 x 120",
-        time_yuv(rt, &readout, 160, 120)?,
-        time_digest(rt, 28_800)?,
+        time_yuv(rt, alloc, readout, 160, 120, None)?,
+        yuv_digest,
     )?;
+    for step in 0..4 {
+        let bands = bands_at(step);
+        let work = time_yuv(rt, alloc, readout, 160, 120, Some(bands))?;
+        print_bands(rt, bands, work, yuv_digest)?;
+    }
+    Ok(())
+}
+
+/// Prints a line for each kind of work: what a frame takes, what the digest of as many bytes takes alone, and the
+/// ratio of the two; and for the largest pictures the same in 1, 2, 4 and 8 bands, with what a thread takes alone.
+pub fn print_costs<R: Clock + Print + Threads + Sync>(rt: &R, alloc: Global) -> io::Result<()> {
+    println!(rt; "microseconds a frame     work   digest  ratio")?;
+    let readout = exposed(alloc, FrameNo(3), ramp())?;
+    print_large(rt, alloc, &readout)?;
     print_line(
         rt,
         "YUV 80 x 60",
-        time_yuv(rt, &readout, 80, 60)?,
-        time_digest(rt, 7_200)?,
+        time_yuv(rt, alloc, &readout, 80, 60, None)?,
+        time_digest(rt, alloc, 7_200)?,
     )?;
     print_line(
         rt,
         "YUV 40 x 30",
-        time_yuv(rt, &readout, 40, 30)?,
-        time_digest(rt, 1_800)?,
+        time_yuv(rt, alloc, &readout, 40, 30, None)?,
+        time_digest(rt, alloc, 1_800)?,
+    )?;
+    let thread = time_thread(rt)?;
+    println!(rt;
+        "a thread             {:>6}.{}",
+        thread.nanos / 1000,
+        thread.nanos % 1000 / 100
     )
 }

@@ -5,10 +5,10 @@ ghost use Rattle.cam_types.specs.Picture.{is_yuv_size};
 
 use crate::measure::{buffer, exposed};
 use cam_types::{FrameNo, Settings};
-use raw_stage::fill_raw;
+use raw_stage::{fill_raw, fill_raw_bands};
 use std::process::Abort;
 use std::test::Fail;
-use yuv_stage::fill_yuv;
+use yuv_stage::{fill_yuv, fill_yuv_bands};
 
 /// A byte of a picture, and what it is to be.
 type Place = (usize, u8);
@@ -51,6 +51,8 @@ fn a_raw_picture_has_the_worked_bytes_and_digest(rt: HostRuntime) -> Result<(), 
     let readout = exposed(rt.alloc(), FrameNo(0), settings(0, 100))?;
     let mut out = buffer(rt.alloc(), 38_400)?;
     let digest = fill_raw(&readout, &mut out);
+    let in_bands = fill_raw_bands(&rt, &readout, 3, &mut out);
+    assert_eq!(rt; in_bands, digest);
     let block = out.into_block();
     assert_bytes(
         &rt,
@@ -133,5 +135,17 @@ fn yuv_pictures_have_the_worked_bytes(rt: HostRuntime) -> Result<(), Fail> {
         &[(320, 21), (480, 21), (19_280, 129), (24_080, 127)],
     );
     assert_bytes(&rt, yuv_of(&rt, ramp, 3, 80, 60)?.as_slice(), &[(80, 21)]);
+    Ok(())
+}
+
+#[test]
+fn seven_bands_have_the_digest_of_one(rt: HostRuntime) -> Result<(), Fail> {
+    let readout = exposed(rt.alloc(), FrameNo(3), settings(2, 0))?;
+    let mut out = buffer(rt.alloc(), 28_800)?;
+    let plain = fill_yuv(&readout, 160, 120, &mut out);
+    let in_bands = fill_yuv_bands(&rt, &readout, 160, 120, 7, &mut out);
+    assert_eq!(rt; in_bands, plain);
+    assert_bytes(&rt, out.bytes(), &[(320, 21), (480, 21), (19_280, 129)]);
+    let _ = out.into_block();
     Ok(())
 }

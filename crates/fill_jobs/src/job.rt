@@ -4,13 +4,14 @@ ghost use Rattle.cam_types.specs.Metadata.{range_fault};
 ghost use Rattle.cam_types.specs.Picture.{is_offered, readout as readout_of};
 ghost use Rattle.fill_jobs.specs.Buffers.{IsBufferFor, IsPictureOf, IsStreamAt};
 
-use crate::draw::draw;
+use crate::draw::{draw, draw_bands};
 use cam_types::{FillTarget, FrameNo, PixelBuf, Readout, Settings, StreamIx};
 use sensor_sim::a_readout_lies_between_dark_and_full;
 use std::marker::Model;
+use std::thread::Threads;
 
 /// A buffer that a stage is to fill with the picture of a frame, with the frame's readout. It must be spent: it is
-/// neither dropped nor copied, and ends by `fill` alone.
+/// neither dropped nor copied, and ends by `fill` or `fill_bands` alone.
 pub struct FillJob {
     frame: FrameNo,
     settings: Settings,
@@ -106,6 +107,32 @@ impl FillJob {
             mut pixels,
         } = self;
         let digest = draw(&readout, target.spec, &mut pixels);
+        FilledJob {
+            frame,
+            settings,
+            target,
+            readout,
+            pixels,
+            digest,
+        }
+    }
+
+    /// Fills the buffer as `fill` does, the rows of the largest pictures in 1 to 8 bands that are written side by side,
+    /// each by a thread of its own where one can be made. It takes no lock and no memory.
+    pub fn fill_bands<R: Threads + Sync>(self, rt: &R, bands: u32) -> FilledJob
+        requires least { 1 ≤ bands }
+        requires most { bands ≤ 8 }
+        ensures { result ≡ self }
+    {
+        a_readout_lies_between_dark_and_full();
+        let FillJob {
+            frame,
+            settings,
+            target,
+            readout,
+            mut pixels,
+        } = self;
+        let digest = draw_bands(rt, &readout, target.spec, bands, &mut pixels);
         FilledJob {
             frame,
             settings,

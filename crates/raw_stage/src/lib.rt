@@ -4,5 +4,5 @@
 mod fill;
 mod laws;
 
-pub use fill::fill_raw;
+pub use fill::{fill_raw, fill_raw_bands};
 pub use laws::a_raw_stream_has_raw_pictures;

@@ -1,14 +1,15 @@
 //! Jobs of the sensor: to be exposed, and exposed.
-ghost use Rattle.std.specs.Prelude.{◌≡◌, None};
+ghost use Rattle.std.specs.Prelude.{◌≡◌, ◌≤◌, None};
 ghost use Rattle.cam_types.specs.Metadata.{range_fault};
 ghost use Rattle.cam_types.specs.Picture.{readout as readout_of};
 
-use crate::rows::write_readout;
+use crate::rows::{write_readout, write_readout_bands};
 use cam_types::{FrameNo, Readout, Settings};
 use std::marker::Model;
+use std::thread::Threads;
 
 /// A frame that the sensor is to expose, with the readout that it may write. It must be spent: it is neither dropped
-/// nor copied, and ends by `expose` alone.
+/// nor copied, and ends by `expose` or `expose_bands` alone.
 pub struct SensorJob {
     frame: FrameNo,
     settings: Settings,
@@ -62,7 +63,8 @@ impl SensorJob {
 
     /// The number of the frame.
     pub fn frame(&self) -> FrameNo
-        ensures { result ≡ self.now.frame }
+        ensures number { result ≡ self.now.frame }
+        ensures no_fill { self.now.fill ≡ None }
     {
         self.frame
     }
@@ -83,12 +85,33 @@ impl SensorJob {
             readout: scratch,
         }
     }
+
+    /// Exposes the frame as `expose` does, its rows in 1 to 8 bands that are written side by side, each by a thread of
+    /// its own where one can be made. It takes no memory.
+    pub fn expose_bands<R: Threads + Sync>(self, rt: &R, bands: u32) -> ExposedJob
+        requires least { 1 ≤ bands }
+        requires most { bands ≤ 8 }
+        ensures { result ≡ self }
+    {
+        let SensorJob {
+            frame,
+            settings,
+            mut scratch,
+        } = self;
+        write_readout_bands(rt, settings, frame, bands, scratch.values_mut());
+        ExposedJob {
+            frame,
+            settings,
+            readout: scratch,
+        }
+    }
 }
 
 impl ExposedJob {
     /// The number of the frame.
     pub fn frame(&self) -> FrameNo
-        ensures { result ≡ self.now.frame }
+        ensures number { result ≡ self.now.frame }
+        ensures no_fill { self.now.fill ≡ None }
     {
         self.frame
     }

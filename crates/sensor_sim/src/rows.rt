@@ -2,10 +2,11 @@
 ghost use Rattle.std.specs.Prelude.{◌≡◌, ℕ, ◌+◌, ◌*◌, ◌/◌, ◌%◌, ◌<◌, ◌≤◌, None, length, slice_index};
 ghost use Rattle.cam_types.specs.Metadata.{range_fault};
 ghost use Rattle.cam_types.specs.Picture.{readout, sensor_value as value_of};
-ghost use Rattle.sensor_sim.specs.Line.{line_width, row_start as start_of};
+ghost use Rattle.sensor_sim.specs.Line.{line_width, IsLineOf, row_start as start_of};
 
 use crate::scene::{gain_of, sensor_value};
 use cam_types::{FrameNo, Settings};
+use std::thread::{Threads, for_each_chunk_mut};
 
 /// The values of a line: the rows of a readout are windows of one line.
 const LINE_VALUES: u32 = 320;
@@ -35,8 +36,7 @@ fn place_of(settings: Settings, place: u32) -> (u32, u32)
 fn line_of(settings: Settings, frame: FrameNo) -> [u16; 320]
     requires { range_fault settings ≡ None }
     ensures len { length result ≡ 320 }
-    ensures values { (k : ℕ) → k < 320 →
-        slice_index result k ≡ value_of settings frame.0 (k % line_width settings) (k / line_width settings) }
+    ensures values { IsLineOf settings frame.0 result }
 {
     let gain = gain_of(settings);
     let mut line = [0; 320];
@@ -61,6 +61,28 @@ fn row_start(settings: Settings, y: usize) -> usize
     }
 }
 
+/// Writes whole rows of the readout, from the row `first` on.
+fn write_rows(
+    settings: Settings,
+    frame: FrameNo,
+    line: &[u16; 320],
+    first: usize,
+    values: &mut [u16],
+)
+    requires range { range_fault settings ≡ None }
+    requires line_len { length line.now ≡ 320 }
+    requires line { IsLineOf settings frame.0 line.now }
+    requires whole { length values.old % 160 ≡ 0 }
+    requires within { first + length values.old / 160 ≤ 120 }
+    ensures { (k : ℕ) → k < length values.old →
+        slice_index values.new k ≡ value_of settings frame.0 (k % 160) (k / 160 + first) }
+{
+    for y in 0..values.len() / WIDTH {
+        let start = row_start(settings, y + first);
+        values[y * WIDTH..y * WIDTH + WIDTH].copy_from_slice(&line[start..start + WIDTH]);
+    }
+}
+
 /// Writes the readout of a frame.
 pub fn write_readout(settings: Settings, frame: FrameNo, values: &mut [u16])
     requires range { range_fault settings ≡ None }
@@ -68,8 +90,38 @@ pub fn write_readout(settings: Settings, frame: FrameNo, values: &mut [u16])
     ensures { values.new ≡ readout settings frame.0 }
 {
     let line = line_of(settings, frame);
-    for y in 0..HEIGHT {
-        let start = row_start(settings, y);
-        values[y * WIDTH..y * WIDTH + WIDTH].copy_from_slice(&line[start..start + WIDTH]);
-    }
+    write_rows(settings, frame, &line, 0, values);
+}
+
+/// Writes the readout of a frame in so many bands of rows side by side. The last band has the fewest rows.
+pub fn write_readout_bands<R: Threads + Sync>(
+    rt: &R,
+    settings: Settings,
+    frame: FrameNo,
+    bands: u32,
+    values: &mut [u16],
+)
+    requires range { range_fault settings ≡ None }
+    requires least { 1 ≤ bands }
+    requires most { bands ≤ 8 }
+    requires len { length values.old ≡ 19200 }
+    ensures { values.new ≡ readout settings frame.0 }
+{
+    let line = line_of(settings, frame);
+    let rows = HEIGHT.div_ceil(bands as usize);
+    for_each_chunk_mut(
+        rt,
+        values,
+        rows * WIDTH,
+        &|start: usize, band: &mut [u16]|
+            requires { (range_fault settings ≡ None)
+                × (length line ≡ 320)
+                × IsLineOf settings frame.0 line
+                × (length band.old % 160 ≡ 0)
+                × (start / 160 + length band.old / 160 ≤ 120) }
+            ensures { (k : ℕ) → k < length band.old →
+                slice_index band.new k ≡
+                value_of settings frame.0 (k % 160) (k / 160 + start / 160) }
+        { write_rows(settings, frame, &line, start / WIDTH, band) },
+    );
 }

@@ -97,3 +97,14 @@ fn bars_and_ramp_have_the_worked_values(rt: HostRuntime) -> Result<(), Fail> {
     );
     Ok(())
 }
+
+#[test]
+fn bands_have_the_worked_values(rt: HostRuntime) -> Result<(), Fail> {
+    for bands in 1..9 {
+        let scratch = Readout::new(rt.alloc())?;
+        let job = SensorJob::new(FrameNo(3), settings(2, 0, 10_000_000, 100), scratch);
+        let (_, _, ramp) = job.expose_bands(&rt, bands).into_parts();
+        assert_places(&rt, &ramp, &[(0, 0, 76), (1, 0, 80), (159, 119, 164)]);
+    }
+    Ok(())
+}

@@ -3,9 +3,9 @@ use Rattle.std.proofs.Common.{◌≡◌, ℕ, ◌+◌, ◌*◌, ◌/◌, ◌%◌
 use Rattle.std.proofs.lemmas.Grind.{common_steps}
 use Rattle.std.proofs.lemmas.List.FromFn.{fill_by_all, get_or-map-range_with_len}
 use Rattle.std.proofs.lemmas.Nat.{div-mul-add, mod-mul-add, row_fits_turned}
-use Rattle.std.proofs.Math.Nat.{mul_comm}
+use Rattle.std.proofs.Math.Nat.{add-zero, mul_comm}
 use Rattle.cam_types.specs.Picture.{plane, yuv_picture, of_cell, cell_at, luma, chroma_blue, chroma_red}
-use Rattle.yuv_stage.specs.Cells.{at_cell}
+use Rattle.yuv_stage.specs.Cells.{at_cell, AreWideRows, AreChromaRows}
 use Rattle.cam_types.proofs.WrittenLemmas.{rows-more}
 use Rattle.cam_types.proofs.PictureLemmas.{plane-same}
 
@@ -25,12 +25,11 @@ value-at : (value : ℕ → ℕ → ℕ) (width height k : ℕ) → k < width * 
 unfolding plane
 value-at value width height k h = get_or-map-range_with_len (λ i. value (i % width) (i / width)) 0 (width * height) k k 0 h (omega arith)
 
--- rows of 320 places are pairs of rows of 160, whose cells are the same
-pub pairs-are-rows : (part : ℕ → ℕ → ℕ → ℕ) (values : List ℕ) (k : ℕ) → at_cell part values (k % 320 % 160 / 2 * 2) (k / 320 * 2) ≡ at_cell part values (k % 160 / 2 * 2) (k / 160 / 2 * 2)
-pairs-are-rows part values k =
+-- rows of 320 places are pairs of rows of 160
+pub pair-of-rows : (values : List ℕ) (k y : ℕ) → at_cell luma values (k % 320 % 160 / 2 * 2) y ≡ at_cell luma values (k % 160 / 2 * 2) y
+pair-of-rows values k y =
     let column : k % 320 % 160 ≡ k % 160 = omega arith in
-    let row : k / 320 * 2 ≡ k / 160 / 2 * 2 = omega arith in
-    rw (column, row) refl
+    rw column refl
 
 luma-160 : (values : List ℕ) (x y : ℕ) → at_cell luma values (x / 2 * 2) (y / 2 * 2) ≡ of_cell luma values 160 120 x y
 unfolding at_cell
@@ -39,13 +38,13 @@ luma-160 values x y =
     let row : cell_at y 120 120 ≡ y / 2 * 2 = omega arith in
     rw (column, row) refl
 
--- one more row is written, of cells that are step columns and rows of the sensor apart
-pub cells-more : (part : ℕ → ℕ → ℕ → ℕ) (values : List ℕ) (step width height y wide : ℕ) (xs row : List ℕ) → wide ≡ width → y < height → length xs ≡ width * height → length row ≡ length (take wide (drop (y * width) xs)) → ((k : ℕ) → k < y * width → get_or xs k 0 ≡ at_cell part values (k % width * step) (k / width * step)) → ((k : ℕ) → k < length row → get_or row k 0 ≡ at_cell part values (k * step) (y * step)) → (k : ℕ) → k < (y + 1) * width → get_or (take (y * width) xs ++ (row ++ drop wide (drop (y * width) xs))) k 0 ≡ at_cell part values (k % width * step) (k / width * step)
-cells-more part values step width height y wide xs row w low size same before here =
+-- one more row of a plane of so many rows is written
+pub cells-more : (value : ℕ → ℕ → ℕ) (width height y wide : ℕ) (xs row : List ℕ) → wide ≡ width → y < height → length xs ≡ width * height → length row ≡ length (take wide (drop (y * width) xs)) → ((k : ℕ) → k < y * width → get_or xs k 0 ≡ value (k % width) (k / width)) → ((k : ℕ) → k < length row → get_or row k 0 ≡ value k y) → (k : ℕ) → k < (y + 1) * width → get_or (take (y * width) xs ++ (row ++ drop wide (drop (y * width) xs))) k 0 ≡ value (k % width) (k / width)
+cells-more value width height y wide xs row w low size same before here =
     let fits : y * width + width ≤ width * height = row_fits_turned y width width height low (omega arith) in
     let room : y * width + width ≤ length xs = omega arith in
     let len : length row ≡ width = same ∙ grind (arith, common_steps) in
-    plane-more (λ x z. at_cell part values (x * step) (z * step)) width y wide xs row w room len before (λ x h. here x (omega arith))
+    plane-more value width y wide xs row w room len before (λ x h. here x (omega arith))
 
 -- all rows are written, of cells that are step columns and rows of the sensor apart
 pub cells-all : (part : ℕ → ℕ → ℕ → ℕ) (values : List ℕ) (step width height y : ℕ) (xs : List ℕ) → height ≤ y → y ≤ height → length xs ≡ width * height → ((k : ℕ) → k < y * width → get_or xs k 0 ≡ at_cell part values (k % width * step) (k / width * step)) → xs ≡ plane (λ x z. at_cell part values (x * step) (z * step)) width height
@@ -54,9 +53,24 @@ cells-all part values step width height y xs low high len each =
     let size : width * height ≡ y * width = mul_comm width height ∙ ap (λ n. n * width) (sym all) in
     plane-all (λ x z. at_cell part values (x * step) (z * step)) width height xs len (λ k h. each k (omega (arith, size)))
 
-pub wide-all : (values : List ℕ) (pair : ℕ) (xs : List ℕ) → 60 ≤ pair → length xs ≡ 19200 → ((k : ℕ) → k < pair * 320 → get_or xs k 0 ≡ at_cell luma values (k % 320 % 160 / 2 * 2) (k / 320 * 2)) → xs ≡ plane (λ x y. at_cell luma values (x / 2 * 2) (y / 2 * 2)) 160 120
-wide-all values pair xs all len each =
-    plane-all (λ x y. at_cell luma values (x / 2 * 2) (y / 2 * 2)) 160 120 xs len (λ k h. each k (omega arith) ∙ pairs-are-rows luma values k)
+-- so many rows are written
+pub rows-all : (part : ℕ → ℕ → ℕ → ℕ) (values : List ℕ) (step width first rows y : ℕ) (xs : List ℕ) → rows ≤ y → y ≤ rows → length xs ≡ width * rows → ((k : ℕ) → k < y * width → get_or xs k 0 ≡ at_cell part values (k % width * step) ((k / width + first) * step)) → AreChromaRows part values step width first xs
+rows-all part values step width first rows y xs low high len each k h =
+    let all : y ≡ rows = omega arith in
+    let size : width * rows ≡ y * width = mul_comm width rows ∙ ap (λ n. n * width) (sym all) in
+    each k (omega (arith, size))
+
+-- rows from the first one on, so many that they are all, are the plane
+wide-all : (values xs : List ℕ) → length xs ≡ 19200 → AreWideRows values 0 xs → xs ≡ plane (λ x y. at_cell luma values (x / 2 * 2) (y / 2 * 2)) 160 120
+wide-all values xs len each =
+    plane-all (λ x y. at_cell luma values (x / 2 * 2) (y / 2 * 2)) 160 120 xs len (λ k h.
+    let row : (k / 320 + 0) * 2 ≡ k / 160 / 2 * 2 = omega arith in
+    each k (omega arith) ∙ ap (λ y. at_cell luma values (k % 160 / 2 * 2) y) row)
+
+chroma-all : (part : ℕ → ℕ → ℕ → ℕ) (values : List ℕ) (step width height : ℕ) (xs : List ℕ) → length xs ≡ width * height → AreChromaRows part values step width 0 xs → xs ≡ plane (λ x z. at_cell part values (x * step) (z * step)) width height
+chroma-all part values step width height xs len each =
+    plane-all (λ x z. at_cell part values (x * step) (z * step)) width height xs len (λ k h.
+    each k (omega arith) ∙ ap (λ z. at_cell part values (k % width * step) (z * step)) (add-zero (k / width)))
 
 -- rows of 80 places are pairs of rows of 40, whose cells are four columns and rows of the sensor apart
 quarter-rows : (part : ℕ → ℕ → ℕ → ℕ) (values : List ℕ) (k : ℕ) → at_cell part values (k % 80 % 40 * 4) (k % 80 / 40 * 4 + k / 80 * 8) ≡ at_cell part values (k % 40 * 4) (k / 40 * 4)
@@ -114,13 +128,13 @@ picture-of : (width height : ℕ) (values y b r : List ℕ) → y ≡ plane (of_
 unfolding yuv_picture
 picture-of width height values y b r luma-is blue-is red-is = rw (luma-is, blue-is, red-is) refl
 
-pub picture-160 : (values y b r : List ℕ) → y ≡ plane (λ x z. at_cell luma values (x / 2 * 2) (z / 2 * 2)) 160 120 → b ≡ plane (λ x z. at_cell chroma_blue values (x * 2) (z * 2)) 80 60 → r ≡ plane (λ x z. at_cell chroma_red values (x * 2) (z * 2)) 80 60 → y ++ (b ++ r) ≡ yuv_picture 160 120 values
-picture-160 values y b r luma-is blue-is red-is =
-    picture-of 160 120 values y b r (luma-is ∙ plane-same _ _ 160 120 (luma-160 values)) (blue-is ∙ plane-same _ _ 80 60 (chroma-160 chroma_blue values)) (red-is ∙ plane-same _ _ 80 60 (chroma-160 chroma_red values))
+pub picture-160 : (values y b r : List ℕ) → length y ≡ 19200 → length b ≡ 4800 → length r ≡ 4800 → AreWideRows values 0 y → AreChromaRows chroma_blue values 2 80 0 b → AreChromaRows chroma_red values 2 80 0 r → y ++ (b ++ r) ≡ yuv_picture 160 120 values
+picture-160 values y b r luma-len blue-len red-len luma-is blue-is red-is =
+    picture-of 160 120 values y b r (wide-all values y luma-len luma-is ∙ plane-same _ _ 160 120 (luma-160 values)) (chroma-all chroma_blue values 2 80 60 b blue-len blue-is ∙ plane-same _ _ 80 60 (chroma-160 chroma_blue values)) (chroma-all chroma_red values 2 80 60 r red-len red-is ∙ plane-same _ _ 80 60 (chroma-160 chroma_red values))
 
-pub picture-80 : (values y b r : List ℕ) → y ≡ plane (λ x z. at_cell luma values (x * 2) (z * 2)) 80 60 → b ≡ plane (λ x z. at_cell chroma_blue values (x * 4) (z * 4)) 40 30 → r ≡ plane (λ x z. at_cell chroma_red values (x * 4) (z * 4)) 40 30 → y ++ (b ++ r) ≡ yuv_picture 80 60 values
-picture-80 values y b r luma-is blue-is red-is =
-    picture-of 80 60 values y b r (luma-is ∙ plane-same _ _ 80 60 (luma-80 values)) (blue-is ∙ plane-same _ _ 40 30 (chroma-80 chroma_blue values)) (red-is ∙ plane-same _ _ 40 30 (chroma-80 chroma_red values))
+pub picture-80 : (values y b r : List ℕ) → y ≡ plane (λ x z. at_cell luma values (x * 2) (z * 2)) 80 60 → length b ≡ 1200 → length r ≡ 1200 → AreChromaRows chroma_blue values 4 40 0 b → AreChromaRows chroma_red values 4 40 0 r → y ++ (b ++ r) ≡ yuv_picture 80 60 values
+picture-80 values y b r luma-is blue-len red-len blue-is red-is =
+    picture-of 80 60 values y b r (luma-is ∙ plane-same _ _ 80 60 (luma-80 values)) (chroma-all chroma_blue values 4 40 30 b blue-len blue-is ∙ plane-same _ _ 40 30 (chroma-80 chroma_blue values)) (chroma-all chroma_red values 4 40 30 r red-len red-is ∙ plane-same _ _ 40 30 (chroma-80 chroma_red values))
 
 pub picture-40 : (values y b r : List ℕ) → y ≡ plane (λ x z. at_cell luma values (x * 4) (z * 4)) 40 30 → b ≡ plane (λ x z. at_cell chroma_blue values (x * 8) (z * 8)) 20 15 → r ≡ plane (λ x z. at_cell chroma_red values (x * 8) (z * 8)) 20 15 → y ++ (b ++ r) ≡ yuv_picture 40 30 values
 picture-40 values y b r luma-is blue-is red-is =

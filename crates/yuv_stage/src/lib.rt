@@ -1,6 +1,7 @@
 //! The YUV stage: it writes a readout as a picture of one of three sizes, and answers the picture's digest.
 #![tactic(auto)]
 
+mod bands;
 mod colour;
 mod fill;
 mod laws;
@@ -8,5 +9,5 @@ mod planes;
 mod quarter;
 mod rows;
 
-pub use fill::fill_yuv;
+pub use fill::{fill_yuv, fill_yuv_bands};
 pub use laws::a_yuv_stream_has_yuv_pictures;

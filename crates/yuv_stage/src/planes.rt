@@ -1,8 +1,8 @@
 //! The planes of a YUV picture, where they lie in the buffer.
-ghost use Rattle.std.specs.Prelude.{◌≡◌, ℕ, ◌*◌, ◌/◌, ◌%◌, ◌<◌, ◌≤◌, length, slice_index};
+ghost use Rattle.std.specs.Prelude.{◌≡◌, ℕ, ◌+◌, ◌*◌, ◌/◌, ◌%◌, ◌<◌, ◌≤◌, length, slice_index};
 ghost use Rattle.std.specs.List.{All};
 ghost use Rattle.cam_types.specs.Picture.{chroma_blue, chroma_red, luma, plane};
-ghost use Rattle.yuv_stage.specs.Cells.{at_cell};
+ghost use Rattle.yuv_stage.specs.Cells.{at_cell, AreWideRows, AreChromaRows};
 
 use crate::rows::{write_chroma, write_luma, write_wide_luma};
 
@@ -43,23 +43,30 @@ fn write_wide_rows(values: &[u16], y: usize, rows: &mut [u8])
     second.copy_from_slice(first);
 }
 
-/// Writes the plane Y of a picture of the sensor's size.
-pub fn write_wide_plane(values: &[u16], bytes: &mut [u8])
+/// Writes `pairs` pairs of rows of the plane Y of a picture of the sensor's size, from the pair `first` on.
+pub fn write_wide_pairs(values: &[u16], first: usize, pairs: usize, bytes: &mut [u8])
     requires len { length values.now ≡ 19200 }
     requires values { All (λ v. (64 ≤ v) × (v ≤ 1023)) values.now }
-    requires room { length bytes.old ≡ 19200 }
-    ensures { bytes.new ≡ plane (λ x y. at_cell luma values.now (x / 2 * 2) (y / 2 * 2)) 160 120 }
+    requires within { first + pairs ≤ 60 }
+    requires room { length bytes.old ≡ pairs * 320 }
+    ensures { AreWideRows values.now first bytes.new }
 {
-    for pair in 0..60 {
-        write_wide_rows(values, pair * 2, &mut bytes[pair * 320..pair * 320 + 320]);
+    for pair in 0..pairs {
+        write_wide_rows(
+            values,
+            (pair + first) * 2,
+            &mut bytes[pair * 320..pair * 320 + 320],
+        );
     }
 }
 
-/// Writes the planes Cb and Cr of a picture whose cells are `STEP` columns and rows of the sensor apart.
-pub fn write_chroma_planes<const STEP: usize>(
+/// Writes `rows` rows of the planes Cb and Cr of a picture whose cells are `STEP` columns and rows of the sensor apart,
+/// from the row `first` on.
+pub fn write_chroma_rows<const STEP: usize>(
     values: &[u16],
     width: usize,
-    height: usize,
+    first: usize,
+    rows: usize,
     blue: &mut [u8],
     red: &mut [u8],
 )
@@ -67,16 +74,16 @@ pub fn write_chroma_planes<const STEP: usize>(
     requires values { All (λ v. (64 ≤ v) × (v ≤ 1023)) values.now }
     requires least { 2 ≤ STEP }
     requires columns { width * STEP ≡ 160 }
-    requires rows { height * STEP ≡ 120 }
-    requires blue_room { length blue.old ≡ width * height }
-    requires red_room { length red.old ≡ width * height }
-    ensures blue { blue.new ≡ plane (λ x y. at_cell chroma_blue values.now (x * STEP) (y * STEP)) width height }
-    ensures red { red.new ≡ plane (λ x y. at_cell chroma_red values.now (x * STEP) (y * STEP)) width height }
+    requires within { (rows + first) * STEP ≤ 120 }
+    requires blue_room { length blue.old ≡ width * rows }
+    requires red_room { length red.old ≡ width * rows }
+    ensures blue { AreChromaRows chroma_blue values.now STEP width first blue.new }
+    ensures red { AreChromaRows chroma_red values.now STEP width first red.new }
 {
-    for row in 0..height {
+    for row in 0..rows {
         write_chroma::<STEP>(
             values,
-            row * STEP,
+            (row + first) * STEP,
             &mut blue[row * width..row * width + width],
             &mut red[row * width..row * width + width],
         );
