@@ -52,12 +52,12 @@ impl Hands {
         free_place(&self.places).is_some()
     }
 
-    /// Keeps a job of the sensor. It has no fill, as every job that the device gives to the sensor.
+    /// Keeps a job of the sensor.
     pub fn put_sensor(&mut self, job: SensorJob)
         requires room { length self.old < HANDS_LIMIT }
-        requires exposure { job.fill ≡ None }
         ensures { IsWith job self.old self.new }
     {
+        let _ = job.frame();
         put(&mut self.places, Job::Exposure(job));
     }
 

@@ -1,5 +1,4 @@
 //! The sensor's work: an exposure begins, and its job is given back.
-ghost use Rattle.std.specs.Prelude.{◌≡◌, None};
 ghost use Rattle.run_model.specs.Jobs.{IsJobOut};
 ghost use Rattle.service_core.specs.Answers.{Makes, silent};
 
@@ -34,8 +33,7 @@ impl Service {
 
     /// Takes the readout back from the sensor, whose job is out.
     pub fn sensor_done(&mut self, job: ExposedJob)
-        requires out { IsJobOut self.old.script self.old.history job }
-        requires exposure { job.fill ≡ None }
+        requires { IsJobOut self.old.script self.old.history job }
         ensures { Makes (silent (StepName.SensorDone job.frame)) self.old self.new }
     {
         let frame = job.frame();
