@@ -12,7 +12,7 @@ next_shutter-self-inside-requires c =
     let serving = serving_as s c.args.self.now c.self.view_is c.requires in
     let told = c.in_ok-job.ensures in
     let it = row_of_job i.script.faults i.device.rows c.in_ok-job.job (rw (sym c.self.invariant.faults) told.job) in
-    rw (c.exposure_of.ensures, told.rows, c.frame-frame.ensures, it.2, exposure_same it.0.frame.0 i.clock i.device.rows) (clock_fits s serving it.0 (begun s serving it.0 it.1).ready)
+    rw (c.exposure_of.ensures, told.rows, c.frame-frame.ensures.number, it.2, exposure_same it.0.frame.0 i.clock i.device.rows) (clock_fits s serving it.0 (begun s serving it.0 it.1).ready)
 
 pub returns-clause-step : goal.returns-clause-step
 returns-clause-step c =
@@ -22,4 +22,4 @@ returns-clause-step c =
     let told = c.in_ok-job.ensures in
     let it = row_of_job i.script.faults i.device.rows c.in_ok-job.job (rw (sym c.self.invariant.faults) told.job) in
     makes_as s c.args.self.now _ _ c.self.view_is c.requires (λ serving'.
-    rw (c.next_shutter-self-inside.ensures, c.exposure_of.ensures, told.rows, c.frame-frame.ensures, it.2, exposure_same it.0.frame.0 i.clock i.device.rows) (begun s serving it.0 it.1))
+    rw (c.next_shutter-self-inside.ensures, c.exposure_of.ensures, told.rows, c.frame-frame.ensures.number, it.2, exposure_same it.0.frame.0 i.clock i.device.rows) (begun s serving it.0 it.1))
