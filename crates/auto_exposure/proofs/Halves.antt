@@ -3,7 +3,7 @@ use Rattle.std.proofs.Common.{◌≡◌, ℕ, zero, suc, ◌-◌, ◌*◌, ◌^�
 use Rattle.std.specs.Prelude.{nat_le, nat_lt}
 use Rattle.std.proofs.Math.Nat.{pow-succ', pow-le-pow_right, mul-le-mul_right}
 use Rattle.std.proofs.lemmas.Bool.Decides.{nat_tests}
-use Rattle.auto_exposure.specs.Search.{Search, step_of, narrowed, IsWithin, Spans, IsHalved, decided, state_of}
+use Rattle.auto_exposure.specs.Search.{Search, start, step_of, narrowed, searched, IsWithin, Spans, IsHalved, decided, state_of}
 
 pub step-from : (s : Search) → IsWithin s → 1 ≤ step_of s
 step-from s h = grind (arith, nat_tests)
@@ -43,3 +43,12 @@ decided-at s step h span =
     let is : s.low ≡ step = omega arith in
     let none : nat_lt s.low s.high ≡ false = grind (arith, nat_tests) in
     rw (none, is) refl
+
+searched-within : (step frames : ℕ) → IsWithin (searched step frames)
+unfolding searched
+searched-within step zero = record { least = omega arith; ordered = omega arith; most = omega arith }
+searched-within step (suc frames) = within-narrowed _ _ (searched-within step frames)
+
+-- each step of a path is a step
+pub searched-step : (step frames : ℕ) → step_of (searched step frames) ≤ 1000
+searched-step step frames = step-to (searched step frames) (searched-within step frames)
