@@ -3,7 +3,7 @@ use Rattle.std.proofs.Common.{◌≡◌, ℕ, zero, suc, ◌-◌, ◌*◌, ◌^�
 use Rattle.std.specs.Prelude.{nat_le, nat_lt}
 use Rattle.std.proofs.Math.Nat.{pow-succ', pow-le-pow_right, mul-le-mul_right}
 use Rattle.std.proofs.lemmas.Bool.Decides.{nat_tests}
-use Rattle.auto_exposure.specs.Search.{Search, start, step_of, narrowed, searched, IsWithin, Spans, IsHalved, decided, state_of}
+use Rattle.auto_exposure.specs.Search.{Search, step_of, narrowed, searched, IsWithin, Spans, IsHalved, decided, state_of}
 
 pub step-from : (s : Search) → IsWithin s → 1 ≤ step_of s
 step-from s h = grind (arith, nat_tests)

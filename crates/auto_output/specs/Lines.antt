@@ -30,7 +30,7 @@ front_of lines = line_text (codes "auto" ∷ codes "1" ∷ []) ++ flat_map line_
 abbrev pub frame_line : ℕ → Settings → AutoLine
 frame_line n s = Frame n s.exposure (mean s n)
 
--- the line that tells how the search of scene k ended: an exposure is told in nanoseconds, the steps that are left are not
+-- the line that tells how the search of scene k ended: an exposure is told in nanoseconds, what is left in steps
 abbrev pub end_line : ℕ → AeState → AutoLine
 end_line k (state.Searching low high) = Searching k low high
 end_line k (state.Locked step) = Locked k (step * 100000)

@@ -117,8 +117,8 @@ pub struct Drawn {
     pub script: Script,
 }
 
-/// Searches the scenes of a valid text, frame by frame, on pictures that are drawn and measured. It fails only for want of
-/// memory.
+/// Searches the scenes of a valid text, frame by frame, on pictures that are drawn and measured. It fails only for
+/// want of memory.
 pub fn draw_up(alloc: Global, text: &AutoText) -> Result<Drawn, NoMemory>
     requires { IsTrue (is_valid text.now) }
     ensures front { IfOk result (λ drawn. drawn.front.items ≡ front_of (lines_of text.now)) }

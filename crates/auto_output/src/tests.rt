@@ -8,16 +8,29 @@ use std::test::Fail;
 const FRONTS: &[(&str, &str)] = &[
     (
         "auto 1\ntarget 107\niso 100\nscene 0 100 11\n",
-        "auto 1\nframe 0 exposure 50100000 mean 235\nframe 1 exposure 25100000 mean 235\nframe 2 exposure 12600000 mean 131\nframe 3 exposure 6300000 mean 74\nframe 4 exposure 9500000 mean 103\nframe 5 exposure 11100000 mean 117\nframe 6 exposure 10300000 mean 110\nframe 7 exposure 9900000 mean 106\nframe 8 exposure 10100000 mean 108\nframe 9 exposure 10000000 mean 107\nframe 10 exposure 10000000 mean 107\nscene 0 locked 10000000\n",
+        "auto 1\n\
+         frame 0 exposure 50100000 mean 235\nframe 1 exposure 25100000 mean 235\n\
+         frame 2 exposure 12600000 mean 131\nframe 3 exposure 6300000 mean 74\n\
+         frame 4 exposure 9500000 mean 103\nframe 5 exposure 11100000 mean 117\n\
+         frame 6 exposure 10300000 mean 110\nframe 7 exposure 9900000 mean 106\n\
+         frame 8 exposure 10100000 mean 108\nframe 9 exposure 10000000 mean 107\n\
+         frame 10 exposure 10000000 mean 107\nscene 0 locked 10000000\n",
     ),
     (
         "auto 1\ntarget 240\niso 100\nscene 0 100 9\n",
-        "auto 1\nframe 0 exposure 50100000 mean 235\nframe 1 exposure 75100000 mean 235\nframe 2 exposure 87600000 mean 235\nframe 3 exposure 93900000 mean 235\nframe 4 exposure 97000000 mean 235\nframe 5 exposure 98600000 mean 235\nframe 6 exposure 99400000 mean 235\nframe 7 exposure 99800000 mean 235\nframe 8 exposure 100000000 mean 235\nscene 0 limit\n",
+        "auto 1\n\
+         frame 0 exposure 50100000 mean 235\nframe 1 exposure 75100000 mean 235\n\
+         frame 2 exposure 87600000 mean 235\nframe 3 exposure 93900000 mean 235\n\
+         frame 4 exposure 97000000 mean 235\nframe 5 exposure 98600000 mean 235\n\
+         frame 6 exposure 99400000 mean 235\nframe 7 exposure 99800000 mean 235\n\
+         frame 8 exposure 100000000 mean 235\nscene 0 limit\n",
     ),
     // Each scene begins a search, and frames are numbered through.
     (
         "auto 1\ntarget 107\niso 100\nscene 0 100 2\nscene 0 100 1\n",
-        "auto 1\nframe 0 exposure 50100000 mean 235\nframe 1 exposure 25100000 mean 235\nscene 0 searching 1 251\nframe 2 exposure 50100000 mean 235\nscene 1 searching 1 501\n",
+        "auto 1\n\
+         frame 0 exposure 50100000 mean 235\nframe 1 exposure 25100000 mean 235\nscene 0 searching 1 251\n\
+         frame 2 exposure 50100000 mean 235\nscene 1 searching 1 501\n",
     ),
     ("auto 1\ntarget 107\niso 100\n", "auto 1\n"),
 ];

@@ -1,5 +1,5 @@
 -- A valid text has no more scenes than frames, and may have one more scene that fits.
-use Rattle.std.proofs.Common.{◌≡◌, ℕ, ◌+◌, ◌≤◌, Bool, true, false, ◌&&◌, List, [], ◌∷◌, ◌++◌, length, leb, refl, arith}
+use Rattle.std.proofs.Common.{◌≡◌, ◌+◌, ◌≤◌, true, List, [], ◌∷◌, ◌++◌, length, leb, refl, arith}
 use Rattle.std.specs.List.{list_all}
 use Rattle.std.proofs.lemmas.Bool.{and_parts, and_from, le-leb}
 use Rattle.std.proofs.lemmas.Bool.Decides.{nat_tests}
@@ -7,7 +7,7 @@ use Rattle.std.proofs.lemmas.List.Sums.{sum_by-append, sum_by-cons}
 use Rattle.basic_lemmas.proofs.Lists.{all-append}
 use Rattle.exposure_text.specs.declared.text.AutoText.{AutoText}
 use Rattle.exposure_text.specs.declared.text.Scene.{Scene}
-use Rattle.exposure_text.specs.Valid.{is_between, is_scene, is_target, is_iso, is_valid, frames_of, frame_limit}
+use Rattle.exposure_text.specs.Valid.{is_scene, is_target, is_iso, is_valid, frames_of, frame_limit}
 
 pub some-frames : (scene : Scene) → is_scene scene ≡ true → 1 ≤ scene.frames
 some-frames scene h = grind (arith, nat_tests)

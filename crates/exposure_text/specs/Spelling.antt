@@ -1,4 +1,4 @@
--- The one spelling of a text, and the line that refuses one. (docs/FORMATS.md, automatic exposure)
+-- The line that refuses a text. (docs/FORMATS.md, automatic exposure)
 use Rattle.std.specs.Prelude.{ℕ, List, [], ◌∷◌, codes, decimal}
 use Rattle.script_text.specs.Causes.{number_of}
 use Rattle.script_text.specs.declared.cause.Cause.{Cause}

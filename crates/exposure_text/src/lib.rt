@@ -1,5 +1,5 @@
-//! The text of automatic exposure: a target, a sensitivity and scenes. What a text means, and `read`, which finds it; its
-//! one spelling, and `print`, which writes it.
+//! The text of automatic exposure: a target, a sensitivity and scenes. What a text means, `read`, which finds it, and the
+//! line that refuses one.
 #![tactic(auto)]
 
 mod draft;

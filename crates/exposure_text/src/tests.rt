@@ -38,8 +38,16 @@ const REFUSED: &[(&str, u32, u8)] = &[
     ("auto 1\ntarget 240\niso 100\nscene 0 0", 4, 35),
     ("auto 1\ntarget 240\niso 100\nscene 0 0 64 x", 4, 36),
     // The frames are counted together.
-    ("auto 1\ntarget 240\niso 100\nscene 0 0 64\nscene 1 0 1", 5, 37),
-    ("auto 1\ntarget 240\niso 100\nscene 0 0 63\nscene 1 0 2", 5, 37),
+    (
+        "auto 1\ntarget 240\niso 100\nscene 0 0 64\nscene 1 0 1",
+        5,
+        37,
+    ),
+    (
+        "auto 1\ntarget 240\niso 100\nscene 0 0 63\nscene 1 0 2",
+        5,
+        37,
+    ),
 ];
 
 /// The line of the refusal and the number of its cause, or none where the text is read.
