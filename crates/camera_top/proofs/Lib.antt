@@ -1,2 +1,3 @@
 pub mod General
 pub mod Telling
+pub mod Capturing

@@ -1,9 +1,10 @@
 use Rattle.std.specs.Prelude.{ℕ, List, Option, Some}
 use Rattle.io_edge.specs.States.{SinkState}
 use Rattle.camera_words.specs.declared.form.Form.{Form}
-use Rattle.camera_words.specs.declared.form.Form.TheVariants.{Play, Check, Convert, Gen, Help}
+use Rattle.camera_words.specs.declared.form.Form.TheVariants.{Play, Check, Convert, Gen, Auto, Help}
 use Rattle.judge_text.specs.Meaning.{Judges}
 use Rattle.call_status.specs.Answers.{Answers, Tells, TellsBy}
+use Rattle.camera_top.specs.Auto.{Captures}
 use Rattle.camera_top.specs.Converting.{ConvertsInput}
 use Rattle.camera_top.specs.Help.{help_text, usage_line}
 use Rattle.camera_top.specs.Says.{Says, SaysOfSeed}
@@ -14,6 +15,7 @@ abbrev pub TellsOf : Option Form → Option (List ℕ) → ℕ → SinkState →
 TellsOf (Some Play) left status before after = Tells Says left status before after
 TellsOf (Some Check) left status before after = Tells Judges left status before after
 TellsOf (Some Convert) left status before after = Tells ConvertsInput left status before after
+TellsOf (Some Auto) left status before after = Tells Captures left status before after
 TellsOf (Some (Gen seed count)) left status before after = TellsBy (SaysOfSeed seed count) status before after
 TellsOf (Some Help) left status before after = Answers 0 help_text status before after
 TellsOf _ left status before after = Answers 2 usage_line status before after

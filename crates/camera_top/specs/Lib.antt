@@ -4,3 +4,4 @@ pub mod Says
 pub mod Judging
 pub mod Converting
 pub mod Commands
+pub mod Auto

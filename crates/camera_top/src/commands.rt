@@ -6,6 +6,7 @@ ghost use Rattle.io_edge.specs.States.{Writes, WritesNothing};
 ghost use Rattle.camera_words.specs.Forms.{form_of};
 ghost use Rattle.generated_scripts.specs.Generated.{generated};
 ghost use Rattle.call_status.specs.Answers.{Answers, Untouched};
+ghost use Rattle.camera_top.specs.Auto.{IsCaptured};
 ghost use Rattle.camera_top.specs.Commands.{TellsOf};
 ghost use Rattle.camera_top.specs.Converting.{IsConverted};
 ghost use Rattle.camera_top.specs.Help.{help_text, usage_line};
@@ -13,6 +14,7 @@ ghost use Rattle.camera_top.specs.Judging.{IsJudgedLegal};
 ghost use Rattle.camera_top.specs.Says.{IsWhole, IsWholeRun};
 ghost use Rattle.camera_top.specs.Words.{is_built, reads};
 
+use crate::auto::auto_call;
 use crate::convert::convert_call;
 use crate::judge::check_call;
 use crate::player::{gen_call, play_call};
@@ -24,11 +26,11 @@ use std::alloc::Global;
 
 /// The line of words that are no form, or of a form whose command isn't built yet.
 const USAGE_LINE: &[u8] =
-    b"usage: camera play | run --workers N | check | gen SEED COUNT | convert | help\n";
+    b"usage: camera play | run --workers N | check | gen SEED COUNT | convert | auto | help\n";
 
 /// What `help` writes: what the program does, and the usage line.
 const HELP_TEXT: &[u8] =
-    b"camera: plays, runs and judges HAL3 camera scripts\nusage: camera play | run --workers N | check | gen SEED COUNT | convert | help\n";
+    b"camera: plays, runs and judges HAL3 camera scripts\nusage: camera play | run --workers N | check | gen SEED COUNT | convert | auto | help\n";
 
 /// Does what the words ask for.
 pub fn camera_main<S: Source, K: Sink>(
@@ -44,7 +46,8 @@ pub fn camera_main<S: Source, K: Sink>(
 
     // Status 0: the help text; or the source was read to its end, and the whole trace of the script's played run was
     // written, which is complete; or the summary of that of the generated script; or the trace that was read is a
-    // complete legal run of the script that was read; or the trace that was read was written as one of version 2.
+    // complete legal run of the script that was read; or the trace that was read was written as one of version 2; or
+    // the frames of the scenes that were read, with their trace.
     ensures help_done { form_of words.now ≡ Option.Some Form.Help → result.number ≡ 0
         → Writes (K.state sink.old) (K.state sink.new) help_text }
     ensures play_done { form_of words.now ≡ Option.Some Form.Play → result.number ≡ 0 → IsAtEnd (S.left source.new)
@@ -56,6 +59,8 @@ pub fn camera_main<S: Source, K: Sink>(
     ensures convert_done { form_of words.now ≡ Option.Some Form.Convert → result.number ≡ 0
         → IsAtEnd (S.left source.new)
         × IfSome (S.left source.old) (λ input. IsConverted input (K.state sink.old) (K.state sink.new)) }
+    ensures auto_done { form_of words.now ≡ Option.Some Form.Auto → result.number ≡ 0 → IsAtEnd (S.left source.new)
+        × IfSome (S.left source.old) (λ input. IsCaptured input (K.state sink.old) (K.state sink.new)) }
     ensures done_built { result.number ≡ 0 → is_built (form_of words.now) ≡ true }
 
     // Other words read nothing.
@@ -71,9 +76,10 @@ pub fn camera_main<S: Source, K: Sink>(
         Some(Form::Play) => play_call(alloc, source, sink),
         Some(Form::Check) => check_call(alloc, source, sink),
         Some(Form::Convert) => convert_call(alloc, source, sink),
+        Some(Form::Auto) => auto_call(alloc, source, sink),
         Some(Form::Help) => help_call(sink),
         Some(Form::Gen { seed, count }) => gen_call(alloc, seed, count, sink),
-        Some(Form::Run { .. } | Form::Auto | Form::Reprocess) | None => usage(sink),
+        Some(Form::Run { .. } | Form::Reprocess) | None => usage(sink),
     }
 }
 

@@ -1,13 +1,14 @@
 //! A run with all its memory taken: the script is opened, and room for printing is there, before the first move.
-ghost use Rattle.std.specs.Prelude.{◌≡◌, IfOk, IsTrue};
+ghost use Rattle.std.specs.Prelude.{◌≡◌, ◌++◌, IfOk, IsTrue};
 ghost use Rattle.cam_types.specs.Script.{is_valid};
 ghost use Rattle.io_edge.specs.States.{Breaks, Writes};
 ghost use Rattle.call_status.specs.Answers.{Answers};
+ghost use Rattle.camera_top.specs.Auto.{PlaysBehind};
 ghost use Rattle.camera_top.specs.Says.{PlaysAs, named_profile, text_in};
 
 use call_status::Status;
 use cam_types::{NoMemory, Profile, Script};
-use io_edge::Sink;
+use io_edge::{Sink, write_all};
 use job_hands::Hands;
 use job_moves::no_job_is_out_at_first;
 use service_core::Service;
@@ -86,6 +87,40 @@ pub fn play_prepared<K: Sink>(prepared: Prepared, output: Output, sink: &mut K) 
     let status = write_run(&mut writer, &service, output, sink);
     close(service, hands);
     status
+}
+
+/// Plays the run, and writes a front and its trace behind that. It takes no memory: the status is 0, or 4 where the sink
+/// failed.
+pub(crate) fn play_behind<K: Sink>(prepared: Prepared, front: &[u8], sink: &mut K) -> Status
+    ensures { PlaysBehind front.now prepared result.number (K.state sink.old) (K.state sink.new) }
+{
+    no_job_is_out_at_first();
+    let Prepared {
+        mut service,
+        mut hands,
+        mut writer,
+    } = prepared;
+    play(&mut service, &mut hands);
+    let status = write_behind(front, &mut writer, &service, sink);
+    close(service, hands);
+    status
+}
+
+/// Writes a front, and the trace of a service behind it.
+fn write_behind<K: Sink>(
+    front: &[u8],
+    writer: &mut TraceWriter,
+    service: &Service,
+    sink: &mut K,
+) -> Status
+    requires { writer.old ≡ named_profile service.now.script }
+    ensures { Answers 0 (front.now ++ text_in Output.Trace service.now.script service.now.history) result.number
+        (K.state sink.old) (K.state sink.new) }
+{
+    match write_all(sink, front) {
+        Ok(()) => write_trace(writer, service, sink),
+        Err(_) => Status::SINK_FAILED,
+    }
 }
 
 /// The profile that the first line of a script's trace names: none for a script of version 1.

@@ -32,10 +32,10 @@ const NO_COMMANDS: &[u8] =
 const TOO_LONG: &[u8] = b"refused script 0 37\n";
 
 const USAGE: &[u8] =
-    b"usage: camera play | run --workers N | check | gen SEED COUNT | convert | help\n";
+    b"usage: camera play | run --workers N | check | gen SEED COUNT | convert | auto | help\n";
 
 const HELP: &[u8] =
-    b"camera: plays, runs and judges HAL3 camera scripts\nusage: camera play | run --workers N | check | gen SEED COUNT | convert | help\n";
+    b"camera: plays, runs and judges HAL3 camera scripts\nusage: camera play | run --workers N | check | gen SEED COUNT | convert | auto | help\n";
 
 /// A script that closes, and its trace.
 const JUDGED: &[u8] = b"camera 1\nclose\ntrace 1\nbegin close\ncall 0 close = ok\nend\n";

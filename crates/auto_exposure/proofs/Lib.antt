@@ -1,0 +1,4 @@
+pub mod Bright
+pub mod Least
+pub mod Halves
+pub mod Found

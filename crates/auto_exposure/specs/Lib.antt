@@ -1,0 +1,3 @@
+pub mod Brightness
+pub mod Search
+pub mod Scene

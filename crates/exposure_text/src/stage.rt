@@ -1,0 +1,15 @@
+//! What stands after some lines.
+use crate::text::AutoText;
+
+/// What stands after some lines.
+#[derive(Drop)]
+pub enum Stage {
+    /// Nothing that counts.
+    Empty,
+    /// The version.
+    Named,
+    /// The version and the target.
+    Aimed { target: u32 },
+    /// The sensitivity too, and any scenes.
+    Whole(AutoText),
+}
