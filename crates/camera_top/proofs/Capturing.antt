@@ -1,5 +1,5 @@
 -- What is written with a front, and what `auto` tells of an input.
-use Rattle.std.proofs.Common.{◌≡◌, ℕ, ◌+◌, ◌<◌, true, List, ◌++◌, Option, Some, None, Result, Ok, Err, refl, ◌∙◌, arith, inl, inr, length, nat_lt, take, IfSome}
+use Rattle.std.proofs.Common.{◌≡◌, ℕ, ◌+◌, ◌<◌, true, List, ◌++◌, ◌⊎◌, Option, Some, None, Result, Ok, Err, refl, ◌∙◌, arith, inl, inr, length, nat_lt, take, IfSome}
 use Rattle.std.proofs.KnownBytes.{Appends-trans}
 use Rattle.std.proofs.Math.Seq.{take-append-add}
 use Rattle.std.proofs.lemmas.Bool.Decides.{nat_tests}
@@ -17,7 +17,9 @@ use Rattle.auto_output.specs.Lines.{front_of}
 use Rattle.auto_output.specs.Output.{lines_of}
 use Rattle.run_model.specs.History.{trace_of}
 use Rattle.call_status.specs.Answers.{Answers, AnswersWithMemory, Tells, TellsBy, Untouched}
-use Rattle.camera_top.specs.Auto.{Captures, CapturesText, IsCaptured, PlaysBehind, frames_script}
+use Rattle.camera_top.specs.Auto.{Captures, CapturesText, IsCaptured, frames_script}
+use Rattle.camera_top.specs.Says.{PlaysBehind}
+use Rattle.camera_top.specs.declared.prepared.Output.TheVariants.{Trace}
 use Rattle.camera_top.proofs.Telling.{KeepsLawsAtEnd}
 
 -- ---- a front, and a text behind it
@@ -60,7 +62,7 @@ long_refused None status before after l h = tt
 long_refused (Some input) status before after l h = rw (too-long input l) (inr (refused 0 Limit status before after h))
 
 -- the frames are played behind their lines
-pub captured : (text : AutoText) (front : List ℕ) (status : ℕ) (before after : SinkState) → front ≡ front_of (lines_of text) → ((status ≡ 5) × Untouched before after) ⊎ PlaysBehind front (frames_script text) status before after → TellsBy (CapturesText (Ok text)) status before after
+pub captured : (text : AutoText) (front : List ℕ) (status : ℕ) (before after : SinkState) → front ≡ front_of (lines_of text) → ((status ≡ 5) × Untouched before after) ⊎ PlaysBehind front Trace (frames_script text) status before after → TellsBy (CapturesText (Ok text)) status before after
 captured text front status before after is (inl h) = inl h
 captured text front status before after is (inr plays) =
     inr (0, _, (refl, record { history = plays.history; run = plays.run; shown = refl }), rw is at plays.answers)

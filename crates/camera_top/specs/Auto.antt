@@ -12,7 +12,6 @@ use Rattle.run_laws.specs.Lawful.{KeepsLaws}
 use Rattle.run_model.specs.History.{trace_of}
 use Rattle.run_model.specs.Played.{IsPlayedRun}
 use Rattle.run_model.specs.declared.step.Move.{Move}
-use Rattle.call_status.specs.Answers.{Answers}
 use Rattle.camera_top.specs.Says.{text_in}
 use Rattle.camera_top.specs.declared.prepared.Output.TheVariants.{Trace}
 
@@ -40,12 +39,6 @@ CapturesText (Err NoMemory) status told = ⊥
 
 abbrev pub Captures : List ℕ → ℕ → List ℕ → Type 0
 Captures input status told = CapturesText (auto_text_of input) status told
-
--- a front, and behind it the trace of the script's played run, is written, or the status is 4 and the sink failed
-pub record PlaysBehind (front : List ℕ) (script : Script) (status : ℕ) (before after : SinkState) : Type 0 where
-  pub history : List Move
-  pub run : IsPlayedRun script history
-  pub answers : Answers 0 (front ++ text_in Trace script history) status before after
 
 -- the input asks for scenes, and what was written is the lines of their frames, found by the least exposures alone, and
 -- the trace of the frames' played run, which is complete and keeps the laws

@@ -1,4 +1,4 @@
-use Rattle.std.specs.Prelude.{◌≡◌, ◌==◌, ℕ, List, Option, Some, None, Result, Ok, Err, reverse, if◌then◌else◌}
+use Rattle.std.specs.Prelude.{◌≡◌, ◌==◌, ℕ, List, ◌++◌, Option, Some, None, Result, Ok, Err, reverse, if◌then◌else◌}
 use Rattle.io_edge.specs.States.{SinkState, Writes}
 use Rattle.cam_types.specs.declared.profile.Profile.{Profile}
 use Rattle.cam_types.specs.declared.script.Script.{Script}
@@ -41,6 +41,12 @@ pub record PlaysAs (output : Output) (script : Script) (status : ℕ) (before af
   pub history : List Move
   pub run : IsPlayedRun script history
   pub answers : Answers 0 (text_in output script history) status before after
+
+-- the same behind a front
+pub record PlaysBehind (front : List ℕ) (output : Output) (script : Script) (status : ℕ) (before after : SinkState) : Type 0 where
+  pub history : List Move
+  pub run : IsPlayedRun script history
+  pub answers : Answers 0 (front ++ text_in output script history) status before after
 
 -- of a script that is played
 abbrev pub SaysOfScript : Output → Script → ℕ → List ℕ → Type 0

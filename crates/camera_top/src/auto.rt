@@ -7,9 +7,10 @@ ghost use Rattle.cam_types.specs.Script.{is_valid as is_valid_script};
 ghost use Rattle.call_status.specs.Answers.{AnswersWithMemory, Tells, TellsBy, Untouched};
 ghost use Rattle.exposure_text.specs.Spelling.{refused_text};
 ghost use Rattle.exposure_text.specs.Valid.{is_valid};
-ghost use Rattle.camera_top.specs.Auto.{Captures, CapturesText, IsCaptured, PlaysBehind};
+ghost use Rattle.camera_top.specs.Auto.{Captures, CapturesText, IsCaptured};
+ghost use Rattle.camera_top.specs.Says.{PlaysBehind};
 
-use crate::prepared::{play_behind, prepare};
+use crate::prepared::{Output, play_behind, prepare};
 use auto_output::{Drawn, draw_up};
 use call_status::{Status, answer};
 use cam_types::{SCRIPT_BYTES, Script};
@@ -72,10 +73,10 @@ fn capture_scenes<K: Sink>(alloc: Global, text: &AutoText, sink: &mut K) -> Stat
 fn play_frames<K: Sink>(alloc: Global, front: &[u8], script: Script, sink: &mut K) -> Status
     requires { IsTrue (is_valid_script script) }
     ensures { ((result.number ≡ 5) × Untouched (K.state sink.old) (K.state sink.new))
-        ⊎ PlaysBehind front.now script result.number (K.state sink.old) (K.state sink.new) }
+        ⊎ PlaysBehind front.now Output.Trace script result.number (K.state sink.old) (K.state sink.new) }
 {
     match prepare(alloc, script) {
-        Ok(prepared) => play_behind(prepared, front, sink),
+        Ok(prepared) => play_behind(prepared, front, Output::Trace, sink),
         Err(_) => Status::NO_MEMORY,
     }
 }

@@ -3,8 +3,7 @@ ghost use Rattle.std.specs.Prelude.{◌≡◌, ◌++◌, IfOk, IsTrue};
 ghost use Rattle.cam_types.specs.Script.{is_valid};
 ghost use Rattle.io_edge.specs.States.{Breaks, Writes};
 ghost use Rattle.call_status.specs.Answers.{Answers};
-ghost use Rattle.camera_top.specs.Auto.{PlaysBehind};
-ghost use Rattle.camera_top.specs.Says.{PlaysAs, named_profile, text_in};
+ghost use Rattle.camera_top.specs.Says.{PlaysAs, PlaysBehind, named_profile, text_in};
 
 use call_status::Status;
 use cam_types::{NoMemory, Profile, Script};
@@ -77,22 +76,18 @@ pub fn prepare(alloc: Global, script: Script) -> Result<Prepared, NoMemory>
 pub fn play_prepared<K: Sink>(prepared: Prepared, output: Output, sink: &mut K) -> Status
     ensures { PlaysAs output prepared result.number (K.state sink.old) (K.state sink.new) }
 {
-    no_job_is_out_at_first();
-    let Prepared {
-        mut service,
-        mut hands,
-        mut writer,
-    } = prepared;
-    play(&mut service, &mut hands);
-    let status = write_run(&mut writer, &service, output, sink);
-    close(service, hands);
-    status
+    play_behind(prepared, &[], output, sink)
 }
 
-/// Plays the run, and writes a front and its trace behind that. It takes no memory: the status is 0, or 4 where the sink
-/// failed.
-pub(crate) fn play_behind<K: Sink>(prepared: Prepared, front: &[u8], sink: &mut K) -> Status
-    ensures { PlaysBehind front.now prepared result.number (K.state sink.old) (K.state sink.new) }
+/// Plays the run, and writes a front and behind it the run's trace or its summary. It takes no memory: the status is 0,
+/// or 4 where the sink failed.
+pub(crate) fn play_behind<K: Sink>(
+    prepared: Prepared,
+    front: &[u8],
+    output: Output,
+    sink: &mut K,
+) -> Status
+    ensures { PlaysBehind front.now output prepared result.number (K.state sink.old) (K.state sink.new) }
 {
     no_job_is_out_at_first();
     let Prepared {
@@ -101,24 +96,25 @@ pub(crate) fn play_behind<K: Sink>(prepared: Prepared, front: &[u8], sink: &mut 
         mut writer,
     } = prepared;
     play(&mut service, &mut hands);
-    let status = write_behind(front, &mut writer, &service, sink);
+    let status = write_behind(front, &mut writer, &service, output, sink);
     close(service, hands);
     status
 }
 
-/// Writes a front, and the trace of a service behind it.
+/// Writes a front, and behind it the trace of a service, or its summary.
 fn write_behind<K: Sink>(
     front: &[u8],
     writer: &mut TraceWriter,
     service: &Service,
+    output: Output,
     sink: &mut K,
 ) -> Status
     requires { writer.old ≡ named_profile service.now.script }
-    ensures { Answers 0 (front.now ++ text_in Output.Trace service.now.script service.now.history) result.number
+    ensures { Answers 0 (front.now ++ text_in output service.now.script service.now.history) result.number
         (K.state sink.old) (K.state sink.new) }
 {
     match write_all(sink, front) {
-        Ok(()) => write_trace(writer, service, sink),
+        Ok(()) => write_run(writer, service, output, sink),
         Err(_) => Status::SINK_FAILED,
     }
 }

@@ -4,8 +4,8 @@ use Rattle.service_core.specs.Answers.{adds}
 use Rattle.settle.proofs.Making.{exposure_taken, job_on, jobs_on, run_on, valid_on}
 use Rattle.settle.proofs.job_steps.expose.Goals as goal
 
-pub put_sensor-requires-clause-room : goal.put_sensor-requires-clause-room
-put_sensor-requires-clause-room c =
+pub put_sensor-requires : goal.put_sensor-requires
+put_sensor-requires c =
     let old = c.args.service.now in
     let new = c.shutter.new.self in
     let begun = c.in-Began.ensures in
