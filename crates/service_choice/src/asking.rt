@@ -33,7 +33,7 @@ pub fn first(service: &Service, kind: Kind) -> Option<StepName>
 
 /// The steps that are ready, in the order of candidates.
 pub fn candidates(alloc: Global, service: &Service) -> Result<Vec<StepName>, NoMemory>
-    ensures { IfOk result (λ steps. steps ≡ candidates_of service.now.script service.now.history) }
+    ensures { IfOk result (λ steps. steps.items ≡ candidates_of service.now.script service.now.history) }
 {
     service.is_a_run();
     candidates_are_read_from_the_parts();

@@ -1,8 +1,8 @@
 -- The first candidate of a kind is the first of that kind's own list.
-use Rattle.std.proofs.Common.{◌≡◌, ◌≢◌, ℕ, ◌==◌, Bool, true, false, List, [], ◌∷◌, ◌++◌, Option, Some, None, refl, sym, ap, ◌∙◌, arith, inl, inr, filter, find, map, slice_get, if◌then◌else◌}
-use Rattle.std.specs.List.{flat_map, get_or, list_all, list_any}
+use Rattle.std.proofs.Common.{◌≡◌, ℕ, ◌==◌, Bool, true, false, List, [], ◌∷◌, ◌++◌, Option, Some, None, refl, sym, ap, ◌∙◌, arith, inl, inr, map, slice_get, get_or, length, if◌then◌else◌}
+use Rattle.std.specs.List.{flat_map, list_all, list_any, range_with_len}
 use Rattle.std.specs.Option.{option_or}
-use Rattle.std.proofs.lemmas.Bool.{cases_Bool, and_parts, eqb-true, false≢true}
+use Rattle.std.proofs.lemmas.Bool.{cases_Bool, and_parts, eqb-true}
 use Rattle.std.proofs.lemmas.List.Folds.{find-append}
 use Rattle.basic_lemmas.proofs.Lists.{all-always, all-append, all-filtered, all-mapped}
 use Rattle.cam_types.specs.Four.{four_list}
@@ -14,13 +14,14 @@ use Rattle.cam_types.specs.declared.script.Script.{Script}
 use Rattle.run_model.specs.declared.step.Kind.{Kind}
 use Rattle.run_model.specs.declared.step.Kind.TheVariants as kind
 use Rattle.run_model.specs.declared.step.StepName.{StepName}
+use Rattle.run_model.specs.declared.step.StepName.TheVariants.{Release, Signal}
 use Rattle.ready_steps.specs.Candidates.{all_kinds, is_ready_by, ready_in, row_steps, steps_of_kind, target_steps}
 use Rattle.service_parts.specs.Parts.{Parts}
 use Rattle.service_choice.specs.Kinds.{first_of, is_of, kind_of, place_of}
 
 -- ---- kinds have places of their own
 
-kind-at : ℕ → Kind
+abbrev kind-at : ℕ → Kind
 kind-at i = get_or all_kinds i kind.Send
 
 at-place : (k : Kind) → kind-at (place_of k) ≡ k
@@ -60,8 +61,8 @@ numbers-of k step ns each = all-mapped (is_of k) step ns ∙ all-always (λ n. i
 
 kind-steps : (p : Parts) (k : Kind) → list_all (is_of k) (steps_of_kind p k) ≡ true
 kind-steps p kind.Send = refl
-kind-steps p kind.Release = numbers-of kind.Release _ _ (λ n. refl)
-kind-steps p kind.Signal = numbers-of kind.Signal _ _ (λ n. refl)
+kind-steps p kind.Release = numbers-of kind.Release (λ b. Release (record { 0 = b })) (range_with_len p.buffers.first (length p.buffers.places)) (λ n. refl)
+kind-steps p kind.Signal = numbers-of kind.Signal (λ f. Signal (record { 0 = f })) (range_with_len 0 (length p.buffers.signalled)) (λ n. refl)
 kind-steps p kind.Client = refl
 kind-steps p kind.DropQueued = refl
 kind-steps p kind.Fail = rows-of kind.Fail _ p.rows (λ n. refl)

@@ -1,0 +1,6 @@
+use Rattle.std.proofs.Common.{◌≡◌, take}
+use Rattle.ready_steps.specs.Candidates.{candidates_by}
+use Rattle.service_choice.proofs.asking.candidates.Given as goal
+
+abbrev pub invariant-loop-number : goal.invariant-loop-number
+invariant-loop-number l = l.steps.items ≡ take l.number (candidates_by l.state.script l.state.parts)
