@@ -16,9 +16,9 @@ contained-held [] job at = absurd (omega (arith, at.1))
 contained-held (x ∷ xs) job at = elim (cases_Bool (x.frame.0 == job.frame.0)) [
   | inl here ↦ rw here refl
   | inr other ↦ ⊎_elim
-    (λ (e : x ≡ job). absurd (false≢true (sym other ∙ eq-eqb x.frame.0 job.frame.0 (ap (λ (j : JobView). j.frame.0) e))))
-    (λ (c : Contains xs job). rw other (contained-held xs job c))
-    (contains_rest x xs job at)
+      (λ (e : x ≡ job). absurd (false≢true (sym other ∙ eq-eqb x.frame.0 job.frame.0 (ap (λ (j : JobView). j.frame.0) e))))
+      (λ (c : Contains xs job). rw other (contained-held xs job c))
+      (contains_rest x xs job at)
 ]
 
 -- no job of a frame that has none
@@ -27,9 +27,9 @@ not-contained [] job none at = omega (arith, at.1)
 not-contained (x ∷ xs) job none at = elim (cases_Bool (x.frame.0 == job.frame.0)) [
   | inl here ↦ (let none' = rw here at none in absurd (cc))
   | inr other ↦ ⊎_elim
-    (λ (e : x ≡ job). false≢true (sym other ∙ eq-eqb x.frame.0 job.frame.0 (ap (λ (j : JobView). j.frame.0) e)))
-    (λ (c : Contains xs job). not-contained xs job (rw other at none) c)
-    (contains_rest x xs job at)
+      (λ (e : x ≡ job). false≢true (sym other ∙ eq-eqb x.frame.0 job.frame.0 (ap (λ (j : JobView). j.frame.0) e)))
+      (λ (c : Contains xs job). not-contained xs job (rw other at none) c)
+      (contains_rest x xs job at)
 ]
 
 -- a job in the list is found by its frame
@@ -39,16 +39,16 @@ contained-found (x ∷ xs) job differ at =
     let parts = and_parts (not (is_held x.frame.0 xs)) (frames_differ xs) differ in
     elim (cases_Bool (x.frame.0 == job.frame.0)) [
       | inl here ↦ ⊎_elim
-        (λ (e : x ≡ job). rw here (ap Some e))
-        (λ (c : Contains xs job).
-            let same : x.frame.0 ≡ job.frame.0 = eqb-true x.frame.0 job.frame.0 here in
-            let held : is_held x.frame.0 xs ≡ true = ap (λ (n : ℕ). is_held n xs) same ∙ contained-held xs job c in
-            absurd (false≢true (sym (not-true (is_held x.frame.0 xs) parts.0) ∙ held)))
-        (contains_rest x xs job at)
+          (λ (e : x ≡ job). rw here (ap Some e))
+          (λ (c : Contains xs job).
+          let same : x.frame.0 ≡ job.frame.0 = eqb-true x.frame.0 job.frame.0 here in
+          let held : is_held x.frame.0 xs ≡ true = ap (λ (n : ℕ). is_held n xs) same ∙ contained-held xs job c in
+          absurd (false≢true (sym (not-true (is_held x.frame.0 xs) parts.0) ∙ held)))
+          (contains_rest x xs job at)
       | inr other ↦ ⊎_elim
-        (λ (e : x ≡ job). absurd (false≢true (sym other ∙ eq-eqb x.frame.0 job.frame.0 (ap (λ (j : JobView). j.frame.0) e))))
-        (λ (c : Contains xs job). rw other (contained-found xs job parts.1 c))
-        (contains_rest x xs job at)
+          (λ (e : x ≡ job). absurd (false≢true (sym other ∙ eq-eqb x.frame.0 job.frame.0 (ap (λ (j : JobView). j.frame.0) e))))
+          (λ (c : Contains xs job). rw other (contained-found xs job parts.1 c))
+          (contains_rest x xs job at)
     ]
 
 -- none stands there twice

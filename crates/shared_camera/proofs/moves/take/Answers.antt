@@ -9,9 +9,8 @@ pub unreachable-requires : goal.unreachable-requires
 unreachable-requires c =
     let s = c.args.service.now in
     let which = takes-which c.args.step (first-of-kind s.script s.history kind.TakeFill c.args.step c.requires) in
-    let not-taking = c.in_default.not-TakeFill in
-    ?
+    c.in_default.not-TakeFill which.0 which.1 which.2
 
-pub returns-in-TakeFill : goal.returns-in-TakeFill
-returns-in-TakeFill c =
+pub returns : goal.returns
+returns c =
     filling-made c.in-TakeFill.frame c.in-TakeFill.stream c.args.service.now c.take_fill.new.self c.take_fill.result (c.requires ∙ ap (λ (s : StepName). Some s) c.in-TakeFill.is) c.take_fill.ensures
