@@ -3,3 +3,4 @@ pub mod Outs
 pub mod Firsts
 pub mod Making
 pub mod Turning
+pub mod LentSeats

@@ -190,15 +190,15 @@ module _ (start : Script) (v w : View Script Move JobView) (old new : State) (en
     turned-kind k (Did e) told run = turned (made-script told.move told.first.made) (made-begins told.move told.first.made) run
     turned-kind k NotReady told run = turned (ap (λ (s : State). s.script) told.same) (still-begins told.same) run
 
-    pub answered-kind : (k : Kind) (answer : Step) → is_of_jobs k ≡ false → AnswersKind k old answer new → AnswersTurn start k v answer x
-    answered-kind k (Did e) alone told = record {
-      move = told.move;
-      entry = told.entry;
-      end = ended-first k told.move told.first;
-      jobs = own_jobs script_of moves_of jobs_of start v w (camera old) (camera new) entered (made-script told.move told.first.made) (made-begins told.move told.first.made) x leaves
-          (alone-jobs told.move told.first.made (kind-alone k told.move alone told.first));
-    }
-    answered-kind k NotReady alone told = stayed k told
+    pub answered-kind : (k : Kind) (answer : Step) → AnswersKind k old answer new → AnswersTurn start k v answer x
+    answered-kind k (Did e) told = record { move = told.move; entry = told.entry; end = ended-first k told.move told.first }
+    answered-kind k NotReady told = stayed k told
+
+    pub jobs-kind : (k : Kind) (answer : Step) → is_of_jobs k ≡ false → AnswersKind k old answer new → IsPermutation x.jobs v.jobs
+    jobs-kind k (Did e) alone told =
+        own_jobs script_of moves_of jobs_of start v w (camera old) (camera new) entered (made-script told.move told.first.made) (made-begins told.move told.first.made) x leaves
+        (alone-jobs told.move told.first.made (kind-alone k told.move alone told.first))
+    jobs-kind k NotReady alone told = jobs-still told.same
 
     pub turned-exposure : (answer : Shuttered) → AnswersExposure old answer new → IsRun new.script new.history → IsTurn start v x
     turned-exposure (Began e job) told run = turned (made-script told.move told.first.made) (made-begins told.move told.first.made) run

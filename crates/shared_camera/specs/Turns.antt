@@ -60,7 +60,6 @@ pub record DidFirst (script : Script) (k : Kind) (e : Entry) (v w : View Script 
   pub move : Move
   pub entry : move.entry ≡ Some e
   pub end : EndsWithFirst script k move v w
-  pub jobs : IsPermutation w.jobs v.jobs
 
 abbrev pub AnswersTurn : Script → Kind → View Script Move JobView → Step → View Script Move JobView → Type 0
 AnswersTurn script k v (Did e) w = DidFirst script k e v w

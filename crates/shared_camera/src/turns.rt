@@ -24,6 +24,7 @@ impl Shared {
         ensures turn { IsTurn (fixed_of script_of self.now.turnstile) (view seat.old) (view seat.new) }
         ensures answer { AnswersTurn (fixed_of script_of self.now.turnstile) kind (view seat.old) result
             (view seat.new) }
+        ensures jobs { IsPermutation (view seat.new).jobs (view seat.old).jobs }
     {
         let mut held = self.turnstile.enter(rt, seat);
         let answer = make_first(&mut held.value.service, kind);
