@@ -66,3 +66,11 @@ no_length (job ∷ jobs) e = absurd (omega arith)
 -- where no job was out, none is
 pub idle : {J : Type 0} (before after : List J) → IsPermutation after before → before ≡ [] → after ≡ []
 idle before after p e = no_length after (sym (length_permutation after before p) ∙ ap length e)
+
+-- who has taken a job has it
+pub has_it : {J : Type 0} (job : J) (before after : List J) → IsPermutation after (job ∷ before) → Contains after job
+has_it job before after p = Contains-permutation (job ∷ before) after job (IsPermutation-sym after (job ∷ before) p) (0, omega arith, refl)
+
+-- and once it is given back, no other
+pub has_none : {J : Type 0} (job : J) (before between after : List J) → IsPermutation between (job ∷ before) → before ≡ [] → IsPermutation between (job ∷ after) → after ≡ []
+has_none job before between after p e q = no_length after (omega (arith, length_permutation between (job ∷ before) p, length_permutation between (job ∷ after) q, ap length e))

@@ -2,7 +2,8 @@
 ghost use Rattle.std.specs.Prelude.{◌≡◌, ◌≤◌, [], Some, IfSome, slice_get};
 ghost use mathlib.Core.List.{IsPrefix};
 ghost use Rattle.turn_lock.specs.Seats.{view};
-ghost use Rattle.turn_tally.specs.Tallies.{IsReady, IsBack, IsIdle, IsDone, IsRootAgain};
+ghost use Rattle.turn_lock.specs.Lending.{IsReady, IsBack, IsIdle, IsDone, IsRootAgain};
+ghost use Rattle.turn_tally.specs.Tallies.{name_of};
 ghost use denote.Param.Send.{IsSync};
 
 use crate::tally::Tally;
@@ -48,8 +49,9 @@ fn side_by_side<R: Threads + Wait + Sync>(
     x: u64,
     y: u64,
 ) -> (Option<usize>, Option<usize>)
-    requires { IsReady turnstile.now first.old × IsReady turnstile.now second.old }
-    ensures back { IsBack turnstile.now (view first.old) first.new × IsBack turnstile.now (view second.old) second.new }
+    requires { IsReady name_of turnstile.now first.old × IsReady name_of turnstile.now second.old }
+    ensures back { IsBack name_of turnstile.now (view first.old) first.new
+        × IsBack name_of turnstile.now (view second.old) second.new }
     ensures first { IfSome result.0 (λ place. slice_get (view first.new).seen place ≡ Some x) }
     ensures second { IfSome result.1 (λ place. slice_get (view second.new).seen place ≡ Some y) }
 {
@@ -70,9 +72,9 @@ pub fn add_by_many<R: Threads + Wait + Sync>(
     entry: u64,
     count: u32,
 ) -> u64
-    requires idle { IsIdle turnstile.now root.old }
+    requires idle { IsIdle name_of turnstile.now root.old }
     requires root { (view root.old).number ≡ 0 }
-    ensures { IsRootAgain turnstile.now (view root.old) root.new }
+    ensures { IsRootAgain name_of turnstile.now (view root.old) root.new }
 {
     if threads < 2 {
         return add_often(rt, turnstile, root, entry, count);
@@ -81,11 +83,12 @@ pub fn add_by_many<R: Threads + Wait + Sync>(
     let (by_other, by_more) = join_mut(
         rt,
         &mut || -> u64
-            requires { IsIdle turnstile.now other }
+            requires { IsIdle name_of turnstile.now other }
         { add_often(rt, turnstile, &mut other, entry, count) },
         &mut || -> u64
-            requires { IsSync R.row × IsIdle turnstile.now root.now × ((view root.now).number ≡ 0) × (2 ≤ threads) }
-            ensures { IsRootAgain turnstile.entry.now (view root.entry.now) root.exit.now }
+            requires { IsSync R.row × IsIdle name_of turnstile.now root.now × ((view root.now).number ≡ 0)
+                × (2 ≤ threads) }
+            ensures { IsRootAgain name_of turnstile.entry.now (view root.entry.now) root.exit.now }
         { add_by_many(rt, turnstile, root, threads - 1, entry, count) },
     );
     turnstile.join(root, other);
@@ -100,8 +103,8 @@ fn add_often<R: Wait>(
     entry: u64,
     count: u32,
 ) -> u64
-    requires { IsIdle turnstile.now seat.old }
-    ensures done { IsDone turnstile.now (view seat.old) seat.new }
+    requires { IsIdle name_of turnstile.now seat.old }
+    ensures done { IsDone name_of turnstile.now (view seat.old) seat.new }
     ensures begins { IsPrefix (view seat.old).seen (view seat.new).seen }
 {
     let mut added = 0;
@@ -120,8 +123,8 @@ fn add_once<R: Wait>(
     seat: &mut Seat<Tally>,
     entry: u64,
 ) -> bool
-    requires { IsIdle turnstile.now seat.old }
-    ensures done { IsDone turnstile.now (view seat.old) seat.new }
+    requires { IsIdle name_of turnstile.now seat.old }
+    ensures done { IsDone name_of turnstile.now (view seat.old) seat.new }
     ensures begins { IsPrefix (view seat.old).seen (view seat.new).seen }
 {
     add_turn(rt, turnstile, seat, entry).is_ok()

@@ -1,7 +1,8 @@
 //! Threads add numbers through a turnstile, and none is lost.
 ghost use Rattle.std.specs.Prelude.{◌≡◌, ◌<◌, ◌^◌, []};
 ghost use Rattle.turn_lock.specs.Seats.{view};
-ghost use Rattle.turn_tally.specs.Tallies.{IsIdle, IsDone};
+ghost use Rattle.turn_lock.specs.Lending.{IsIdle, IsDone};
+ghost use Rattle.turn_tally.specs.Tallies.{name_of};
 
 use crate::{Tally, add_all, add_both, add_by_many, lend_turn, return_turn};
 use std::alloc::Global;
@@ -61,18 +62,20 @@ fn four_side_by_side<R: Threads + Wait + Sync>(
     three: &mut Seat<Tally>,
     four: &mut Seat<Tally>,
 ) -> [Places; 4]
-    requires front { IsIdle turnstile.now one.old × IsIdle turnstile.now two.old }
-    requires back { IsIdle turnstile.now three.old × IsIdle turnstile.now four.old }
-    ensures front { IsDone turnstile.now (view one.old) one.new × IsDone turnstile.now (view two.old) two.new }
-    ensures back { IsDone turnstile.now (view three.old) three.new × IsDone turnstile.now (view four.old) four.new }
+    requires front { IsIdle name_of turnstile.now one.old × IsIdle name_of turnstile.now two.old }
+    requires back { IsIdle name_of turnstile.now three.old × IsIdle name_of turnstile.now four.old }
+    ensures front { IsDone name_of turnstile.now (view one.old) one.new
+        × IsDone name_of turnstile.now (view two.old) two.new }
+    ensures back { IsDone name_of turnstile.now (view three.old) three.new
+        × IsDone name_of turnstile.now (view four.old) four.new }
 {
     let ((a, b), (c, d)) = join_mut(
         rt,
         &mut || -> (Places, Places)
-            requires { IsIdle turnstile.now one.now × IsIdle turnstile.now two.now }
+            requires { IsIdle name_of turnstile.now one.now × IsIdle name_of turnstile.now two.now }
         { two_add(rt, alloc, turnstile, one, two, 0) },
         &mut || -> (Places, Places)
-            requires { IsIdle turnstile.now three.now × IsIdle turnstile.now four.now }
+            requires { IsIdle name_of turnstile.now three.now × IsIdle name_of turnstile.now four.now }
         { two_add(rt, alloc, turnstile, three, four, 2 * EACH) },
     );
     [a, b, c, d]
@@ -86,11 +89,11 @@ fn two_add<R: Threads + Wait + Sync>(
     second: &mut Seat<Tally>,
     start: u64,
 ) -> (Places, Places)
-    requires first { IsIdle turnstile.now first.old }
-    requires second { IsIdle turnstile.now second.old }
+    requires first { IsIdle name_of turnstile.now first.old }
+    requires second { IsIdle name_of turnstile.now second.old }
     requires range { start < 2 ^ 32 }
-    ensures first { IsDone turnstile.now (view first.old) first.new }
-    ensures second { IsDone turnstile.now (view second.old) second.new }
+    ensures first { IsDone name_of turnstile.now (view first.old) first.new }
+    ensures second { IsDone name_of turnstile.now (view second.old) second.new }
 {
     join_mut(
         rt,
@@ -106,9 +109,9 @@ fn add_from<R: Wait>(
     seat: &mut Seat<Tally>,
     start: u64,
 ) -> Places
-    requires seat { IsIdle turnstile.now seat.old }
+    requires seat { IsIdle name_of turnstile.now seat.old }
     requires range { start < 2 ^ 33 }
-    ensures { IsDone turnstile.now (view seat.old) seat.new }
+    ensures { IsDone name_of turnstile.now (view seat.old) seat.new }
 {
     add_all(rt, alloc, turnstile, seat, start, EACH).ok()
 }
@@ -175,10 +178,10 @@ fn lend_beside<R: Wait>(
     root: &mut Seat<Tally>,
     other: &mut Seat<Tally>,
 ) -> Option<(bool, bool)>
-    requires root { IsIdle turnstile.now root.old }
-    requires other { IsIdle turnstile.now other.old }
-    ensures root { IsDone turnstile.now (view root.old) root.new }
-    ensures other { IsDone turnstile.now (view other.old) other.new }
+    requires root { IsIdle name_of turnstile.now root.old }
+    requires other { IsIdle name_of turnstile.now other.old }
+    ensures root { IsDone name_of turnstile.now (view root.old) root.new }
+    ensures other { IsDone name_of turnstile.now (view other.old) other.new }
 {
     let Ok(lent) = lend_turn(rt, turnstile, root, 5) else {
         return None;
@@ -199,8 +202,8 @@ fn borrow_once<R: Wait>(
     seat: &mut Seat<Tally>,
     ticket: u64,
 ) -> Option<bool>
-    requires { IsIdle turnstile.now seat.old }
-    ensures { IsDone turnstile.now (view seat.old) seat.new }
+    requires { IsIdle name_of turnstile.now seat.old }
+    ensures { IsDone name_of turnstile.now (view seat.old) seat.new }
 {
     let Ok(lent) = lend_turn(rt, turnstile, seat, ticket) else {
         return None;

@@ -2,7 +2,8 @@
 ghost use Rattle.std.specs.Prelude.{◌≡◌, ◌+◌, ◌<◌, ◌^◌, ◌∷◌, Some, IfOk, OnErr, MatchBool, IsPermutation, Contains, length, vec_len, slice_get};
 ghost use mathlib.Core.List.{IsPrefix};
 ghost use Rattle.turn_lock.specs.Seats.{view};
-ghost use Rattle.turn_tally.specs.Tallies.{IsReady, SameSeat, StandFrom};
+ghost use Rattle.turn_lock.specs.Lending.{IsReady, SameSeat};
+ghost use Rattle.turn_tally.specs.Tallies.{StandFrom, name_of};
 
 use crate::tally::{NoMemory, Tally};
 use std::alloc::Global;
@@ -16,8 +17,8 @@ pub fn add_turn<R: Wait>(
     seat: &mut Seat<Tally>,
     entry: u64,
 ) -> Result<usize, NoMemory>
-    requires { IsReady turnstile.now seat.old }
-    ensures seat { IsReady turnstile.now seat.new × SameSeat (view seat.old) (view seat.new) }
+    requires { IsReady name_of turnstile.now seat.old }
+    ensures seat { IsReady name_of turnstile.now seat.new × SameSeat (view seat.old) (view seat.new) }
     ensures begins { IsPrefix (view seat.old).seen (view seat.new).seen }
     ensures added { IfOk result
         (λ place. (slice_get (view seat.new).seen place ≡ Some entry) × (place + 1 ≡ length (view seat.new).seen)) }
@@ -36,8 +37,8 @@ pub fn lend_turn<R: Wait>(
     seat: &mut Seat<Tally>,
     ticket: u64,
 ) -> Result<bool, NoMemory>
-    requires { IsReady turnstile.now seat.old }
-    ensures seat { IsReady turnstile.now seat.new × SameSeat (view seat.old) (view seat.new) }
+    requires { IsReady name_of turnstile.now seat.old }
+    ensures seat { IsReady name_of turnstile.now seat.new × SameSeat (view seat.old) (view seat.new) }
     ensures begins { IsPrefix (view seat.old).seen (view seat.new).seen }
     ensures lent { IfOk result
         (λ done. MatchBool done (IsPermutation (view seat.new).jobs (ticket ∷ (view seat.old).jobs))
@@ -57,9 +58,9 @@ pub fn return_turn<R: Wait>(
     seat: &mut Seat<Tally>,
     ticket: u64,
 )
-    requires seat { IsReady turnstile.now seat.old }
+    requires seat { IsReady name_of turnstile.now seat.old }
     requires out { Contains (view seat.old).jobs ticket }
-    ensures seat { IsReady turnstile.now seat.new × SameSeat (view seat.old) (view seat.new) }
+    ensures seat { IsReady name_of turnstile.now seat.new × SameSeat (view seat.old) (view seat.new) }
     ensures begins { IsPrefix (view seat.old).seen (view seat.new).seen }
     ensures returned { IsPermutation (view seat.old).jobs (ticket ∷ (view seat.new).jobs) }
 {
@@ -77,9 +78,9 @@ pub fn add_all<R: Wait>(
     from: u64,
     count: u64,
 ) -> Result<Vec<usize>, NoMemory>
-    requires seat { IsReady turnstile.now seat.old }
+    requires seat { IsReady name_of turnstile.now seat.old }
     requires range { from + count < 2 ^ 64 }
-    ensures seat { IsReady turnstile.now seat.new × SameSeat (view seat.old) (view seat.new) }
+    ensures seat { IsReady name_of turnstile.now seat.new × SameSeat (view seat.old) (view seat.new) }
     ensures begins { IsPrefix (view seat.old).seen (view seat.new).seen }
     ensures added { IfOk result
         (λ places. (vec_len places ≡ count) × StandFrom (view seat.new).seen places.items from) }

@@ -1,7 +1,6 @@
 use Rattle.std.proofs.Common.{◌∙◌}
 use Rattle.std.proofs.lemmas.Bool.Decides.{when_true, when_false}
-use Rattle.turn_lock.proofs.ForCallers.{idle}
-use Rattle.turn_tally.proofs.Lending.{has_it, has_none}
+use Rattle.turn_lock.proofs.ForCallers.{has_it, has_none, idle}
 use Rattle.turn_tally.proofs.tests.borrow_once.Goals as goal
 
 pub returns-in_default : goal.returns-in_default

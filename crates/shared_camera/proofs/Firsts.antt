@@ -1,0 +1,65 @@
+-- The first ready step of a kind is of the kind, and ready.
+use Rattle.std.proofs.Common.{◌≡◌, ℕ, Bool, true, false, List, [], ◌∷◌, Option, Some, None, refl, sym, ap, ◌∙◌, inl, inr, filter, find, is_some}
+use Rattle.std.proofs.lemmas.Bool.{cases_Bool, false≢true}
+use Rattle.cam_types.specs.declared.number.FrameNo.{FrameNo}
+use Rattle.cam_types.specs.declared.number.StreamIx.{StreamIx}
+use Rattle.cam_types.specs.declared.script.Script.{Script}
+use Rattle.run_model.specs.declared.step.Kind.{Kind}
+use Rattle.run_model.specs.declared.step.Kind.TheVariants as kind
+use Rattle.run_model.specs.declared.step.Move.{Move}
+use Rattle.run_model.specs.declared.step.StepName.{StepName}
+use Rattle.run_model.specs.declared.step.StepName.TheVariants.{Shutter, SensorDone, TakeFill, FillDone}
+use Rattle.run_model.specs.History.{trace_of}
+use Rattle.run_model.specs.Played.{candidates, steps}
+use Rattle.run_model.specs.Ready.{is_ready, move_of}
+use Rattle.trace_bounds.proofs.Shapes.{found-passes}
+use Rattle.job_moves.specs.Outs.{moves_a_job, takes_a_job}
+use Rattle.service_choice.specs.Kinds.{first_of, is_of}
+use Rattle.shared_camera.specs.Moves.{is_of_jobs}
+
+found-in : (q p : StepName → Bool) (xs : List StepName) (x : StepName) → find p (filter q xs) ≡ Some x → q x ≡ true
+found-in q p [] x h = absurd (cc)
+found-in q p (y ∷ ys) x h = elim (cases_Bool (q y)) [
+  | inl passes ↦ (
+      let h' = rw passes at h in
+      elim (cases_Bool (p y)) [
+        | inl here ↦ (let h'' = rw here at h' in let e : y ≡ x = cc in rw e at passes)
+        | inr on ↦ found-in q p ys x (rw on at h')
+      ]
+      )
+  | inr fails ↦ found-in q p ys x (rw fails at h)
+]
+
+pub first-ready : (script : Script) (h : List Move) (k : Kind) (step : StepName) → first_of k (candidates script h) ≡ Some step → is_ready script h step ≡ true
+first-ready script h k step first = found-in (is_ready script h) (is_of k) (steps (trace_of h)) step first
+
+-- so it has a move
+pub first-moves : (script : Script) (h : List Move) (k : Kind) (step : StepName) → first_of k (candidates script h) ≡ Some step → move_of script h step ≡ None → ⊥
+first-moves script h k step first none = false≢true (sym (ap is_some none) ∙ first-ready script h k step first)
+
+pub first-of-kind : (script : Script) (h : List Move) (k : Kind) (step : StepName) → first_of k (candidates script h) ≡ Some step → is_of k step ≡ true
+first-of-kind script h k step first = found-passes {X = StepName} (is_of k) (candidates script h) step first
+
+-- a step of a kind that is of no job is of no job
+pub step-alone : (k : Kind) (step : StepName) → is_of k step ≡ true → is_of_jobs k ≡ false → moves_a_job step ≡ false
+step-alone kind.Shutter step is alone = absurd (false≢true (sym alone))
+step-alone kind.SensorDone step is alone = absurd (false≢true (sym alone))
+step-alone kind.TakeFill step is alone = absurd (false≢true (sym alone))
+step-alone kind.FillDone step is alone = absurd (false≢true (sym alone))
+step-alone _ Shutter is alone = absurd (false≢true is)
+step-alone _ (SensorDone n) is alone = absurd (false≢true is)
+step-alone _ (TakeFill n s) is alone = absurd (false≢true is)
+step-alone _ (FillDone n s) is alone = absurd (false≢true is)
+step-alone _ _ is alone = refl
+
+pub is-shutter : (step : StepName) → is_of kind.Shutter step ≡ true → step ≡ Shutter
+is-shutter Shutter is = refl
+is-shutter _ is = absurd (false≢true is)
+
+pub takes-which : (step : StepName) → is_of kind.TakeFill step ≡ true → (n : FrameNo) × (s : StreamIx) × (step ≡ TakeFill n s)
+takes-which (TakeFill n s) is = (n, s, refl)
+takes-which _ is = absurd (false≢true is)
+
+pub is-taking : (step : StepName) → is_of kind.TakeFill step ≡ true → takes_a_job step ≡ true
+is-taking (TakeFill n s) is = refl
+is-taking _ is = absurd (false≢true is)

@@ -1,0 +1,80 @@
+-- What the service answers, and the move that a turn makes of it.
+use Rattle.std.proofs.Common.{◌≡◌, ℕ, Option, Some, None, IfSome, option_map, refl, sym, ap, ◌∙◌, subst}
+use Rattle.cam_types.specs.declared.job.FillTarget.{FillTarget}
+use Rattle.cam_types.specs.declared.job.JobView.{JobView}
+use Rattle.cam_types.specs.declared.number.FrameNo.{FrameNo}
+use Rattle.cam_types.specs.declared.number.StreamIx.{StreamIx}
+use Rattle.run_model.specs.declared.step.Kind.{Kind}
+use Rattle.run_model.specs.declared.step.Kind.TheVariants as kind
+use Rattle.run_model.specs.declared.step.Move.{Move}
+use Rattle.run_model.specs.declared.step.StepName.{StepName}
+use Rattle.run_model.specs.declared.step.StepName.TheVariants.{Shutter, SensorDone, TakeFill, FillDone}
+use Rattle.run_model.specs.Played.{candidates}
+use Rattle.run_model.specs.Ready.{move_of}
+use Rattle.room_log.specs.State.{State}
+use Rattle.job_moves.specs.Outs.{Takes, TakesWith}
+use Rattle.service_choice.specs.Kinds.{first_of}
+use Rattle.service_core.specs.Answers.{AnswersStep, Makes, adds, silent}
+use Rattle.service_core.specs.Jobs.{AnswersShutter, AnswersTake}
+use Rattle.service_core.specs.declared.sensor.Shuttered.{Shuttered}
+use Rattle.service_core.specs.declared.sensor.Shuttered.TheVariants.{Began, NotBegun}
+use Rattle.service_core.specs.declared.step.Step.{Step}
+use Rattle.service_core.specs.declared.step.Step.TheVariants.{Did, NotReady}
+use Rattle.shared_camera.specs.Moves.{AnswersExposure, AnswersFilling, AnswersKind, Returns}
+use Rattle.shared_camera.specs.Turns.{GivesWith}
+use Rattle.shared_camera.proofs.Firsts.{first-moves, first-of-kind, is-shutter}
+
+-- the first ready step of the kind
+abbrev pub IsFirst : Kind → State → StepName → Type 0
+IsFirst k s step = first_of k (candidates s.script s.history) ≡ Some step
+
+pub kind-made : (k : Kind) (step : StepName) (old new : State) (answer : Step) → IsFirst k old step → AnswersStep step old answer new → AnswersKind k old answer new
+kind-made k step old new (Did e) first told = record { move = adds step e; entry = refl; first = record { made = told; first = first } }
+kind-made k step old new NotReady first told = absurd (first-moves old.script old.history k step first told.unready)
+
+-- ---- an exposure
+
+pub exposure-made : (step : StepName) (old new : State) (answer : Shuttered) → IsFirst kind.Shutter old step → AnswersShutter old answer new → AnswersExposure old answer new
+exposure-made step old new answer first told =
+    let same : step ≡ Shutter = is-shutter step (first-of-kind old.script old.history kind.Shutter step first) in
+    by answer (first ∙ ap (λ (s : StepName). Some s) same) told
+  where
+    by : (answer : Shuttered) → IsFirst kind.Shutter old Shutter → AnswersShutter old answer new → AnswersExposure old answer new
+    by (Began e job) first told = record {
+      move = adds Shutter e;
+      entry = refl;
+      first = record { made = told.made; first = first };
+      lends = record { takes = subst (λ (o : Option FillTarget). TakesWith (adds Shutter e) job o) (sym told.exposure) (told.time, ap Some told.shutter); out = told.out };
+      exposure = told.exposure;
+    }
+    by NotBegun first told = absurd (first-moves old.script old.history kind.Shutter Shutter first told.unready)
+
+-- ---- a fill
+
+takes-with : (m : Move) (job : JobView) (s : StreamIx) (o : Option FillTarget) → m.step ≡ TakeFill job.frame s → option_map (λ t. t.stream) o ≡ Some s → TakesWith m job o
+takes-with m job s (Some t) own is = let same : t.stream ≡ s = cc in own ∙ ap (λ (r : StreamIx). TakeFill job.frame r) (sym same)
+takes-with m job s None own is = absurd (cc)
+
+pub filling-made : (n : FrameNo) (s : StreamIx) (old new : State) (answer : Option JobView) → IsFirst kind.TakeFill old (TakeFill n s) → AnswersTake n s old answer new → AnswersFilling old answer new
+filling-made n s old new (Some job) first told = record {
+  move = silent (TakeFill n s);
+  first = record { made = told.made; first = first };
+  lends = record { takes = takes-with (silent (TakeFill n s)) job s job.fill (ap (λ (k : FrameNo). TakeFill k s) (sym told.frame)) told.stream; out = told.out };
+}
+filling-made n s old new None first told = absurd (first-moves old.script old.history kind.TakeFill (TakeFill n s) first told.unready)
+
+-- ---- a job that comes back
+
+pub exposure-ended : (job : JobView) (old new : State) → job.fill ≡ None → Makes (silent (SensorDone job.frame)) old new → Returns job old new
+exposure-ended job old new none made = record {
+  move = silent (SensorDone job.frame);
+  gives = subst (λ (o : Option FillTarget). GivesWith (silent (SensorDone job.frame)) job o) (sym none) refl;
+  made = made;
+}
+
+pub fill-ended : (job : JobView) (target : FillTarget) (old new : State) → job.fill ≡ Some target → IfSome job.fill (λ t. Makes (silent (FillDone job.frame t.stream)) old new) → Returns job old new
+fill-ended job target old new some made = record {
+  move = silent (FillDone job.frame target.stream);
+  gives = subst (λ (o : Option FillTarget). GivesWith (silent (FillDone job.frame target.stream)) job o) (sym some) refl;
+  made = subst (λ (o : Option FillTarget). IfSome o (λ t. Makes (silent (FillDone job.frame t.stream)) old new)) some made;
+}

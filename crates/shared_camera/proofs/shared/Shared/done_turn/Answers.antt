@@ -1,0 +1,15 @@
+use Rattle.std.proofs.Common.{refl}
+use Rattle.turn_lock.specs.Seats.{fixed_of, view}
+use Rattle.shared_camera.specs.Cameras.{script_of}
+use Rattle.shared_camera.proofs.Turning.{jobs-still, may-stay}
+use Rattle.shared_camera.proofs.shared.Shared.done_turn.Goals as goal
+
+pub leave-requires-clause-value : goal.leave-requires-clause-value
+leave-requires-clause-value g c =
+    let old = c.enter-held.result.value.service in
+    may-stay (fixed_of script_of c.args.self.now.turnstile) (view c.args.seat.now) (view c.enter-held.new.seat) old old c.enter-held.ensures.turn refl
+
+pub returns-clause-jobs : goal.returns-clause-jobs
+returns-clause-jobs g c =
+    let old = c.enter-held.result.value.service in
+    jobs-still (fixed_of script_of c.args.self.now.turnstile) (view c.args.seat.now) (view c.enter-held.new.seat) old old c.enter-held.ensures.turn (view c.leave.new.seat) c.leave.ensures.turn refl

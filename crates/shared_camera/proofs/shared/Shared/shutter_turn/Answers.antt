@@ -1,0 +1,22 @@
+use Rattle.turn_lock.specs.Seats.{fixed_of, view}
+use Rattle.shared_camera.specs.Cameras.{script_of}
+use Rattle.shared_camera.proofs.Turning.{answered-exposure, may-leave-exposure, turned-exposure}
+use Rattle.shared_camera.proofs.shared.Shared.shutter_turn.Goals as goal
+
+pub leave-requires-clause-value : goal.leave-requires-clause-value
+leave-requires-clause-value g c =
+    let old = c.enter-held.result.value.service in
+    let new = c.expose-answer.new.service in
+    may-leave-exposure (fixed_of script_of c.args.self.now.turnstile) (view c.args.seat.now) (view c.enter-held.new.seat) old new c.enter-held.ensures.turn c.expose-answer.result c.expose-answer.ensures c.is_a_run.ensures.run
+
+pub returns-clause-turn : goal.returns-clause-turn
+returns-clause-turn g c =
+    let old = c.enter-held.result.value.service in
+    let new = c.expose-answer.new.service in
+    turned-exposure (fixed_of script_of c.args.self.now.turnstile) (view c.args.seat.now) (view c.enter-held.new.seat) old new c.enter-held.ensures.turn (view c.leave.new.seat) c.leave.ensures.turn c.expose-answer.result c.expose-answer.ensures c.is_a_run.ensures.run
+
+pub returns-clause-answer : goal.returns-clause-answer
+returns-clause-answer g c =
+    let old = c.enter-held.result.value.service in
+    let new = c.expose-answer.new.service in
+    answered-exposure (fixed_of script_of c.args.self.now.turnstile) (view c.args.seat.now) (view c.enter-held.new.seat) old new c.enter-held.ensures.turn (view c.leave.new.seat) c.leave.ensures.turn c.expose-answer.result c.expose-answer.ensures c.is_a_run.ensures.run

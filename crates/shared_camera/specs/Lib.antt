@@ -1,0 +1,4 @@
+pub mod JobsOut
+pub mod Cameras
+pub mod Turns
+pub mod Moves
