@@ -42,7 +42,7 @@ begin_either script t quiet q h word = by (command_at script t.calls)
     by None = (λ e. e, λ e. e)
     by (Some c) = (
       λ e. begin-tests (is_waiting_command c) (is_some t.begun) (is_refusal (reply_in script t q h c) || over_in quiet t q h c) (Begin (word_of c)) (Call t.calls (word_of c) (reply_in script t q h c)) word t.calls (word_of c) (reply_in script t q h c) refl refl e,
-      λ e. begin-back (begin_with t.begun (Some c)) (call_with script quiet t q h (Some c)) (Begin word) e
+      λ e. begin-back (begin_with t.begun (Some c)) (call_with script quiet t q h (Some c)) (Begin word) e,
     )
 
 pub call_either : (script : Script) (t : Clients) (quiet : Bool) (q : Turns) (h : Homes) (i : ℕ) (w : Word) (r : Reply) → (or_entry (begin_in script t) (call_in script quiet t q h) ≡ Some (Call i w r)) ↔ (call_in script quiet t q h ≡ Some (Call i w r))
@@ -52,5 +52,5 @@ call_either script t quiet q h i w r = by (command_at script t.calls)
     by None = (λ e. e, λ e. e)
     by (Some c) = (
       λ e. call-tests (is_waiting_command c) (is_some t.begun) (is_refusal (reply_in script t q h c) || over_in quiet t q h c) (Begin (word_of c)) (Call t.calls (word_of c) (reply_in script t q h c)) i w r (word_of c) refl e,
-      λ e. call-back (is_waiting_command c) (is_some t.begun) (is_refusal (reply_in script t q h c) || over_in quiet t q h c) (Begin (word_of c)) (Call t.calls (word_of c) (reply_in script t q h c)) (Call i w r) e
+      λ e. call-back (is_waiting_command c) (is_some t.begun) (is_refusal (reply_in script t q h c) || over_in quiet t q h c) (Begin (word_of c)) (Call t.calls (word_of c) (reply_in script t q h c)) (Call i w r) e,
     )

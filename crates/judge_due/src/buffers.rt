@@ -77,11 +77,7 @@ fn slot_failed_due(
 }
 
 /// The failed buffer that is due.
-pub(crate) fn failed_due(
-    tables: &JudgeTables,
-    frame: FrameNo,
-    stream: StreamIx,
-) -> Option<Entry>
+pub(crate) fn failed_due(tables: &JudgeTables, frame: FrameNo, stream: StreamIx) -> Option<Entry>
     ensures { result ≡ failed_in tables.now.state stream.0 (find_row frame.0 tables.now.state.rows) }
 {
     match find_row(tables.rows().rows(), frame) {

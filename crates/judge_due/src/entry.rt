@@ -11,7 +11,7 @@ use crate::client::client_due;
 use crate::errors::{error_buffer_due, error_request_due, error_result_due};
 use crate::exposures::{error_device_due, shutter_due};
 use crate::filled::{Fill, is_filled_due, is_late_due};
-use crate::metadata::partial_due;
+use crate::parts::partial_due;
 use crate::send::is_send_due;
 use cam_types::Script;
 use digest_memory::DigestMemory;
@@ -65,13 +65,26 @@ fn is_plain_due(script: &Script, tables: &JudgeTables, entry: &Entry) -> bool
         Entry::Partial { frame, .. } => same::is_due(partial_due(script, tables, frame), *entry),
         Entry::Filled { .. } => false,
         Entry::Late { .. } => false,
-        Entry::Early { frame, stream, .. } =>
-            same::is_due(early_due(script, tables, frame, stream), *entry),
-        Entry::Failed { frame, stream, .. } => same::is_due(failed_due(tables, frame, stream), *entry),
-        Entry::ErrorRequest { frame } => same::is_due(error_request_due(script, tables, frame), *entry),
-        Entry::ErrorResult { frame } => same::is_due(error_result_due(script, tables, frame), *entry),
-        Entry::ErrorBuffer { frame, stream } =>
-            same::is_due(error_buffer_due(script, tables, frame, stream), *entry),
+        Entry::Early { frame, stream, .. } => same::is_due(
+            early_due(script, tables, frame, stream),
+            *entry,
+        ),
+        Entry::Failed { frame, stream, .. } => same::is_due(
+            failed_due(tables, frame, stream),
+            *entry,
+        ),
+        Entry::ErrorRequest { frame } => same::is_due(
+            error_request_due(script, tables, frame),
+            *entry,
+        ),
+        Entry::ErrorResult { frame } => same::is_due(
+            error_result_due(script, tables, frame),
+            *entry,
+        ),
+        Entry::ErrorBuffer { frame, stream } => same::is_due(
+            error_buffer_due(script, tables, frame, stream),
+            *entry,
+        ),
         Entry::ErrorDevice => same::is_due(error_device_due(script, tables), *entry),
         Entry::Release { buffer, .. } => same::is_due(tables.homes().release_due(buffer), *entry),
         Entry::Signal { fence } => same::is_due(tables.homes().signal_due(fence), *entry),

@@ -11,10 +11,9 @@ mod entry;
 mod errors;
 mod exposures;
 mod filled;
-mod metadata;
+mod parts;
 mod pictures;
 mod send;
 mod slots;
 
 pub use entry::is_due;
-

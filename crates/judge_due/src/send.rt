@@ -41,12 +41,7 @@ fn has_room(script: &Script, tables: &JudgeTables, stream: StreamIx) -> bool
     tables.homes().at_device(stream) < max_buffers(script, tables, stream) as usize
 }
 
-fn has_room_where_asked(
-    script: &Script,
-    tables: &JudgeTables,
-    asked: Targets,
-    stream: u8,
-) -> bool
+fn has_room_where_asked(script: &Script, tables: &JudgeTables, asked: Targets, stream: u8) -> bool
     ensures { result ≡ (not (asks asked stream) || has_room_in script.now tables.now.state stream) }
 {
     !asks_for(asked, stream) || has_room(script, tables, StreamIx(stream))

@@ -136,13 +136,7 @@ impl HomeTable {
     }
 
     /// Puts the buffer at a place, with a fence and a device fence.
-    fn put(
-        &mut self,
-        buffer: BufferId,
-        home: Home,
-        fence: Option<FenceNo>,
-        held: Option<FenceNo>,
-    )
+    fn put(&mut self, buffer: BufferId, home: Home, fence: Option<FenceNo>, held: Option<FenceNo>)
         ensures { self.new ≡ put buffer.0 (place_of home) fence held self.old }
     {
         let place = buffer.0.saturating_sub(self.first) as usize;

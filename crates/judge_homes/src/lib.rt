@@ -12,4 +12,3 @@ mod reading;
 
 pub use fences::FenceBook;
 pub use homes::{Home, HomeTable};
-

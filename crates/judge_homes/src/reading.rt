@@ -41,10 +41,7 @@ impl HomeTable {
     pub fn fence(&self, buffer: BufferId) -> Option<FenceNo>
         ensures { result ≡ fence_in self.now buffer.0 }
     {
-        fence_at(
-            &self.berths,
-            buffer.0.saturating_sub(self.first) as usize,
-        )
+        fence_at(&self.berths, buffer.0.saturating_sub(self.first) as usize)
     }
 
     /// Whether the fence was released and is signalled.
@@ -126,10 +123,7 @@ impl HomeTable {
     fn held(&self, buffer: BufferId) -> Option<FenceNo>
         ensures { result ≡ held_in self.now buffer.0 }
     {
-        held_at(
-            &self.berths,
-            buffer.0.saturating_sub(self.first) as usize,
-        )
+        held_at(&self.berths, buffer.0.saturating_sub(self.first) as usize)
     }
 
     /// Whether there is no device fence to wait for, or it is signalled.

@@ -35,13 +35,7 @@ fn time_after(entry: &Entry, frame: FrameNo, old: Option<u64>) -> Option<u64>
     ensures { result ≡ note_time entry.now frame.0 old }
 {
     match entry {
-        Entry::Shutter { frame: of, time } => {
-            if of.0 == frame.0 {
-                Some(*time)
-            } else {
-                old
-            }
-        }
+        Entry::Shutter { frame: of, time } => { if of.0 == frame.0 { Some(*time) } else { old } }
         _ => old,
     }
 }
@@ -54,13 +48,7 @@ fn parts_after(entry: &Entry, frame: FrameNo, old: u8) -> u8
             frame: of,
             number,
             ..
-        } => {
-            if of.0 == frame.0 {
-                *number
-            } else {
-                old
-            }
-        }
+        } => { if of.0 == frame.0 { *number } else { old } }
         _ => old,
     }
 }

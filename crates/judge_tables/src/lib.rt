@@ -11,4 +11,3 @@ mod next;
 mod tables;
 
 pub use tables::JudgeTables;
-
