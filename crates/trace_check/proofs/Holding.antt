@@ -97,14 +97,14 @@ send-next script s None n r i same targets h = absurd (false≢true h)
 send-next script s (Some next) n r i same targets h =
     let named = (and_parts ((n == s.queue.numbers) && ((r == next.request.0) && (i == next.index))) _ h).0 in
     let number = (and_parts (n == s.queue.numbers) ((r == next.request.0) && (i == next.index)) named).0 in
-    (tt, grind (arith, nat_tests, number))
+    (refl, grind (arith, nat_tests, number))
 
 drop-named : (numbers : ℕ) (n : FrameNo) (r : RequestId) (i : ℕ) (o : Option WaitingItem) → drop_with numbers o ≡ Some (Dropped n r i) → IsSome o × (n.0 ≡ numbers)
 drop-named numbers n r i None h = absurd (cc)
 drop-named numbers n r i (Some w) h =
     let same : Dropped (record { 0 = numbers }) w.request w.index ≡ Dropped n r i = cc in
     let frame : record { 0 = numbers } ≡ n = cc in
-    (tt, sym (ap (λ (m : FrameNo). m.0) frame))
+    (refl, sym (ap (λ (m : FrameNo). m.0) frame))
 
 drop-next : (stopping : Bool) (numbers : ℕ) (n : FrameNo) (r : RequestId) (i : ℕ) (o : Option WaitingItem) → (if stopping then drop_with numbers o else None) ≡ Some (Dropped n r i) → IsSome o × (n.0 ≡ numbers)
 drop-next true numbers n r i o h = drop-named numbers n r i o h
