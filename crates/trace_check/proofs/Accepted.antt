@@ -1,8 +1,9 @@
 -- What an accepted call of a legal past says of the command that it answers: the streams of an accepted configuration are
 -- offered, and the settings of an accepted request are in their range.
-use Rattle.std.proofs.Common.{◌≡◌, ℕ, zero, suc, ◌==◌, ◌+◌, Bool, true, false, ◌&&◌, not, List, [], ◌∷◌, Option, Some, None, refl, sym, ap, ◌∙◌, arith, find, nat_lt, length, slice_get, count_by, take, is_some, if◌then◌else◌}
+use Rattle.std.proofs.Common.{◌≡◌, ℕ, zero, suc, ◌==◌, ◌+◌, Bool, true, false, ◌&&◌, not, List, [], ◌∷◌, Option, Some, None, refl, sym, ap, ◌∙◌, arith, find, nat_lt, length, slice_get, count_by, take, is_some, if◌then◌else◌, ◌≤◌, subst}
 use Rattle.std.specs.List.{list_any, position_from}
 use Rattle.std.proofs.lemmas.Bool.{cases_Bool, false≢true}
+use Rattle.std.proofs.lemmas.Bool.Decides.{nat_tests}
 use Rattle.cam_types.specs.Metadata.{range_fault}
 use Rattle.cam_types.specs.Picture.{is_offered, is_size_of}
 use Rattle.cam_types.specs.declared.item.Item.{Item}
@@ -204,6 +205,36 @@ offered specs h s spec at =
       not-not : (b : Bool) → not b ≡ false → b ≡ true
       not-not true h = refl
       not-not false h = absurd (cc)
+
+within-four : (n : ℕ) → where_true (nat_lt 4 n) (refused 22) ≡ None → n ≤ 4
+within-four n h = by (nat_lt 4 n) refl h
+  where
+    by : (b : Bool) → nat_lt 4 n ≡ b → where_true b (refused 22) ≡ None → n ≤ 4
+    by true is h = absurd (cc)
+    by false is h = grind (arith, nat_tests, is)
+
+few-specs : (specs : List StreamSpec) → specs_refusal specs ≡ None → length specs ≤ 4
+few-specs specs h =
+    let none = not (list_any (λ s. not s.input) specs) in
+    let many = nat_lt 4 (length specs) in
+    let input = list_any (λ s. s.input) specs in
+    let sized = or_else (bad-size specs) (many-raw specs) in
+    let third = or_else (where_true input (refused 23)) (or_else (bad-format specs) sized) in
+    let second = or_else (where_true many (refused 22)) third in
+    let whole : or_else (where_true none (refused 21)) second ≡ None = sym (specs-parts specs) ∙ h in
+    within-four (length specs) (none-first (where_true many (refused 22)) third (none-left (where_true none (refused 21)) second whole))
+
+few-by : (script : Script) (past : List Entry) (c : Command) (made : Four Made) → reply script past c ≡ Configured made → length (streams_of (Some c)) ≤ 4
+few-by script past (Configure specs) made h = few-specs specs (accepted script past (Configure specs) (Configured made) h refl).0
+few-by script past c made h = omega arith
+
+-- a legal past has at most four streams
+pub few-streams : (script : Script) (past : List Entry) → IsLegal script past → length (streams script past) ≤ 4
+few-streams script [] legal = omega arith
+few-streams script (Call i word (Configured made) ∷ past) legal =
+    let a = answered script past i word (Configured made) legal.0 in
+    subst (λ o. length (streams_of o) ≤ 4) (sym a.next) (few-by script past a.command made a.gives)
+few-streams script (e ∷ past) legal = few-streams script past legal.1
 
 offered-by : (script : Script) (past : List Entry) (c : Command) (made : Four Made) → reply script past c ≡ Configured made → (s : ℕ) (spec : StreamSpec) → slice_get (streams_of (Some c)) s ≡ Some spec → is_offered spec ≡ true
 offered-by script past (Configure specs) made h s spec at = offered specs (accepted script past (Configure specs) (Configured made) h refl).0 s spec at

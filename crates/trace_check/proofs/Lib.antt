@@ -1,5 +1,6 @@
 mod Accepted
 mod Digests
+mod Holding
 mod Judged
 mod MissingLemmas
 mod OneVerdict

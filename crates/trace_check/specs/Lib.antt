@@ -1,3 +1,4 @@
 pub mod Kinds
 pub mod Released
 pub mod Verdict
+pub mod Held

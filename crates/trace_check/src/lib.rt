@@ -1,5 +1,8 @@
-//! The judge of a trace: whether it is a complete legal run of a script, and if not, where or what it lacks. It looks
-//! at each entry over the entries before it, by the rules of `judge_rules`, `judge_calls` and `judge_sends`.
+//! The judge of a trace: whether it is a complete legal run of a script, and if not, where or what it lacks.
+//!
+//! `check` looks at each entry once, over the tables of `judge_tables`, which each entry carries on, by the readings of
+//! `judge_due`. `check_plain` looks at each entry over all the entries before it, by the rules of `judge_rules`,
+//! `judge_calls` and `judge_sends`. Both give the one verdict that the definitions give.
 #![tactic(auto)]
 
 mod allowed;
@@ -7,11 +10,12 @@ mod filled;
 mod judge;
 mod laws;
 mod missing;
+mod passing;
 mod rule;
 #[cfg(test)]
 mod tests;
 mod verdict;
 
-pub use judge::check;
+pub use judge::{check, check_plain};
 pub use laws::a_trace_has_one_verdict;
 pub use verdict::{MissingPart, RuleName, Verdict};

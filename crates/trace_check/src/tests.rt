@@ -1,5 +1,5 @@
 //! Worked runs and breaches of them, with the verdicts on them.
-use super::{MissingPart, RuleName, Verdict, check};
+use super::{MissingPart, RuleName, Verdict, check, check_plain};
 use cam_types::{
     BufferId, Command, CommandList, FaultList, FenceNo, Format, Four, FrameNo, Item, ItemList,
     Made, Part, PickList, Profile, Reply, RequestId, Script, Settings, SpecList, StreamIx,
@@ -352,5 +352,113 @@ fn a_wide_device(rt: HostRuntime) -> Result<(), Fail> {
     assert!(rt; check(rt.alloc(), &script, &trace)? == illegal(9, RuleName::D9));
     script.profile = Profile::PLAIN;
     assert!(rt; check(rt.alloc(), &script, &trace)? == illegal(1, RuleName::D15));
+    Ok(())
+}
+
+/// What is done to a trace at a place.
+#[derive(Clone, Copy)]
+enum Change {
+    LeftOut,
+    Doubled,
+    /// With the entry behind it.
+    Exchanged,
+    Replaced(Entry),
+}
+
+/// The entry at the place, or nothing where the trace ends before it.
+fn add_at(trace: &mut TraceList, entries: &[Entry], place: usize) -> Result<(), Fail> {
+    match entries.get(place) {
+        Some(entry) => add(trace, *entry),
+        None => Ok(()),
+    }
+}
+
+/// The entries with the one at the place changed.
+fn changed(
+    alloc: Global,
+    entries: &[Entry],
+    at: usize,
+    change: Change,
+) -> Result<TraceList, Fail> {
+    let next = at.saturating_add(1);
+    let mut trace = TraceList::new(alloc);
+    for place in 0..entries.len() {
+        if place == at {
+            match change {
+                Change::LeftOut => {}
+                Change::Doubled => {
+                    add_at(&mut trace, entries, at)?;
+                    add_at(&mut trace, entries, at)?;
+                }
+                Change::Exchanged => {
+                    add_at(&mut trace, entries, next)?;
+                    add_at(&mut trace, entries, at)?;
+                }
+                Change::Replaced(other) => add(&mut trace, other)?,
+            }
+        } else if !(place == next && matches!(change, Change::Exchanged)) {
+            add_at(&mut trace, entries, place)?;
+        }
+    }
+    Ok(trace)
+}
+
+/// The entries of the run at the places.
+fn run_of(alloc: Global, places: &[usize]) -> Result<Vec<Entry>, Fail> {
+    let entries = one_frame();
+    let mut run = Vec::new(alloc);
+    for place in places {
+        run.push(*entries.get(*place).ok_or("an entry")?)?;
+    }
+    Ok(run)
+}
+
+fn agree(
+    alloc: Global,
+    script: &Script,
+    run: &[Entry],
+    at: usize,
+    change: Change,
+) -> Result<bool, Fail> {
+    let trace = changed(alloc, run, at, change)?;
+    Ok(check(alloc, script, &trace)? == check_plain(alloc, script, &trace)?)
+}
+
+/// Whether a script has early returns, and the places of the entries of a run of it.
+const RUNS: &[(bool, &[usize])] = &[
+    (false, &[0, 1, 2, 3, 4, 5, 6, 7, 8, 9, 10, 11, 12]),
+    (true, &[0, 1, 2, 3, 4, 5, 13, 6, 7, 8, 14, 10, 11, 12]),
+];
+
+/// With each entry left out, doubled, exchanged with the next, and replaced by each other.
+#[test]
+fn both_judges_say_the_same(rt: HostRuntime) -> Result<(), Fail> {
+    let alloc = rt.alloc();
+    let mut script = one_stream(alloc, Format::Raw16, 1)?;
+    for (early, places) in RUNS {
+        script.early = *early;
+        let run = run_of(alloc, places)?;
+        for at in 0..run.len() {
+            for change in [Change::LeftOut, Change::Doubled, Change::Exchanged] {
+                assert!(rt; agree(alloc, &script, &run, at, change)?, "at {at}");
+            }
+            for other in one_frame() {
+                let change = Change::Replaced(other);
+                assert!(rt; agree(alloc, &script, &run, at, change)?, "another at {at}");
+            }
+        }
+    }
+    Ok(())
+}
+
+/// A script that isn't valid is judged as by the plain judge: here the profile isn't one of its version.
+#[test]
+fn a_script_that_is_not_valid(rt: HostRuntime) -> Result<(), Fail> {
+    let alloc = rt.alloc();
+    let mut script = one_stream(alloc, Format::Raw16, 1)?;
+    script.version = 3;
+    let run = run_of(alloc, &[0, 1, 2, 3, 4, 5, 6, 7, 8, 9, 10, 11, 12])?;
+    let trace = changed(alloc, &run, 99, Change::LeftOut)?;
+    assert!(rt; check(alloc, &script, &trace)? == Verdict::Legal);
     Ok(())
 }

@@ -1,0 +1,4 @@
+pub mod Either
+pub mod Dark
+pub mod Rows
+pub mod Shown

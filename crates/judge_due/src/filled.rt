@@ -1,0 +1,137 @@
+//! Whether a filled buffer, or the signal of a device fence, is due: its digest is that of its picture.
+ghost use Rattle.std.specs.Prelude.{◌≡◌, ◌↔◌, ℕ, List, Option, option_map, slice_get, IsTrue};
+ghost use Rattle.std.specs.List.{list_all};
+ghost use Rattle.cam_types.specs.Picture.{is_offered};
+ghost use Rattle.trace_model.specs.Picture.{digest_on};
+ghost use Rattle.row_facts.specs.Rows.{find_row};
+ghost use Rattle.state_facts.specs.Dues.{filled_at, filled_in, late_at, late_in, late_with};
+ghost use Rattle.judge_rows.specs.Views.{row_of, slot_of};
+ghost use Rattle.judge_due.specs.Drawing.{CanDraw, is_drawable};
+
+use crate::buffers::may_deliver;
+use crate::pictures::is_its_digest;
+use crate::slots::{early_slot, slot_for};
+use cam_types::{BufferId, FenceNo, FrameNo, Script, StreamIx};
+use digest_memory::DigestMemory;
+use judge_rows::{OpenRow, OpenSlot, early_row, find_row};
+use judge_tables::JudgeTables;
+use trace_model::Entry;
+
+/// A buffer that came back with its picture, as its entry says.
+#[derive(Clone, Copy)]
+pub(crate) struct Fill {
+    pub(crate) frame: FrameNo,
+    pub(crate) stream: StreamIx,
+    pub(crate) buffer: BufferId,
+    pub(crate) fence: Option<FenceNo>,
+    pub(crate) digest: [u8; 32],
+}
+
+/// Whether the row's buffer may come back as this one, but for the digest.
+fn fills_as(
+    script: &Script,
+    tables: &JudgeTables,
+    fill: Fill,
+    row: &OpenRow,
+    slot: Option<OpenSlot>,
+) -> bool
+    ensures { let s = tables.now.state in
+        (IsTrue result
+        × (fill.digest ≡ digest_on (slice_get s.client.streams fill.stream.0) row.now.settings row.now.frame.0))
+        ↔ (filled_at script.now s fill.stream.0 (row_of row.now) (option_map slot_of slot) ≡
+        Option.Some (Entry.Filled fill.frame fill.stream fill.buffer fill.fence fill.digest)) }
+{
+    match slot {
+        Some(slot) => may_deliver(script, tables, fill.stream, row, slot)
+            && (row.frame.0 == fill.frame.0
+                && (fill.fence.is_none() && slot.target.buffer.0 == fill.buffer.0)),
+        None => false,
+    }
+}
+
+/// Whether the row has the filled buffer due.
+fn is_filled_of(
+    script: &Script,
+    tables: &JudgeTables,
+    fill: Fill,
+    row: &OpenRow,
+    memory: DigestMemory,
+) -> (bool, DigestMemory)
+    requires offered { IsTrue (list_all is_offered tables.now.state.client.streams) }
+    requires drawable { IsTrue (is_drawable row.now.settings) }
+    ensures { IsTrue result.0 ↔
+        (filled_in script.now tables.now.state fill.stream.0 (Option.Some (row_of row.now)) ≡
+        Option.Some (Entry.Filled fill.frame fill.stream fill.buffer fill.fence fill.digest)) }
+{
+    let slot = slot_for(&row.slots, fill.stream);
+    if fills_as(script, tables, fill, row, slot) {
+        is_its_digest(tables, fill.stream, row, fill.digest, memory)
+    } else {
+        (false, memory)
+    }
+}
+
+/// Whether the filled buffer is due.
+pub(crate) fn is_filled_due(
+    script: &Script,
+    tables: &JudgeTables,
+    fill: Fill,
+    memory: DigestMemory,
+) -> (bool, DigestMemory)
+    requires { CanDraw tables.now.state }
+    ensures { IsTrue result.0 ↔
+        (filled_in script.now tables.now.state fill.stream.0 (find_row fill.frame.0 tables.now.state.rows) ≡
+        Option.Some (Entry.Filled fill.frame fill.stream fill.buffer fill.fence fill.digest)) }
+{
+    match find_row(tables.rows().rows(), fill.frame) {
+        Some(row) => is_filled_of(script, tables, fill, &row, memory),
+        None => (false, memory),
+    }
+}
+
+/// Whether the buffer's device fence is signalled next, with its picture.
+fn is_late_at(
+    tables: &JudgeTables,
+    fence: FenceNo,
+    digest: [u8; 32],
+    row: &OpenRow,
+    slot: Option<OpenSlot>,
+    memory: DigestMemory,
+) -> (bool, DigestMemory)
+    requires offered { IsTrue (list_all is_offered tables.now.state.client.streams) }
+    requires drawable { IsTrue (is_drawable row.now.settings) }
+    ensures { IsTrue result.0 ↔
+        (late_at tables.now.state fence.0 (row_of row.now) (option_map slot_of slot) ≡
+        Option.Some (Entry.Late fence digest)) }
+{
+    match slot {
+        Some(slot) => {
+            if slot.settled {
+                (false, memory)
+            } else {
+                is_its_digest(tables, slot.target.stream, row, digest, memory)
+            }
+        }
+        None => (false, memory),
+    }
+}
+
+/// Whether the signal of the device fence is due.
+pub(crate) fn is_late_due(
+    tables: &JudgeTables,
+    fence: FenceNo,
+    digest: [u8; 32],
+    memory: DigestMemory,
+) -> (bool, DigestMemory)
+    requires { CanDraw tables.now.state }
+    ensures { IsTrue result.0 ↔
+        (late_in tables.now.state fence.0 ≡ Option.Some (Entry.Late fence digest)) }
+{
+    match early_row(tables.rows().rows(), fence) {
+        Some(row) => {
+            let slot = early_slot(&row.slots, fence);
+            is_late_at(tables, fence, digest, &row, slot, memory)
+        }
+        None => (false, memory),
+    }
+}

@@ -1,0 +1,62 @@
+//! The metadata result that is due.
+ghost use Rattle.std.specs.Prelude.{◌≡◌, Option, option_map};
+ghost use Rattle.row_facts.specs.Rows.{find_row};
+ghost use Rattle.state_facts.specs.Dues.{may_part_in, part_in, partial_in};
+ghost use Rattle.judge_rows.specs.Views.{row_of};
+
+use crate::before::earlier_ended;
+use cam_types::{FrameNo, PART_COUNT, Script};
+use judge_entries::fault::{request_fault, result_fault};
+use judge_rows::{OpenRow, find_row};
+use judge_tables::JudgeTables;
+use partial_results::part;
+use trace_model::Entry;
+
+/// Whether the frame's part of the number may come.
+fn may_part(script: &Script, tables: &JudgeTables, row: &OpenRow, number: u8) -> bool
+    ensures { result ≡ may_part_in script.now tables.now.state (row_of row.now) number }
+{
+    (!row.request_failed && (!row.result_failed && !request_fault(script, row.frame)))
+        && (number <= 3
+            && (number != 3
+                || (!result_fault(script, row.frame)
+                    && earlier_ended(tables.rows().rows(), row.frame))))
+}
+
+/// The next part of a frame that had its shutter at the time.
+fn part_due(script: &Script, tables: &JudgeTables, row: &OpenRow, time: u64) -> Option<Entry>
+    ensures { result ≡ part_in script.now tables.now.state (row_of row.now) (Option.Some time) }
+{
+    if row.parts >= PART_COUNT {
+        return None;
+    }
+    let number = row.parts + 1;
+    if may_part(script, tables, row, number) {
+        Some(Entry::Partial {
+            frame: row.frame,
+            number,
+            part: part(number, row.settings, time),
+        })
+    } else {
+        None
+    }
+}
+
+fn row_part_due(script: &Script, tables: &JudgeTables, row: &OpenRow) -> Option<Entry>
+    ensures { result ≡ part_in script.now tables.now.state (row_of row.now) row.now.time }
+{
+    match row.time {
+        Some(time) => part_due(script, tables, row, time),
+        None => None,
+    }
+}
+
+/// The metadata result of the frame that is due.
+pub(crate) fn partial_due(script: &Script, tables: &JudgeTables, frame: FrameNo) -> Option<Entry>
+    ensures { result ≡ partial_in script.now tables.now.state (find_row frame.0 tables.now.state.rows) }
+{
+    match find_row(tables.rows().rows(), frame) {
+        Some(row) => row_part_due(script, tables, &row),
+        None => None,
+    }
+}

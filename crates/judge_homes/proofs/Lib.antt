@@ -1,0 +1,3 @@
+pub mod FenceLemmas
+pub mod HomeLemmas
+pub mod Kept

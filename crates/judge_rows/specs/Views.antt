@@ -1,0 +1,61 @@
+use Rattle.std.specs.Prelude.{ℕ, ◌==◌, ◌&&◌, ◌||◌, Bool, true, false, not, List, [], ◌∷◌, Option, map, option_map, option_to_list}
+use Rattle.std.specs.List.{list_all}
+use Rattle.cam_types.specs.Four.{four_list}
+use Rattle.cam_types.specs.declared.four.Four.{Four}
+use Rattle.cam_types.specs.declared.number.FenceNo.{FenceNo}
+use Rattle.trace_model.specs.declared.entry.Entry.{Entry}
+use Rattle.trace_model.specs.declared.entry.Entry.TheVariants.{Early}
+use Rattle.row_facts.specs.Rows.{Row, Slot}
+use Rattle.judge_rows.specs.declared.row.OpenRow.{OpenRow}
+use Rattle.judge_rows.specs.declared.slot.OpenSlot.{OpenSlot}
+
+-- What the table says of the open frames, as the rows that the state of a trace has (our own choice of tables).
+
+abbrev pub given_of : Option FenceNo → List ℕ
+given_of given = option_to_list (option_map (λ f. f.0) given)
+
+abbrev pub slot_of : OpenSlot → Slot
+slot_of s = record {
+  target = s.target;
+  returned = s.returned;
+  failed = s.failed;
+  given = given_of s.given;
+  settled = s.settled;
+}
+
+abbrev pub slots_of : Four OpenSlot → List Slot
+slots_of slots = map slot_of (four_list slots)
+
+abbrev pub row_of : OpenRow → Row
+row_of r = record {
+  frame = r.frame.0;
+  settings = r.settings;
+  repeats = r.repeats;
+  time = r.time;
+  parts = r.parts;
+  ended = r.ended;
+  request_failed = r.request_failed;
+  result_failed = r.result_failed;
+  troubled = r.troubled;
+  touched = r.touched;
+  stopped = r.stopped;
+  slots = slots_of r.slots;
+}
+
+abbrev pub rows_of : List OpenRow → List Row
+rows_of rows = map row_of rows
+
+-- ---- what the table asks of an entry (a buffer comes back early once at most)
+
+abbrev pub is_none_given : List ℕ → Bool
+is_none_given [] = true
+is_none_given (_ ∷ _) = false
+
+-- the entry doesn't give a device fence to a buffer of frame n that has one
+abbrev pub is_free : Entry → ℕ → Slot → Bool
+is_free (Early m t _ _) n s = not ((m.0 == n) && (t.0 == s.target.stream.0)) || is_none_given s.given
+is_free _ n s = true
+
+-- nor to a buffer of any row
+abbrev pub are_free : Entry → List Row → Bool
+are_free e rows = list_all (λ r. list_all (is_free e r.frame) r.slots) rows

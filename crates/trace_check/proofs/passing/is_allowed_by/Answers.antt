@@ -1,0 +1,14 @@
+use Rattle.std.proofs.Common.{◌<◌, ◌+◌, ◌^◌, length, reverse, subst, sym}
+use Rattle.judge_due.specs.Drawing.{CanDraw}
+use Rattle.judge_tables.specs.Judged.{Judged}
+use Rattle.trace_check.proofs.Holding.{allowed_by, can_draw, numbered}
+use Rattle.trace_check.proofs.passing.is_allowed_by.Goals as goal
+
+pub is_due-requires-clause-numbered : goal.is_due-requires-clause-numbered
+is_due-requires-clause-numbered c = subst (λ (t : Judged). t.state.buffers.first + (length t.state.buffers.places + 72) < 2 ^ 32) (sym c.requires.held) (numbered c.args.script.now (reverse c.args.entries.now) c.requires.valid c.requires.legal)
+
+pub is_due-requires-clause-pictures : goal.is_due-requires-clause-pictures
+is_due-requires-clause-pictures c = subst (λ (t : Judged). CanDraw t.state) (sym c.requires.held) (can_draw c.args.script.now (reverse c.args.entries.now) c.requires.legal)
+
+pub returns : goal.returns
+returns c = allowed_by c.args.script.now (reverse c.args.entries.now) c.args.entry.now c.args.tables.now c.is_due.result.0 c.requires.legal c.requires.held c.is_due.ensures

@@ -1,0 +1,123 @@
+//! The judge in one pass: each entry is looked at once, over the tables of the state that those before it left.
+ghost use Rattle.std.specs.Prelude.{◌≡◌, ◌↔◌, ◌∷◌, true, IfOk, OnOk, IsTrue, reverse};
+ghost use Rattle.cam_types.specs.Profile.{is_profile};
+ghost use Rattle.cam_types.specs.Script.{is_valid};
+ghost use Rattle.trace_bounds.specs.Typed.{is_typed};
+ghost use Rattle.trace_model.specs.Allowed.{IsAllowed};
+ghost use Rattle.trace_model.specs.Legal.{IsLegal};
+ghost use Rattle.trace_check.specs.Held.{held, missing_in};
+ghost use Rattle.trace_check.specs.Verdict.{IsVerdict, first_missing};
+
+use crate::rule::rule_of;
+use crate::verdict::{MissingPart, Verdict};
+use cam_types::{NoMemory, Script};
+use digest_memory::DigestMemory;
+use judge_due::is_due;
+use judge_tables::JudgeTables;
+use std::alloc::Global;
+use trace_bounds::every_script_is_typed;
+use trace_model::{Entry, TraceList};
+
+/// Whether the entry is allowed after the entries, whose state the tables hold. The entries aren't read.
+fn is_allowed_by(
+    script: &Script,
+    entries: &[Entry],
+    tables: &JudgeTables,
+    entry: &Entry,
+    memory: DigestMemory,
+) -> (bool, DigestMemory)
+    requires valid { IsTrue (is_valid script.now) }
+    requires profile { IsTrue (is_profile script.now.profile) }
+    requires legal { IsLegal script.now (reverse entries.now) }
+    requires held { tables.now ≡ held script.now (reverse entries.now) }
+    ensures { IsTrue result.0 ↔ IsAllowed script.now (reverse entries.now) entry.now }
+{
+    is_due(script, tables, entry, memory)
+}
+
+/// Notes an entry that is allowed after the entries. The entries aren't read.
+fn note_by(
+    script: &Script,
+    entries: &[Entry],
+    tables: &mut JudgeTables,
+    entry: &Entry,
+) -> Result<(), NoMemory>
+    requires valid { IsTrue (is_valid script.now) }
+    requires typed { is_typed script.now ≡ true }
+    requires legal { IsLegal script.now (reverse entries.now) }
+    requires held { tables.old ≡ held script.now (reverse entries.now) }
+    requires allowed { IsAllowed script.now (reverse entries.now) entry.now }
+    ensures { OnOk result (tables.new ≡ held script.now (entry.now ∷ reverse entries.now)) }
+{
+    tables.note(script, entry)
+}
+
+/// The first part that the state lacks for being that of a complete run.
+fn first_missing_in(script: &Script, tables: &JudgeTables) -> Option<MissingPart>
+    ensures { result ≡ missing_in script.now tables.now.state }
+{
+    if !tables.client().is_all_called(script) {
+        Some(MissingPart::Calls)
+    } else if !tables.rows().is_empty() {
+        Some(MissingPart::Open)
+    } else if tables.captures().first_waiting().is_some() {
+        Some(MissingPart::Queued)
+    } else if !tables.homes().is_all_home() {
+        Some(MissingPart::Pool)
+    } else if !tables.homes().is_all_signalled() {
+        Some(MissingPart::Signal)
+    } else {
+        None
+    }
+}
+
+/// The first part that the entries lack. They aren't read.
+fn first_missing_by(script: &Script, entries: &[Entry], tables: &JudgeTables) -> Option<MissingPart>
+    requires legal { IsLegal script.now (reverse entries.now) }
+    requires held { tables.now ≡ held script.now (reverse entries.now) }
+    ensures { result ≡ first_missing script.now (reverse entries.now) }
+{
+    first_missing_in(script, tables)
+}
+
+/// Judges entries of which each is allowed: whether they are complete.
+fn judge_end_by(script: &Script, entries: &[Entry], tables: &JudgeTables) -> Verdict
+    requires legal { IsLegal script.now (reverse entries.now) }
+    requires held { tables.now ≡ held script.now (reverse entries.now) }
+    ensures { IsVerdict script.now entries.now result }
+{
+    match first_missing_by(script, entries, tables) {
+        Some(part) => Verdict::Incomplete { part },
+        None => Verdict::Legal,
+    }
+}
+
+/// Judges a trace of a valid script entry by entry.
+pub(crate) fn check_once(
+    alloc: Global,
+    script: &Script,
+    trace: &TraceList,
+) -> Result<Verdict, NoMemory>
+    requires valid { IsTrue (is_valid script.now) }
+    requires profile { IsTrue (is_profile script.now.profile) }
+    ensures { IfOk result (λ verdict. IsVerdict script.now trace.now.entries verdict) }
+{
+    every_script_is_typed(script);
+    let mut memory = DigestMemory::new(alloc)?;
+    let mut tables = JudgeTables::new(alloc, script.commands.len())?;
+    let entries = trace.as_slice();
+    for position in 0..trace.len() {
+        let place = position as usize;
+        let entry = &entries[place];
+        let (allowed, after) = is_allowed_by(script, &entries[..place], &tables, entry, memory);
+        memory = after;
+        if !allowed {
+            return Ok(Verdict::IllegalAt {
+                position,
+                rule: rule_of(entry),
+            });
+        }
+        note_by(script, &entries[..place], &mut tables, entry)?;
+    }
+    Ok(judge_end_by(script, entries, &tables))
+}
