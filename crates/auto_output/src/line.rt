@@ -14,13 +14,26 @@ const STEP: u64 = 100_000;
 #[derive(Clone, Copy, Debug, PartialEq, Eq)]
 pub enum AutoLine {
     /// A frame, its exposure in nanoseconds and its mean brightness.
-    Frame { frame: u32, exposure: u64, mean: u32 },
+    Frame {
+        frame: u32,
+        exposure: u64,
+        mean: u32,
+    },
     /// The search of a scene is locked at an exposure, in nanoseconds.
-    Locked { scene: u32, exposure: u64 },
+    Locked {
+        scene: u32,
+        exposure: u64,
+    },
     /// No exposure is bright enough for a scene.
-    Limit { scene: u32 },
+    Limit {
+        scene: u32,
+    },
     /// The search of a scene isn't done: the steps that are left, of which 1,001 stands for none.
-    Searching { scene: u32, low: u32, high: u32 },
+    Searching {
+        scene: u32,
+        low: u32,
+        high: u32,
+    },
 }
 
 /// Lines, the first one first.

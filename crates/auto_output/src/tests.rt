@@ -54,7 +54,10 @@ fn texts_have_the_worked_lines(rt: HostRuntime) -> Result<(), Fail> {
 
 #[test]
 fn each_frame_is_captured_once(rt: HostRuntime) -> Result<(), Fail> {
-    let drawn = drawn(rt.alloc(), "auto 1\ntarget 107\niso 200\nscene 1 9 3\nscene 0 0 1")?;
+    let drawn = drawn(
+        rt.alloc(),
+        "auto 1\ntarget 107\niso 200\nscene 1 9 3\nscene 0 0 1",
+    )?;
     let commands = drawn.script.commands.as_slice();
     assert_eq!(rt; commands.len(), 6);
     let Some(Command::Once(last)) = commands.get(4) else {

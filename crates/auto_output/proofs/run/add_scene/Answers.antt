@@ -37,7 +37,7 @@ loop-preserved c =
     let is : c.at_step-shot.result ≡ shot target s i = captured ∙ shot-is target s first i c.loop.ae c.requires.still c.loop.invariant.search in
     let number : length c.loop.found.shots ≡ first + i = shots-count target s i c.args.found.now.shots c.loop.found.shots c.loop.invariant.shots in
     let told : c.in_ok-mean.mean ≡ mean (at_step s (step_of c.loop.ae)) (first + i) =
-        c.in_ok-mean.ensures.mean ∙ (ap (mean c.at_step-shot.result) number ∙ ap (λ shot. mean shot (first + i)) captured) in
+    c.in_ok-mean.ensures.mean ∙ (ap (mean c.at_step-shot.result) number ∙ ap (λ shot. mean shot (first + i)) captured) in
     record {
       lines = one-more (λ i. frame_line (first + i) (shot target s i)) i c.args.found.now.lines c.loop.found.lines c.add_frame.new.found.lines _ c.loop.invariant.lines c.in_ok-mean.ensures.lines (frame-is target s first i (length c.loop.found.shots) c.at_step-shot.result number is);
       shots = one-more (shot target s) i c.args.found.now.shots c.loop.found.shots c.add_frame.new.found.shots c.at_step-shot.result c.loop.invariant.shots c.in_ok-mean.ensures.shots is;
