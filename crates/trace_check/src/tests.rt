@@ -374,12 +374,7 @@ fn add_at(trace: &mut TraceList, entries: &[Entry], place: usize) -> Result<(), 
 }
 
 /// The entries with the one at the place changed.
-fn changed(
-    alloc: Global,
-    entries: &[Entry],
-    at: usize,
-    change: Change,
-) -> Result<TraceList, Fail> {
+fn changed(alloc: Global, entries: &[Entry], at: usize, change: Change) -> Result<TraceList, Fail> {
     let next = at.saturating_add(1);
     let mut trace = TraceList::new(alloc);
     for place in 0..entries.len() {
