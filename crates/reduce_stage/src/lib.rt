@@ -5,4 +5,7 @@
 mod plane;
 mod smaller;
 
+#[cfg(test)]
+mod tests;
+
 pub use smaller::reduce;

@@ -5,7 +5,7 @@ use Rattle.cam_types.specs.declared.four.Four.{Four}
 use Rattle.reprocess_model.specs.declared.entry.ReEntry.{ReEntry}
 use Rattle.reprocess_model.specs.declared.entry.ReEntry.TheVariants.{BeginFlush, Flushed, Take, Failed, Fill, Input}
 use Rattle.reprocess_model.specs.declared.entry.ReOut.{ReOut}
-use Rattle.reprocess_model.specs.Lines.{is_call, is_called, takes, leaves, is_error_of, is_fill_of, is_return_of, is_input_of}
+use Rattle.reprocess_model.specs.Lines.{is_begin_flush, is_call, is_called, takes, leaves, is_error_of, is_fill_of, is_return_of, is_input_of}
 use Rattle.reprocess_model.specs.Places.{at_place}
 
 -- What a past says. A past is a list of lines, the newest first.
@@ -55,8 +55,7 @@ is_stopping (_ ∷ past) = is_stopping past
 -- request n is stopped: a flush began after it was taken
 abbrev pub is_stopped : ℕ → List ReEntry → Bool
 is_stopped n [] = false
-is_stopped n (BeginFlush ∷ past) = is_taken n past || is_stopped n past
-is_stopped n (_ ∷ past) = is_stopped n past
+is_stopped n (e ∷ past) = (is_begin_flush e && is_taken n past) || is_stopped n past
 
 -- ---- what stands of a request
 
