@@ -3,6 +3,7 @@ ghost use Rattle.std.specs.Prelude.{◌≡◌, ◌+◌, ◌*◌, ◌≤◌, [], 
 ghost use Rattle.std.specs.Option.{option_map};
 ghost use Rattle.reprocess_model.specs.Due.{client_due as client_due_in, digest_of, drop_due as drop_due_in, due, error_due as error_due_in, failed_due as failed_due_in, fill_due as fill_due_in, input_due as input_due_in, take_due as take_due_in};
 ghost use Rattle.reprocess_model.specs.Laws.{line_bound as bound_of};
+ghost use Rattle.reprocess_model.specs.Past.{input_of as input_in};
 ghost use Rattle.reprocess_model.specs.Plan.{is_plan};
 ghost use Rattle.reprocess_model.specs.Run.{IsRun, is_complete as is_complete_in, is_ready as is_ready_in};
 ghost use Rattle.reprocess_course.specs.State.{with_line};
@@ -11,7 +12,7 @@ use crate::due::{
     client_due, drop_due, error_due, failed_due, fill_buffer, input_due, take_due,
 };
 use crate::home::{all_inputs_home, all_outputs_home, least_queued};
-use crate::reads::call_count;
+use crate::reads::{call_count, input_of};
 use cam_types::{BufferId, FrameNo, NoMemory, StreamIx};
 use reprocess_model::{Plan, ReCommand, ReEntry, ReStepName};
 use std::alloc::Global;
@@ -137,6 +138,13 @@ impl Course {
         ensures { result ≡ input_due_in self.now.plan self.now.past frame.0 }
     {
         input_due(&self.plan, self.lines.as_slice(), frame)
+    }
+
+    /// The input buffer that a request was taken with.
+    pub fn input_of(&self, frame: FrameNo) -> Option<u32>
+        ensures { result ≡ input_in frame.0 self.now.past }
+    {
+        input_of(self.lines.as_slice(), frame.0)
     }
 
     /// Whether a step is ready.

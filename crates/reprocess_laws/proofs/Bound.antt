@@ -190,7 +190,7 @@ one-of-three (suc zero) l = refl
 one-of-three (suc (suc zero)) l = refl
 one-of-three (suc (suc (suc t))) l = absurd (omega arith)
 
-return-low : (plan : Plan) (n t c : ℕ) (past : List ReEntry) → is_plan plan ≡ true → IsRun plan past → output_of n t past ≡ Some c → t < 3
+pub return-low : (plan : Plan) (n t c : ℕ) (past : List ReEntry) → is_plan plan ≡ true → IsRun plan past → output_of n t past ≡ Some c → t < 3
 return-low plan n t c past valid run out =
     let range = output-range plan n t c past run out in
     elim (cases_lt t 4) [
