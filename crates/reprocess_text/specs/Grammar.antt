@@ -89,6 +89,11 @@ abbrev pub added_command : Begun → ReCommand → Result Begun Cause
 added_command b command =
     if nat_lt (length b.commands) 64 then Ok (begun b.input b.outputs b.faults b.picks (b.commands ++ command ∷ [])) else Err Limit
 
+abbrev pub added_picks : Begun → List (List ℕ) → Result Begun Cause
+added_picks b words =
+    limited picks_within (behind b.picks (picks_of words))
+    >>= λ picks. Ok (begun b.input b.outputs b.faults picks b.commands)
+
 -- `input SIZE`, once
 abbrev pub input_line : Begun → List (List ℕ) → Result Begun Cause
 input_line b words =
@@ -105,10 +110,7 @@ abbrev pub fault_line : Begun → List (List ℕ) → Result Begun Cause
 fault_line b words = if may_prepare b then (one number words >>= λ n. added_fault b n) else Err UnknownWord
 
 abbrev pub pick_line : Begun → List (List ℕ) → Result Begun Cause
-pick_line b words =
-    if may_prepare b
-    then (limited picks_within (behind b.picks (picks_of words)) >>= λ picks. Ok (begun b.input b.outputs b.faults picks b.commands))
-    else Err UnknownWord
+pick_line b words = if may_prepare b then added_picks b words else Err UnknownWord
 
 -- `request PATTERN,LEVEL,EXPOSURE,ISO`, `flush`
 abbrev pub request_line : Begun → List (List ℕ) → Result Begun Cause
@@ -119,16 +121,21 @@ abbrev pub flush_line : Begun → List (List ℕ) → Result Begun Cause
 flush_line b words =
     if is_some b.outputs.a then (ends Flush words >>= λ c. added_command b c) else Err UnknownWord
 
--- a line after the version line, by its first word and the words behind it
+-- a line of what comes after the outputs, by its first word and the words behind it
+unfoldable pub later_line : Begun → List ℕ → List (List ℕ) → Result Begun Cause
+later_line b word words =
+    if bytes_eq word (codes "pick") then pick_line b words
+    else (if bytes_eq word (codes "request") then request_line b words
+    else (if bytes_eq word (codes "flush") then flush_line b words
+    else Err UnknownWord))
+
+-- a line after the version line
 unfoldable pub with_line : Begun → List ℕ → List (List ℕ) → Result Begun Cause
 with_line b word words =
     if bytes_eq word (codes "input") then input_line b words
     else (if bytes_eq word (codes "output") then output_with b b.input words
     else (if bytes_eq word (codes "fault") then fault_line b words
-    else (if bytes_eq word (codes "pick") then pick_line b words
-    else (if bytes_eq word (codes "request") then request_line b words
-    else (if bytes_eq word (codes "flush") then flush_line b words
-    else Err UnknownWord)))))
+    else later_line b word words))
 
 -- the version line: `reprocess 1`
 abbrev pub is_version : List (List ℕ) → Bool

@@ -1,16 +1,13 @@
 //! The plan that stands after some lines.
-ghost use Rattle.std.specs.Prelude.{◌≡◌, IsTrue, Some, None, Ok, IfSome, is_some, length, nat_le};
+ghost use Rattle.std.specs.Prelude.{◌≡◌, IsTrue, Some, None, IfSome, is_some, length, nat_le};
 ghost use Rattle.std.specs.List.{list_all};
 ghost use Rattle.reprocess_model.specs.Plan.{command_fits, is_output, is_plan, is_yuv};
-ghost use Rattle.script_text.specs.Lines.{◌>>=◌, picks_of};
-ghost use Rattle.script_text.specs.Reader.{behind};
-ghost use Rattle.script_text.specs.Within.{limited};
 ghost use Rattle.text_parts.specs.Words.{loose_words};
 ghost use Rattle.reprocess_text.specs.Begun.{begun, outputs_fit};
-ghost use Rattle.reprocess_text.specs.Grammar.{added_command, added_fault, added_output, empty, is_started, may_prepare, one_more_output, picks_within, plan_at};
+ghost use Rattle.reprocess_text.specs.Grammar.{added_command, added_fault, added_output, added_picks, empty, is_started, may_prepare, one_more_output, picks_within, plan_at};
 ghost use Rattle.reprocess_text.specs.Reader.{Gives, GivesBy};
 
-use crate::list::with_picks;
+use crate::list::with_picks as more_picks;
 use crate::refusal::LineRefused;
 use cam_types::{Four, FrameNo, PickList, StreamSpec};
 use reprocess_model::{FrameList, PLAN_COMMANDS, PLAN_FAULTS, Plan, ReCommand, ReList};
@@ -131,10 +128,10 @@ impl Draft {
     }
 
     /// The draft with the picks of one more line.
+    #[tactic(auto, unfolding(script_text::specs::Lines::picks_of))]
     pub fn with_picks(self, words: &[u8]) -> Result<Draft, LineRefused>
         ensures { GivesBy (λ d. begun d.input d.outputs d.faults d.picks d.commands) result
-            (limited picks_within (behind self.picks (picks_of (loose_words words.now))) >>=
-            λ picks. Ok (begun self.input self.outputs self.faults picks self.commands)) }
+            (added_picks (begun self.input self.outputs self.faults self.picks self.commands) (loose_words words.now)) }
     {
         if next_loose_word(words).is_none() {
             return Err(LineRefused::Bad(Cause::Missing));
@@ -146,7 +143,7 @@ impl Draft {
             picks,
             commands,
         } = self;
-        let picks = with_picks(picks, words)?;
+        let picks = more_picks(picks, words)?;
         Ok(Draft {
             input,
             outputs,

@@ -6,7 +6,7 @@ ghost use Rattle.reprocess_model.specs.Plan.{is_plan};
 ghost use Rattle.script_text.specs.Grammar.{is_printable as is_printable_byte};
 ghost use Rattle.text_parts.specs.Words.{loose_words};
 ghost use Rattle.reprocess_text.specs.Begun.{begun};
-ghost use Rattle.reprocess_text.specs.Grammar.{after as after_in, at_end as at_end_in, after_words as after_words_in, fault_line, flush_line, input_line, is_version as is_version_of, output_with, pick_line, plan_of, request_line, with_line as with_line_in};
+ghost use Rattle.reprocess_text.specs.Grammar.{after as after_in, at_end as at_end_in, after_words as after_words_in, fault_line, flush_line, input_line, is_version as is_version_of, later_line, output_with, pick_line, plan_of, request_line, with_line as with_line_in};
 ghost use Rattle.reprocess_text.specs.Reader.{AnswersPlan, GivesBy, refused as refused_at};
 
 use crate::draft::Draft;
@@ -112,21 +112,39 @@ fn with_flush(draft: Draft, words: &[u8]) -> Result<Draft, LineRefused>
     draft.with_command(ReCommand::Flush)
 }
 
-/// A draft with one more line, by its first word and what stands behind it.
+/// A draft with one more line of what comes after the outputs, by its first word and what stands behind it.
+#[tactic(auto, unfolding(crate::specs::Grammar::later_line))]
+fn with_later_line(draft: Draft, word: &[u8], rest: &[u8]) -> Result<Draft, LineRefused>
+    ensures { GivesBy (λ d. begun d.input d.outputs d.faults d.picks d.commands) result
+        (later_line (begun draft.input draft.outputs draft.faults draft.picks draft.commands) word.now
+        (loose_words rest.now)) }
+{
+    if word == b"pick".as_slice() {
+        with_picks(draft, rest)
+    } else if word == b"request".as_slice() {
+        with_request(draft, rest)
+    } else if word == b"flush".as_slice() {
+        with_flush(draft, rest)
+    } else {
+        Err(LineRefused::Bad(Cause::UnknownWord))
+    }
+}
+
+/// A draft with one more line.
 #[tactic(auto, unfolding(crate::specs::Grammar::with_line))]
 fn with_line(draft: Draft, word: &[u8], rest: &[u8]) -> Result<Draft, LineRefused>
     ensures { GivesBy (λ d. begun d.input d.outputs d.faults d.picks d.commands) result
         (with_line_in (begun draft.input draft.outputs draft.faults draft.picks draft.commands) word.now
         (loose_words rest.now)) }
 {
-    match word {
-        b"input" => with_input(draft, rest),
-        b"output" => with_output(draft, rest),
-        b"fault" => with_fault(draft, rest),
-        b"pick" => with_picks(draft, rest),
-        b"request" => with_request(draft, rest),
-        b"flush" => with_flush(draft, rest),
-        _ => Err(LineRefused::Bad(Cause::UnknownWord)),
+    if word == b"input".as_slice() {
+        with_input(draft, rest)
+    } else if word == b"output".as_slice() {
+        with_output(draft, rest)
+    } else if word == b"fault".as_slice() {
+        with_fault(draft, rest)
+    } else {
+        with_later_line(draft, word, rest)
     }
 }
 

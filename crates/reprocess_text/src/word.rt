@@ -1,9 +1,11 @@
 //! What a word means: sizes, requests and numbers.
-ghost use Rattle.std.specs.Prelude.{◌≡◌, ◌↔◌, [], IsTrue};
+ghost use Rattle.std.specs.Prelude.{◌≡◌, ◌↔◌, [], IfOk, IfSome, IsTrue, None};
+ghost use Rattle.cam_types.specs.Metadata.{range_fault as range_fault_of};
+ghost use Rattle.reprocess_model.specs.Plan.{is_output, is_yuv};
 ghost use Rattle.script_text.specs.Lines.{number, one};
 ghost use Rattle.script_text.specs.Values.{four_numbers};
 ghost use Rattle.text_parts.specs.Words.{loose_words};
-ghost use Rattle.reprocess_text.specs.Grammar.{output_of, request_of, size_of};
+ghost use Rattle.reprocess_text.specs.Grammar.{output_of as output_by, request_of as request_by, size_of as size_by, yuv as yuv_stream};
 
 use cam_types::{Format, Settings, StreamSpec};
 use meta_rules::range_fault;
@@ -13,8 +15,8 @@ use text_parts::{
 };
 
 /// A YUV stream.
-const fn yuv(width: u32, height: u32) -> StreamSpec
-    ensures { result ≡ record { input = false; format = Format.Yuv; width = width; height = height } }
+fn yuv(width: u32, height: u32) -> StreamSpec
+    ensures { result ≡ yuv_stream width height }
 {
     StreamSpec {
         input: false,
@@ -27,19 +29,24 @@ const fn yuv(width: u32, height: u32) -> StreamSpec
 /// One of the three sizes.
 #[tactic(auto, unfolding(crate::specs::Grammar::size_of))]
 fn size_of(word: &[u8]) -> Option<StreamSpec>
-    ensures { result ≡ size_of word.now }
+    ensures value { result ≡ size_by word.now }
+    ensures yuv { IfSome result (λ spec. IsTrue (is_yuv spec)) }
 {
-    match word {
-        b"yuv:160x120" => Some(yuv(160, 120)),
-        b"yuv:80x60" => Some(yuv(80, 60)),
-        b"yuv:40x30" => Some(yuv(40, 30)),
-        _ => None,
+    if word == b"yuv:160x120".as_slice() {
+        Some(yuv(160, 120))
+    } else if word == b"yuv:80x60".as_slice() {
+        Some(yuv(80, 60))
+    } else if word == b"yuv:40x30".as_slice() {
+        Some(yuv(40, 30))
+    } else {
+        None
     }
 }
 
 /// A size that isn't larger than that of the input.
 fn output_of(input: StreamSpec, word: &[u8]) -> Option<StreamSpec>
-    ensures { result ≡ output_of input word.now }
+    ensures value { result ≡ output_by input word.now }
+    ensures fits { IfSome result (λ spec. IsTrue (is_output input spec)) }
 {
     let spec = size_of(word)?;
     if spec.width <= input.width {
@@ -69,7 +76,8 @@ fn four_numbers(word: &[u8]) -> Option<Settings>
 
 /// The settings of a request, in range.
 fn request_of(word: &[u8]) -> Option<Settings>
-    ensures { result ≡ request_of word.now }
+    ensures value { result ≡ request_by word.now }
+    ensures fits { IfSome result (λ settings. range_fault_of settings ≡ None) }
 {
     let settings = four_numbers(word)?;
     if range_fault(settings).is_none() {
@@ -101,7 +109,8 @@ pub fn one_number(words: &[u8]) -> Result<u32, Cause>
 
 /// One size, and no more.
 pub fn one_size(words: &[u8]) -> Result<StreamSpec, Cause>
-    ensures { result ≡ one size_of (loose_words words.now) }
+    ensures value { result ≡ one size_by (loose_words words.now) }
+    ensures yuv { IfOk result (λ spec. IsTrue (is_yuv spec)) }
 {
     let (word, rest) = next_loose_word(words).ok_or(Cause::Missing)?;
     let size = size_of(word).ok_or(Cause::BadNumber)?;
@@ -114,7 +123,8 @@ pub fn one_size(words: &[u8]) -> Result<StreamSpec, Cause>
 
 /// One size that isn't larger than that of the input, and no more.
 pub fn one_output(input: StreamSpec, words: &[u8]) -> Result<StreamSpec, Cause>
-    ensures { result ≡ one (output_of input) (loose_words words.now) }
+    ensures value { result ≡ one (output_by input) (loose_words words.now) }
+    ensures fits { IfOk result (λ spec. IsTrue (is_output input spec)) }
 {
     let (word, rest) = next_loose_word(words).ok_or(Cause::Missing)?;
     let size = output_of(input, word).ok_or(Cause::BadNumber)?;
@@ -127,7 +137,8 @@ pub fn one_output(input: StreamSpec, words: &[u8]) -> Result<StreamSpec, Cause>
 
 /// One request, and no more.
 pub fn one_request(words: &[u8]) -> Result<Settings, Cause>
-    ensures { result ≡ one request_of (loose_words words.now) }
+    ensures value { result ≡ one request_by (loose_words words.now) }
+    ensures fits { IfOk result (λ settings. range_fault_of settings ≡ None) }
 {
     let (word, rest) = next_loose_word(words).ok_or(Cause::Missing)?;
     let settings = request_of(word).ok_or(Cause::BadNumber)?;
