@@ -1,10 +1,8 @@
 -- Planes that are made smaller row by row.
 use Rattle.std.proofs.Common.{◌≡◌, ℕ, ◌+◌, ◌*◌, ◌/◌, ◌%◌, ◌<◌, ◌≤◌, List, ◌++◌, length, take, drop, get_or, refl, ap, sym, ◌∙◌, arith}
-use Rattle.std.specs.Prelude.{slice_range, slice_index}
 use Rattle.std.proofs.lemmas.Grind.{common_steps}
 use Rattle.std.proofs.lemmas.Nat.{row_fits_turned}
 use Rattle.std.proofs.Math.Nat.{mul_comm, mul-div_cancel_left}
-use Rattle.cam_types.specs.Picture.{plane}
 use Rattle.cam_types.proofs.PictureLemmas.{plane-same}
 use Rattle.reprocess_model.specs.Reduce.{reduced_plane}
 use Rattle.yuv_stage.proofs.PlaneLemmas.{plane-all, plane-more}
@@ -33,9 +31,9 @@ row-more step width height y wide wide' from xs row some low w w' size same befo
     let len : length row ≡ width = same ∙ grind (arith, common_steps) in
     plane-more (apart step (width * step) from) width y wide xs row w room len before
     (λ x h.
-      let column : x * step + step ≤ step * width = row_fits_turned x step step width h (omega arith) in
-      let within : x * step < wide' = omega arith in
-      here x (omega arith) ∙ part-at from (y * step * (width * step)) wide' (x * step) within)
+    let column : x * step + step ≤ step * width = row_fits_turned x step step width h (omega arith) in
+    let within : x * step < wide' = omega arith in
+    here x (omega arith) ∙ part-at from (y * step * (width * step)) wide' (x * step) within)
 
 -- the place that a byte is taken from
 from-place : (step size p : ℕ) → 1 ≤ size → p * (size * step) / size ≡ p * step

@@ -4,7 +4,6 @@
 
 mod plane;
 mod smaller;
-
 #[cfg(test)]
 mod tests;
 

@@ -1,7 +1,7 @@
 -- What a walk over the numbers below one finds.
-use Rattle.std.proofs.Common.{◌≡◌, ℕ, zero, suc, ◌<◌, ◌≤◌, Bool, true, false, ◌||◌, not, Some, None, inl, inr, refl, arith, cond}
+use Rattle.std.proofs.Common.{◌≡◌, ℕ, zero, suc, ◌<◌, Bool, true, false, ◌||◌, not, Some, None, inl, inr, refl, arith}
 use Rattle.std.proofs.lemmas.Bool.{both_ways, cases_Bool, cases_eq}
-use Rattle.reprocess_model.specs.Past.{all_below, find_below, or_else}
+use Rattle.reprocess_model.specs.Past.{all_below, find_below}
 use Rattle.reprocess_laws.proofs.Found.{all_below-at}
 
 pub found-none : (n : ℕ) (p : ℕ → Bool) → ((j : ℕ) → j < n → p j ≡ false) → find_below n p ≡ None

@@ -8,9 +8,7 @@ ghost use Rattle.reprocess_model.specs.Plan.{is_plan};
 ghost use Rattle.reprocess_model.specs.Run.{IsRun, is_complete as is_complete_in, is_ready as is_ready_in};
 ghost use Rattle.reprocess_course.specs.State.{with_line};
 
-use crate::due::{
-    client_due, drop_due, error_due, failed_due, fill_buffer, input_due, take_due,
-};
+use crate::due::{client_due, drop_due, error_due, failed_due, fill_buffer, input_due, take_due};
 use crate::home::{all_inputs_home, all_outputs_home, least_queued};
 use crate::reads::{call_count, input_of};
 use cam_types::{BufferId, FrameNo, NoMemory, StreamIx};

@@ -4,7 +4,8 @@ ghost use Rattle.reprocess_model.specs.declared.entry.ReEntry.{ReEntry as AnEntr
 ghost use Rattle.reprocess_model.specs.Past.{buffer_at as buffer_in, call_count as calls_in, has_buffer as has_buffer_in, has_error as error_in, has_fill as fill_in, has_input as back_in, is_buffer as is_buffer_in, input_holder as input_holder_in, input_of as input_in, is_gone as gone_in, is_returned as returned_in, is_stopped as stopped_in, is_stopping as stopping_in, is_taken as taken_in, output_holder as output_holder_in, output_of as output_in, request_count as requests_in};
 
 use crate::line::{
-    is_begin_flush, is_call, is_called, is_error_of, is_fill_of, is_input_of, is_return_of, leaves, takes,
+    is_begin_flush, is_call, is_called, is_error_of, is_fill_of, is_input_of, is_return_of, leaves,
+    takes,
 };
 use cam_types::Four;
 use reprocess_model::{ReEntry, ReOut};
@@ -240,7 +241,11 @@ fn output_holder_after(before: Option<u32>, line: &ReEntry, number: u32) -> Opti
         result ≡ output_holder_in number (line.now ∷ past) }
 {
     match line {
-        ReEntry::Take { frame, outputs, .. } => if has_buffer(*outputs, number) { Some(frame.0) } else { before },
+        ReEntry::Take { frame, outputs, .. } => if has_buffer(*outputs, number) {
+            Some(frame.0)
+        } else {
+            before
+        },
         ReEntry::Failed { buffer, .. } => if buffer.0 == number { None } else { before },
         ReEntry::Fill { buffer, .. } => if buffer.0 == number { None } else { before },
         _ => before,

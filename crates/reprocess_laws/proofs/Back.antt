@@ -1,23 +1,23 @@
 -- An input comes back after its outputs, so where all inputs are home all outputs are.
-use Rattle.std.proofs.Common.{◌≡◌, ℕ, zero, suc, ◌==◌, ◌+◌, ◌*◌, ◌<◌, ◌≤◌, Bool, true, false, ◌&&◌, ◌||◌, not, List, [], ◌∷◌, Option, Some, None, ◌⊎◌, inl, inr, refl, sym, ap, ◌∙◌, arith, is_some, is_none}
+use Rattle.std.proofs.Common.{◌≡◌, ℕ, ◌==◌, ◌<◌, Bool, true, false, ◌&&◌, ◌||◌, List, [], ◌∷◌, Option, Some, None, inl, inr, refl, sym, ap, ◌∙◌, arith, is_some, is_none}
 use Rattle.std.specs.Option.{option_map}
-use Rattle.std.proofs.lemmas.Bool.{and_parts, and_from, both_ways, cases_Bool, eqb-true, or_cases, or_left, or_right, false≢true}
+use Rattle.std.proofs.lemmas.Bool.{and_parts, and_from, both_ways, cases_Bool, eqb-true, or_cases, false≢true}
 use Rattle.basic_lemmas.proofs.Counts.{count-cons}
 use Rattle.basic_lemmas.proofs.Lists.{any-behind}
 use Rattle.cam_types.specs.declared.four.Four.{Four}
 use Rattle.cam_types.specs.declared.stream.StreamSpec.{StreamSpec}
 use Rattle.reprocess_model.specs.declared.entry.ReEntry.{ReEntry}
-use Rattle.reprocess_model.specs.declared.entry.ReEntry.TheVariants.{Take, Dropped, Failed, Fill, Input}
+use Rattle.reprocess_model.specs.declared.entry.ReEntry.TheVariants.{Take, Dropped, Fill, Input}
 use Rattle.reprocess_model.specs.declared.entry.ReOut.{ReOut}
 use Rattle.reprocess_model.specs.declared.plan.Plan.{Plan}
 use Rattle.reprocess_model.specs.Due.{all_returned, has_out, has_outs, is_faulty, out_for}
 use Rattle.reprocess_model.specs.Lines.{is_called, is_return_of, leaves}
-use Rattle.reprocess_model.specs.Past.{all_below, request_count, is_gone, is_taken, has_fill, is_returned, has_input, input_of, output_of, buffer_at, input_holder, output_holder, is_input_home, all_inputs_home, all_outputs_home, least_output}
+use Rattle.reprocess_model.specs.Past.{request_count, is_gone, is_taken, has_fill, is_returned, has_input, output_of, buffer_at, output_holder, is_input_home, all_inputs_home, all_outputs_home, least_output}
 use Rattle.reprocess_model.specs.Places.{at_place, each_place}
 use Rattle.reprocess_model.specs.Run.{IsRun}
 use Rattle.reprocess_laws.proofs.Found.{all_below-at, all_below-from, some-or-none}
 use Rattle.reprocess_laws.proofs.Facts.{outs_for, taking-of, dropping-of, filling-of, inputting-of}
-use Rattle.reprocess_laws.proofs.Held.{has_input-taken, input-holds, output-held, output-range, output_of-taken, queued-fresh, taken-input}
+use Rattle.reprocess_laws.proofs.Held.{input-holds, output-held, output-range, output_of-taken, queued-fresh, taken-input}
 
 or-more : (a p q : Bool) → (p ≡ true → q ≡ true) → (a || p) ≡ true → (a || q) ≡ true
 or-more true p q h k = refl

@@ -1,22 +1,22 @@
 -- How many lines a run has: each kind stands at most once for a request, or for a request and an output.
-use Rattle.std.proofs.Common.{◌≡◌, ℕ, zero, suc, ◌==◌, ◌+◌, ◌*◌, ◌<◌, ◌≤◌, Bool, true, false, ◌&&◌, ◌||◌, not, List, [], ◌∷◌, Option, Some, None, ◌⊎◌, inl, inr, refl, sym, ap, ◌∙◌, arith, length, count_by, cond, drop, if◌then◌else◌, is_some}
+use Rattle.std.proofs.Common.{◌≡◌, ℕ, zero, suc, ◌==◌, ◌+◌, ◌<◌, ◌≤◌, Bool, true, false, List, [], ◌∷◌, Some, inl, inr, refl, sym, ◌∙◌, arith, length, count_by, cond, drop, if◌then◌else◌}
 use Rattle.std.specs.List.{list_any}
-use Rattle.std.proofs.lemmas.Bool.{and_right, both_ways, cases_Bool, cases_eq, cases_lt, eqb-true, eqb-false, eq-eqb, ne_eqb, false≢true}
+use Rattle.std.proofs.lemmas.Bool.{and_right, cases_Bool, cases_eq, cases_lt, eqb-true, eq-eqb, ne_eqb, false≢true}
 use Rattle.basic_lemmas.proofs.Counts.{count-cons, count-one, count-over, drop-at}
-use Rattle.basic_lemmas.proofs.Tests.{and-true, or-false, not-by}
+use Rattle.basic_lemmas.proofs.Tests.{and-true, or-false}
 use Rattle.reprocess_model.specs.declared.entry.ReEntry.{ReEntry}
 use Rattle.reprocess_model.specs.declared.entry.ReEntry.TheVariants.{Called, BeginFlush, Flushed, Take, Dropped, Error, Failed, Fill, Input}
 use Rattle.reprocess_model.specs.declared.plan.Plan.{Plan}
 use Rattle.reprocess_model.specs.declared.plan.ReCommand.TheVariants.{Flush}
 use Rattle.reprocess_model.specs.Laws.{line_bound}
 use Rattle.reprocess_model.specs.Lines.{is_called, is_begin_flush, is_flushed, leaves, is_error_of, is_return_of, is_input_of}
-use Rattle.reprocess_model.specs.Past.{call_count, request_count, is_gone, is_taken, has_error, is_returned, has_input, is_stopping, output_of, output_holder}
-use Rattle.reprocess_model.specs.Plan.{is_flush, is_plan, is_request, requests}
+use Rattle.reprocess_model.specs.Past.{call_count, request_count, is_taken, is_returned, is_stopping, output_of, output_holder}
+use Rattle.reprocess_model.specs.Plan.{is_flush, is_plan, requests}
 use Rattle.reprocess_model.specs.Run.{IsRun}
 use Rattle.reprocess_laws.proofs.Facts.{taking-of, dropping-of, failing-of, filling-of, inputting-of, erring-of}
 use Rattle.reprocess_laws.proofs.Held.{input-held, output-apart, output-held, output-range, output_of-taken, input_of-taken, queued-fresh, taken-gone}
 use Rattle.reprocess_laws.proofs.Back.{gone-called}
-use Rattle.reprocess_laws.proofs.Calls.{begun-count, flushes-left, length-requests, requests-left, requests-within, stopping-flush}
+use Rattle.reprocess_laws.proofs.Calls.{begun-count, flushes-left, length-requests, requests-within, stopping-flush}
 use Rattle.reprocess_laws.proofs.Stuck.{output-low}
 
 -- how many numbers below n pass the test

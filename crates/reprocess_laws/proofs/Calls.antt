@@ -1,14 +1,14 @@
 -- How many commands, requests and flushes are called, against those of the plan.
-use Rattle.std.proofs.Common.{◌≡◌, ℕ, zero, suc, ◌==◌, ◌+◌, ◌*◌, ◌<◌, ◌≤◌, Bool, true, false, ◌&&◌, not, List, [], ◌∷◌, Option, Some, None, ◌⊎◌, inl, inr, refl, sym, ap, ◌∙◌, arith, length, drop, slice_get, count_by, is_some, if◌then◌else◌, cond}
-use Rattle.std.proofs.lemmas.Bool.{and_parts, both_ways, cases_Bool, not-true, false≢true}
-use Rattle.basic_lemmas.proofs.Counts.{count-cons, count-one, count-over, drop-at, place-within}
+use Rattle.std.proofs.Common.{◌≡◌, ℕ, ◌+◌, ◌≤◌, Bool, true, false, ◌&&◌, not, List, [], ◌∷◌, Option, Some, None, inl, inr, refl, sym, arith, length, drop, slice_get, count_by, is_some, if◌then◌else◌, cond}
+use Rattle.std.proofs.lemmas.Bool.{and_parts, cases_Bool, not-true, false≢true}
+use Rattle.basic_lemmas.proofs.Counts.{count-one, count-over, drop-at, place-within}
 use Rattle.cam_types.specs.declared.item.Settings.{Settings}
 use Rattle.reprocess_model.specs.declared.entry.ReEntry.{ReEntry}
 use Rattle.reprocess_model.specs.declared.entry.ReEntry.TheVariants.{Called, BeginFlush, Flushed, Take, Dropped, Error, Failed, Fill, Input}
 use Rattle.reprocess_model.specs.declared.plan.Plan.{Plan}
 use Rattle.reprocess_model.specs.declared.plan.ReCommand.{ReCommand}
 use Rattle.reprocess_model.specs.declared.plan.ReCommand.TheVariants.{Request, Flush}
-use Rattle.reprocess_model.specs.Due.{line_of_command, when}
+use Rattle.reprocess_model.specs.Due.{line_of_command}
 use Rattle.reprocess_model.specs.Lines.{is_call, is_called, is_begin_flush, is_flushed}
 use Rattle.reprocess_model.specs.Past.{call_count, request_count, least_queued, is_stopping, all_inputs_home}
 use Rattle.reprocess_model.specs.Plan.{is_request, is_flush, requests}

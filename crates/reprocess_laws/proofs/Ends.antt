@@ -1,8 +1,8 @@
 -- Each buffer comes back once for each take, each request ends once, and filled outputs rise by request.
-use Rattle.std.proofs.Common.{◌≡◌, ℕ, zero, suc, ◌==◌, ◌+◌, ◌<◌, ◌≤◌, Bool, true, false, ◌&&◌, ◌||◌, not, List, [], ◌∷◌, Option, Some, None, ◌⊎◌, inl, inr, refl, sym, ap, subst, ◌∙◌, arith, count_by, filter, length, nat_lt, if◌then◌else◌, is_none, is_some}
+use Rattle.std.proofs.Common.{◌≡◌, ℕ, ◌==◌, ◌+◌, ◌<◌, ◌≤◌, Bool, true, false, ◌&&◌, ◌||◌, not, List, [], ◌∷◌, Option, Some, None, inl, inr, refl, sym, subst, ◌∙◌, arith, count_by, filter, length, if◌then◌else◌, is_some}
 use Rattle.std.specs.List.{list_all, list_any}
 use Rattle.std.proofs.lemmas.Bool.{and_from, and_parts, both_ways, cases_Bool, cases_order, eqb-true, eq-eqb, lt-ltb, ne_eqb, not-false, not-true, or_cases, or_from, or_left, or_parts, or_right, false≢true}
-use Rattle.basic_lemmas.proofs.Counts.{count-one, count-over, counts-once, some-counted}
+use Rattle.basic_lemmas.proofs.Counts.{count-one, count-over, counts-once}
 use Rattle.basic_lemmas.proofs.Lists.{any-behind, any-or, any-where}
 use Rattle.basic_lemmas.proofs.Tests.{not-by, or-false}
 use Rattle.cam_types.specs.declared.four.Four.{Four}
@@ -10,13 +10,12 @@ use Rattle.reprocess_model.specs.declared.entry.ReEntry.{ReEntry}
 use Rattle.reprocess_model.specs.declared.entry.ReEntry.TheVariants.{Called, BeginFlush, Flushed, Take, Dropped, Error, Failed, Fill, Input}
 use Rattle.reprocess_model.specs.declared.entry.ReOut.{ReOut}
 use Rattle.reprocess_model.specs.declared.plan.Plan.{Plan}
-use Rattle.reprocess_model.specs.Due.{is_next_for}
 use Rattle.reprocess_model.specs.Lines.{drops, is_error_of, is_input_of, is_return_of, leaves, takes}
 use Rattle.reprocess_model.specs.Past.{all_inputs_home, all_outputs_home, call_count, has_buffer, has_error, has_input, input_holder, is_gone, is_input_home, is_returned, is_taken, least_queued, output_holder, request_count}
 use Rattle.reprocess_model.specs.Run.{IsRun, is_complete}
 use Rattle.reprocess_laws.specs.Laws.{ends, fills_rise, is_fill_before, one_held, returns_input, returns_output, takes_input, takes_output}
-use Rattle.reprocess_laws.proofs.Found.{all_below-at, least-passes, none-passes, some-or-none}
-use Rattle.reprocess_laws.proofs.Facts.{outs_for, taking-of, dropping-of, failing-of, filling-of, inputting-of}
+use Rattle.reprocess_laws.proofs.Found.{all_below-at, least-passes, none-passes}
+use Rattle.reprocess_laws.proofs.Facts.{taking-of, dropping-of, failing-of, filling-of, inputting-of}
 use Rattle.reprocess_laws.proofs.Held.{has-buffer-home, has_input-taken, input-held, input-holds, input_of-taken, least_input-home, output_of-taken, queued-fresh, taken-gone, taken-input}
 use Rattle.reprocess_laws.proofs.Bound.{return-fresh}
 

@@ -1,19 +1,17 @@
 -- What a line that is due says.
-use Rattle.std.proofs.Common.{◌≡◌, ℕ, ◌==◌, ◌<◌, ◌≤◌, Bool, true, false, ◌&&◌, ◌||◌, not, List, [], ◌∷◌, Option, Some, None, ◌⊎◌, inl, inr, refl, sym, ap, ◌∙◌, arith, slice_get, is_some}
-use Rattle.std.proofs.lemmas.Bool.{and_parts, cases_Bool, eqb-true, eq-eqb, not-true}
+use Rattle.std.proofs.Common.{◌≡◌, ℕ, Bool, true, false, ◌&&◌, ◌||◌, not, List, Option, Some, None, refl, ap, ◌∙◌}
+use Rattle.std.proofs.lemmas.Bool.{and_parts, eqb-true, eq-eqb, not-true}
 use Rattle.cam_types.specs.declared.four.Four.{Four}
 use Rattle.cam_types.specs.declared.number.BufferId.{BufferId}
 use Rattle.cam_types.specs.declared.number.FrameNo.{FrameNo}
 use Rattle.cam_types.specs.declared.number.StreamIx.{StreamIx}
 use Rattle.reprocess_model.specs.declared.entry.InputId.{InputId}
 use Rattle.reprocess_model.specs.declared.entry.ReEntry.{ReEntry}
-use Rattle.reprocess_model.specs.declared.entry.ReEntry.TheVariants.{Called, BeginFlush, Flushed, Take, Dropped, Error, Failed, Fill, Input}
+use Rattle.reprocess_model.specs.declared.entry.ReEntry.TheVariants.{Take, Dropped, Error, Failed, Fill, Input}
 use Rattle.reprocess_model.specs.declared.entry.ReOut.{ReOut}
 use Rattle.reprocess_model.specs.declared.plan.Plan.{Plan}
-use Rattle.reprocess_model.specs.declared.plan.ReCommand.{ReCommand}
-use Rattle.reprocess_model.specs.declared.plan.ReCommand.TheVariants.{Request, Flush}
-use Rattle.reprocess_model.specs.Due.{when, take_with, take_due, take_line, out_for, has_outs, drop_of, drop_due, failed_with, failed_due, fill_with, fill_due, may_fill, input_with, input_due, all_returned, error_due, may_fail, is_faulty, is_next_for, client_due, line_of_command, digest_of}
-use Rattle.reprocess_model.specs.Past.{call_count, is_taken, least_queued, is_stopping, is_stopped, has_error, has_fill, has_input, input_of, output_of, input_holder, output_holder, is_by, least_input, all_inputs_home}
+use Rattle.reprocess_model.specs.Due.{when, take_with, take_due, take_line, out_for, has_outs, drop_of, drop_due, failed_with, failed_due, fill_with, fill_due, may_fill, input_with, input_due, all_returned, error_due, may_fail, is_faulty, is_next_for, digest_of}
+use Rattle.reprocess_model.specs.Past.{is_taken, least_queued, is_stopping, is_stopped, has_error, has_fill, has_input, input_of, output_of, input_holder, output_holder, is_by, least_input}
 
 pub when-some : (t : Bool) (e d : ReEntry) → when t e ≡ Some d → (t ≡ true) × (e ≡ d)
 when-some true e d h = (refl, cc)

@@ -1,24 +1,22 @@
 -- What is at the device, by which request, and what stands of a request.
-use Rattle.std.proofs.Common.{◌≡◌, ℕ, zero, suc, ◌==◌, ◌+◌, ◌*◌, ◌<◌, ◌≤◌, Bool, true, false, ◌&&◌, ◌||◌, not, List, [], ◌∷◌, Option, Some, None, ◌⊎◌, inl, inr, refl, sym, ap, ◌∙◌, arith, is_some, is_none, if◌then◌else◌}
-use Rattle.std.specs.List.{list_any, range_with_len}
+use Rattle.std.proofs.Common.{◌≡◌, ℕ, ◌==◌, ◌+◌, ◌*◌, ◌<◌, ◌≤◌, Bool, true, false, ◌&&◌, ◌||◌, not, List, [], ◌∷◌, Option, Some, None, inl, inr, refl, sym, ap, ◌∙◌, arith, is_some}
 use Rattle.std.specs.Option.{option_map}
-use Rattle.std.proofs.lemmas.Bool.{and_parts, and_from, both_ways, cases_Bool, cases_eq, eqb-true, eq-eqb, ne_eqb, not-true, or_cases, or_parts, or_left, or_right, false≢true}
+use Rattle.std.proofs.lemmas.Bool.{and_parts, and_from, both_ways, cases_Bool, eqb-true, eq-eqb, ne_eqb, not-true, or_cases, or_parts, or_left, or_right, false≢true}
 use Rattle.basic_lemmas.proofs.Lists.{any-behind, any-where}
 use Rattle.basic_lemmas.proofs.Tests.{not-by}
 use Rattle.cam_types.specs.declared.four.Four.{Four}
-use Rattle.cam_types.specs.declared.number.FrameNo.{FrameNo}
 use Rattle.cam_types.specs.declared.stream.StreamSpec.{StreamSpec}
 use Rattle.reprocess_model.specs.declared.entry.ReEntry.{ReEntry}
-use Rattle.reprocess_model.specs.declared.entry.ReEntry.TheVariants.{Called, BeginFlush, Flushed, Take, Dropped, Error, Failed, Fill, Input}
+use Rattle.reprocess_model.specs.declared.entry.ReEntry.TheVariants.{Take, Error, Failed, Fill, Input}
 use Rattle.reprocess_model.specs.declared.entry.ReOut.{ReOut}
 use Rattle.reprocess_model.specs.declared.plan.Plan.{Plan}
-use Rattle.reprocess_model.specs.Due.{out_for, has_out}
-use Rattle.reprocess_model.specs.Lines.{takes, leaves, is_error_of, is_fill_of, is_return_of, is_input_of}
-use Rattle.reprocess_model.specs.Past.{request_count, is_taken, is_gone, least_queued, has_error, has_fill, is_returned, has_input, input_of, output_of, buffer_at, input_holder, output_holder, is_buffer, has_buffer, is_input_home, is_output_home, least_input, least_output}
+use Rattle.reprocess_model.specs.Due.{out_for}
+use Rattle.reprocess_model.specs.Lines.{takes, leaves, is_return_of}
+use Rattle.reprocess_model.specs.Past.{request_count, is_taken, is_gone, least_queued, has_error, is_returned, has_input, input_of, output_of, buffer_at, input_holder, output_holder, is_buffer, has_buffer, is_input_home, is_output_home, least_input, least_output}
 use Rattle.reprocess_model.specs.Places.{at_place}
 use Rattle.reprocess_model.specs.Run.{IsRun}
 use Rattle.reprocess_laws.proofs.Found.{found-passes, in-row, some-or-none}
-use Rattle.reprocess_laws.proofs.Facts.{outs_for, IsTaking, taking-of, failing-of, filling-of, inputting-of, erring-of}
+use Rattle.reprocess_laws.proofs.Facts.{outs_for, taking-of, failing-of, filling-of, inputting-of, erring-of}
 
 -- ---- a request that is taken was not gone
 
@@ -362,12 +360,12 @@ other-buffer : (plan : Plan) (m n t s c b : ℕ) (past : List ReEntry) → IsRun
 other-buffer plan m n t s c b past run mine held yours holds away =
     ne_eqb c b
     (λ same.
-      let held' = rw same at held in
-      let mine' = rw same at mine in
-      let both : m ≡ n = cc in
-      let place = output-apart plan m n t s b past run mine' yours in
-      let here = and_from (m == n) (t == s) (eq-eqb m n both) (eq-eqb t s place) in
-      both_ways ((m == n) && (t == s)) away here)
+    let held' = rw same at held in
+    let mine' = rw same at mine in
+    let both : m ≡ n = cc in
+    let place = output-apart plan m n t s b past run mine' yours in
+    let here = and_from (m == n) (t == s) (eq-eqb m n both) (eq-eqb t s place) in
+    both_ways ((m == n) && (t == s)) away here)
 
 -- and a request whose buffer for an output isn't back holds it
 pub output-holds : (plan : Plan) (n s b : ℕ) (past : List ReEntry) → IsRun plan past → output_of n s past ≡ Some b → is_returned n s past ≡ false → output_holder b past ≡ Some n

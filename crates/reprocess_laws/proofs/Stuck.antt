@@ -1,10 +1,9 @@
 -- A run that isn't complete has a step that is ready.
-use Rattle.std.proofs.Common.{◌≡◌, ℕ, zero, suc, ◌==◌, ◌+◌, ◌*◌, ◌<◌, ◌≤◌, Bool, true, false, ◌&&◌, ◌||◌, not, List, [], ◌∷◌, ◌++◌, Option, Some, None, ◌⊎◌, inl, inr, refl, sym, ap, ◌∙◌, arith, length, map, slice_get, nat_le, is_some, is_none}
+use Rattle.std.proofs.Common.{◌≡◌, ℕ, zero, suc, ◌==◌, ◌+◌, ◌*◌, ◌<◌, ◌≤◌, Bool, true, false, ◌&&◌, ◌||◌, not, List, [], ◌∷◌, ◌++◌, Option, Some, None, inl, inr, refl, sym, ◌∙◌, arith, length, map, nat_le, is_some}
 use Rattle.std.specs.List.{flat_map, list_all, list_any, range_with_len}
-use Rattle.std.proofs.lemmas.Bool.{and_parts, and_from, both_ways, cases_Bool, cases_eq, cases_lt, eqb-false, eqb-true, eq-eqb, not-true, not_from_false, or_cases, or_parts, or_left, or_right, false≢true}
+use Rattle.std.proofs.lemmas.Bool.{and_parts, and_from, cases_Bool, cases_eq, eqb-false, not-true, or_cases, or_parts, or_left, or_right, false≢true}
 use Rattle.std.proofs.lemmas.Option.{slice_get_cases}
 use Rattle.basic_lemmas.proofs.Lists.{any-mapped}
-use Rattle.cam_types.specs.declared.four.Four.{Four}
 use Rattle.cam_types.specs.declared.number.FrameNo.{FrameNo}
 use Rattle.cam_types.specs.declared.number.StreamIx.{StreamIx}
 use Rattle.cam_types.specs.declared.stream.StreamSpec.{StreamSpec}
@@ -15,7 +14,7 @@ use Rattle.reprocess_model.specs.declared.plan.ReCommand.TheVariants.{Request, F
 use Rattle.reprocess_model.specs.declared.step.ReStepName.{ReStepName}
 use Rattle.reprocess_model.specs.declared.step.ReStepName.TheVariants.{TakeNext, Client, DropNext, Fail, ReturnFailed, ReturnFilled, ReturnInput}
 use Rattle.reprocess_model.specs.Due.{all_returned, has_out, may_fail, is_faulty, is_next_for, line_of_command}
-use Rattle.reprocess_model.specs.Past.{call_count, request_count, is_taken, is_stopping, is_stopped, has_error, has_fill, is_returned, has_input, input_of, output_of, input_holder, output_holder, least_queued, least_input, least_output, is_input_home, is_output_home, all_inputs_home, all_outputs_home}
+use Rattle.reprocess_model.specs.Past.{call_count, request_count, is_taken, is_stopping, is_stopped, has_error, has_fill, is_returned, has_input, input_of, output_of, input_holder, output_holder, least_queued, least_output, is_input_home, is_output_home, all_inputs_home}
 use Rattle.reprocess_model.specs.Places.{at_place}
 use Rattle.reprocess_model.specs.Plan.{are_outputs, are_outputs_at, command_fits, is_plan, is_yuv, requests}
 use Rattle.reprocess_model.specs.Run.{IsRun, is_complete, is_ready, steps, for_requests, for_outputs}

@@ -1,9 +1,9 @@
-use Rattle.std.specs.Prelude.{◌≡◌, ℕ, ◌==◌, ◌+◌, Bool, true, false, ◌&&◌, ◌||◌, not, List, [], ◌∷◌, Option, None, is_none, nat_lt, count_by, if◌then◌else◌}
+use Rattle.std.specs.Prelude.{ℕ, ◌==◌, Bool, true, false, ◌&&◌, ◌||◌, not, List, [], ◌∷◌, Option, is_none, nat_lt, if◌then◌else◌}
 use Rattle.std.specs.List.{list_all}
 use Rattle.reprocess_model.specs.declared.entry.ReEntry.{ReEntry}
 use Rattle.reprocess_model.specs.declared.entry.ReEntry.TheVariants.{Take, Failed, Fill, Input}
 use Rattle.reprocess_model.specs.Lines.{drops, is_input_of}
-use Rattle.reprocess_model.specs.Past.{has_buffer, input_holder, output_holder}
+use Rattle.reprocess_model.specs.Past.{has_buffer}
 
 -- What the laws speak of.
 

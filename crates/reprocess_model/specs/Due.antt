@@ -1,11 +1,7 @@
-use Rattle.std.specs.Prelude.{ℕ, ◌==◌, Bool, true, false, ◌&&◌, ◌||◌, not, List, [], Option, Some, None, is_some, if◌then◌else◌, slice_get}
+use Rattle.std.specs.Prelude.{ℕ, ◌==◌, Bool, true, ◌&&◌, ◌||◌, not, List, [], Option, Some, None, is_some, if◌then◌else◌, slice_get}
 use Rattle.std.specs.List.{list_any}
 use Rattle.std.specs.Option.{option_map}
-use Rattle.cam_types.specs.declared.number.BufferId.{BufferId}
-use Rattle.cam_types.specs.declared.number.FrameNo.{FrameNo}
-use Rattle.cam_types.specs.declared.number.StreamIx.{StreamIx}
 use Rattle.cam_types.specs.declared.stream.StreamSpec.{StreamSpec}
-use Rattle.reprocess_model.specs.declared.entry.InputId.{InputId}
 use Rattle.reprocess_model.specs.declared.entry.ReEntry.{ReEntry}
 use Rattle.reprocess_model.specs.declared.entry.ReEntry.TheVariants.{Called, BeginFlush, Flushed, Take, Dropped, Error, Failed, Fill, Input}
 use Rattle.reprocess_model.specs.declared.entry.ReOut.{ReOut}

@@ -1,4 +1,4 @@
-use Rattle.std.specs.Prelude.{◌≡◌, ℕ, ◌+◌, ◌*◌, ◌≤◌, List, length, count_by}
+use Rattle.std.specs.Prelude.{ℕ, ◌+◌, ◌*◌, count_by}
 use Rattle.reprocess_model.specs.declared.plan.Plan.{Plan}
 use Rattle.reprocess_model.specs.Plan.{is_request, is_flush}
 

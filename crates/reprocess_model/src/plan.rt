@@ -67,11 +67,24 @@ pub fn are_outputs(input: StreamSpec, outputs: Four<StreamSpec>) -> bool
     ensures { result ≡ are_outputs input outputs }
 {
     match outputs {
-        Four { a: Some(a), b: None, c: None, d: None } => is_output(input, a),
-        Four { a: Some(a), b: Some(b), c: None, d: None } => is_output(input, a) && is_output(input, b),
-        Four { a: Some(a), b: Some(b), c: Some(c), d: None } => {
-            is_output(input, a) && (is_output(input, b) && is_output(input, c))
-        }
+        Four {
+            a: Some(a),
+            b: None,
+            c: None,
+            d: None,
+        } => is_output(input, a),
+        Four {
+            a: Some(a),
+            b: Some(b),
+            c: None,
+            d: None,
+        } => is_output(input, a) && is_output(input, b),
+        Four {
+            a: Some(a),
+            b: Some(b),
+            c: Some(c),
+            d: None,
+        } => { is_output(input, a) && (is_output(input, b) && is_output(input, c)) }
         _ => false,
     }
 }

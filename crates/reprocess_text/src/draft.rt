@@ -36,11 +36,26 @@ fn with_output(outputs: Four<StreamSpec>, spec: StreamSpec) -> Option<Four<Strea
 {
     let Four { a, b, c, d } = outputs;
     if a.is_none() {
-        Some(Four { a: Some(spec), b, c, d })
+        Some(Four {
+            a: Some(spec),
+            b,
+            c,
+            d,
+        })
     } else if b.is_none() {
-        Some(Four { a, b: Some(spec), c, d })
+        Some(Four {
+            a,
+            b: Some(spec),
+            c,
+            d,
+        })
     } else if c.is_none() {
-        Some(Four { a, b, c: Some(spec), d })
+        Some(Four {
+            a,
+            b,
+            c: Some(spec),
+            d,
+        })
     } else {
         None
     }

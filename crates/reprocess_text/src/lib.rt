@@ -12,4 +12,3 @@ pub use refusal::FormRefused;
 
 #[cfg(test)]
 mod tests;
-

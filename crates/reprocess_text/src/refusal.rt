@@ -10,10 +10,7 @@ use std::alloc::AllocError;
 #[derive(Clone, Copy, Debug, PartialEq, Eq)]
 pub enum FormRefused {
     /// The first line that has a cause, counted from 1, and the first of its causes.
-    Bad {
-        line: u32,
-        cause: Cause,
-    },
+    Bad { line: u32, cause: Cause },
     /// Memory ran out.
     NoMemory,
 }

@@ -14,13 +14,29 @@ const REFUSED: &[Case] = &[
     ("reprocess 1", 2, Cause::Missing),
     ("reprocess 1\ninput yuv:160x120\n", 3, Cause::Missing),
     ("reprocess 1\noutput yuv:40x30\n", 2, Cause::UnknownWord),
-    ("reprocess 1\ninput yuv:80x60\noutput yuv:160x120\n", 3, Cause::BadNumber),
+    (
+        "reprocess 1\ninput yuv:80x60\noutput yuv:160x120\n",
+        3,
+        Cause::BadNumber,
+    ),
     ("reprocess 1\ninput yuv:80x61\n", 2, Cause::BadNumber),
     ("reprocess 1\ninput\n", 2, Cause::Missing),
     ("reprocess 1\ninput yuv:80x60 x\n", 2, Cause::Extra),
-    ("reprocess 1\ninput yuv:40x30\noutput yuv:40x30\nrequest preview\n", 4, Cause::BadNumber),
-    ("reprocess 1\ninput yuv:40x30\noutput yuv:40x30\nfault 1\noutput yuv:40x30\n", 5, Cause::UnknownWord),
-    ("reprocess 1\ninput yuv:40x30\noutput yuv:40x30\nflush\nfault 1\n", 5, Cause::UnknownWord),
+    (
+        "reprocess 1\ninput yuv:40x30\noutput yuv:40x30\nrequest preview\n",
+        4,
+        Cause::BadNumber,
+    ),
+    (
+        "reprocess 1\ninput yuv:40x30\noutput yuv:40x30\nfault 1\noutput yuv:40x30\n",
+        5,
+        Cause::UnknownWord,
+    ),
+    (
+        "reprocess 1\ninput yuv:40x30\noutput yuv:40x30\nflush\nfault 1\n",
+        5,
+        Cause::UnknownWord,
+    ),
 ];
 
 /// Each text is refused by the first line that has a cause.
@@ -31,13 +47,17 @@ fn texts_that_are_refused(rt: HostRuntime) -> Result<(), Fail> {
             Ok(_) => None,
             Err(refused) => Some(refused),
         };
-        let want = Some(FormRefused::Bad { line: *line, cause: *cause });
+        let want = Some(FormRefused::Bad {
+            line: *line,
+            cause: *cause,
+        });
         assert_eq!(rt; refused, want, "of {text:?}");
     }
     Ok(())
 }
 
-const TEXT: &str = "# one\nreprocess 1\ninput yuv:160x120\noutput yuv:40x30\npick 1 2\nfault 3\nflush\n";
+const TEXT: &str =
+    "# one\nreprocess 1\ninput yuv:160x120\noutput yuv:40x30\npick 1 2\nfault 3\nflush\n";
 
 /// A text is read as its plan.
 #[test]

@@ -1,4 +1,4 @@
-use Rattle.std.proofs.Common.{◌≡◌, ◌<◌, ◌||◌, Bool, true, false, not, arith, below_more, reverse, sym, refl, ◌∙◌}
+use Rattle.std.proofs.Common.{◌≡◌, ◌||◌, true, false, not, arith, below_more, reverse, sym, refl, ◌∙◌}
 use Rattle.reprocess_model.specs.Past.{has_error, is_returned, is_taken}
 use Rattle.reprocess_laws.proofs.Found.{all_below-from}
 use Rattle.reprocess_course.proofs.Below.{below-fails, either-settled, neither-settled}

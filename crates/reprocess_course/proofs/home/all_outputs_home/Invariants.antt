@@ -1,4 +1,4 @@
-use Rattle.std.proofs.Common.{◌≡◌, ◌≤◌, ◌<◌, ℕ, true, reverse, take}
+use Rattle.std.proofs.Common.{◌≡◌, ◌<◌, ℕ, true, reverse}
 use Rattle.reprocess_model.specs.Past.{is_output_home}
 use Rattle.reprocess_course.proofs.home.all_outputs_home.Given as goal
 

@@ -1,4 +1,4 @@
-use Rattle.std.proofs.Common.{◌≡◌, ◌≤◌, ◌<◌, ℕ, true, reverse, take}
+use Rattle.std.proofs.Common.{◌≡◌, reverse, take}
 use Rattle.reprocess_model.specs.Past.{is_stopped, is_taken}
 use Rattle.reprocess_course.proofs.reads.is_stopped.Given as goal
 

@@ -1,4 +1,4 @@
-use Rattle.std.proofs.Common.{◌≡◌, ◌≤◌, ◌<◌, ℕ, true, reverse, take}
+use Rattle.std.proofs.Common.{◌≡◌, ◌≤◌, reverse, take}
 use Rattle.reprocess_model.specs.Past.{request_count}
 use Rattle.reprocess_course.proofs.reads.request_count.Given as goal
 

@@ -1,4 +1,0 @@
-pub mod Tickets
-pub mod Inputs
-pub mod Inside
-pub mod Device
