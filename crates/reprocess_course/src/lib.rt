@@ -1,5 +1,5 @@
-//! The course of a reprocessing run: a plan and the lines so far, in room that was taken at the start, and which line is
-//! due of each step.
+//! The course of a reprocessing run: a plan and the lines so far, in room that was taken at the start, and which line
+//! is due of each step.
 #![tactic(auto)]
 
 mod course;

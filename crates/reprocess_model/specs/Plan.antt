@@ -26,7 +26,8 @@ abbrev pub is_output : StreamSpec → StreamSpec → Bool
 is_output input spec = is_yuv spec && nat_le spec.width input.width
 
 -- one to three outputs, from the first place on
-abbrev pub are_outputs_at : StreamSpec → Option StreamSpec → Option StreamSpec → Option StreamSpec → Option StreamSpec → Bool
+abbrev pub are_outputs_at : StreamSpec → Option StreamSpec → Option StreamSpec → Option StreamSpec
+    → Option StreamSpec → Bool
 are_outputs_at input (Some a) None None None = is_output input a
 are_outputs_at input (Some a) (Some b) None None = is_output input a && is_output input b
 are_outputs_at input (Some a) (Some b) (Some c) None = is_output input a && (is_output input b && is_output input c)

@@ -83,11 +83,15 @@ added_output b spec = with_outputs b (one_more_output b.outputs spec)
 
 abbrev pub added_fault : Begun → ℕ → Result Begun Cause
 added_fault b n =
-    if nat_lt (length b.faults) 64 then Ok (begun b.input b.outputs (b.faults ++ record { 0 = n } ∷ []) b.picks b.commands) else Err Limit
+    if nat_lt (length b.faults) 64
+    then Ok (begun b.input b.outputs (b.faults ++ record { 0 = n } ∷ []) b.picks b.commands)
+    else Err Limit
 
 abbrev pub added_command : Begun → ReCommand → Result Begun Cause
 added_command b command =
-    if nat_lt (length b.commands) 64 then Ok (begun b.input b.outputs b.faults b.picks (b.commands ++ command ∷ [])) else Err Limit
+    if nat_lt (length b.commands) 64
+    then Ok (begun b.input b.outputs b.faults b.picks (b.commands ++ command ∷ []))
+    else Err Limit
 
 abbrev pub added_picks : Begun → List (List ℕ) → Result Begun Cause
 added_picks b words =
@@ -97,7 +101,9 @@ added_picks b words =
 -- `input SIZE`, once
 abbrev pub input_line : Begun → List (List ℕ) → Result Begun Cause
 input_line b words =
-    if is_none b.input then (one size_of words >>= λ spec. Ok (begun (Some spec) b.outputs b.faults b.picks b.commands)) else Err UnknownWord
+    if is_none b.input
+    then (one size_of words >>= λ spec. Ok (begun (Some spec) b.outputs b.faults b.picks b.commands))
+    else Err UnknownWord
 
 -- `output SIZE`, up to three times
 abbrev pub output_with : Begun → Option StreamSpec → List (List ℕ) → Result Begun Cause

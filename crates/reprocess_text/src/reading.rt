@@ -199,7 +199,8 @@ fn refused(line: u32, why: LineRefused) -> FormRefused
 
 /// What stands at the end of a text.
 fn at_end(line: u32, draft: Option<Draft>) -> Result<Plan, FormRefused>
-    ensures value { result ≡ at_end_in line (option_map (λ d. begun d.input d.outputs d.faults d.picks d.commands) draft) }
+    ensures value { result ≡
+        at_end_in line (option_map (λ d. begun d.input d.outputs d.faults d.picks d.commands) draft) }
     ensures valid { IfOk result (λ plan. IsTrue (is_plan plan)) }
 {
     let Some(draft) = draft else {
@@ -217,8 +218,8 @@ fn at_end(line: u32, draft: Option<Draft>) -> Result<Plan, FormRefused>
     }
 }
 
-/// Reads the plan of a reprocessing device, as `docs/FORMATS.md` has it. It takes time in the length of the text, and no
-/// memory but the plan's.
+/// Reads the plan of a reprocessing device, as `docs/FORMATS.md` has it. It takes time in the length of the text, and
+/// no memory but the plan's.
 ///
 /// A refusal names the first line that has a cause, counted from 1, and the first of its causes. Line 0 stands for a
 /// text of more than 65,536 bytes.
