@@ -1,6 +1,4 @@
-use Rattle.std.proofs.Common.{◌≡◌, List, ◌∙◌}
-use Rattle.auto_output.specs.Lines.{front_of}
-use Rattle.auto_output.specs.Output.{lines_of}
+use Rattle.std.proofs.Common.{arith}
 use Rattle.camera_top.proofs.Capturing.{captured}
 use Rattle.camera_top.proofs.auto.capture_scenes.Goals as goal
 
