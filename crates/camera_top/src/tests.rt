@@ -608,7 +608,7 @@ const CASES: &[Case] = &[
         sink_failing: &[],
         status: 2,
         text: Text::Line(USAGE),
-        written: 79,
+        written: 86,
     },
     Case {
         words: &["play", "play"],
@@ -620,7 +620,7 @@ const CASES: &[Case] = &[
         sink_failing: &[],
         status: 2,
         text: Text::Line(USAGE),
-        written: 79,
+        written: 86,
     },
     Case {
         words: &["help"],
@@ -632,7 +632,7 @@ const CASES: &[Case] = &[
         sink_failing: &[],
         status: 0,
         text: Text::Line(HELP),
-        written: 130,
+        written: 137,
     },
     Case {
         words: &["help"],
@@ -656,7 +656,7 @@ const CASES: &[Case] = &[
         sink_failing: &[],
         status: 2,
         text: Text::Line(USAGE),
-        written: 79,
+        written: 86,
     },
     Case {
         words: &["run", "--workers", "2"],
@@ -668,7 +668,7 @@ const CASES: &[Case] = &[
         sink_failing: &[],
         status: 2,
         text: Text::Line(USAGE),
-        written: 79,
+        written: 86,
     },
     Case {
         words: &["gen", "1", "201"],
@@ -680,7 +680,7 @@ const CASES: &[Case] = &[
         sink_failing: &[],
         status: 2,
         text: Text::Line(USAGE),
-        written: 79,
+        written: 86,
     },
     Case {
         words: &["gen", "7", "0"],
