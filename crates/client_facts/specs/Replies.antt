@@ -23,7 +23,7 @@ use Rattle.client_facts.specs.Clients.{Clients}
 
 -- What is due of the client, read from its state, the queue's and the buffers'. `quiet` is what the frames say.
 
--- the service is stopping: a flush, a configuration, a close or a disconnect has begun, or the device failed
+-- the service is stopping: a flush or a disconnect has begun, or the device failed
 abbrev pub stopping_in : Clients → Bool
 stopping_in t = stops_by t.begun || t.failed
 
