@@ -1,16 +1,16 @@
 -- What a text means as scenes: a function of the whole text. (docs/FORMATS.md, automatic exposure)
 use Rattle.std.specs.Prelude.{ℕ, ◌+◌, List, [], ◌∷◌, ◌++◌, length, nat_lt, Result, Ok, Err, if◌then◌else◌}
 use Rattle.std.specs.List.{list_all}
-use Rattle.script_text.specs.declared.cause.Cause.{Cause}
-use Rattle.script_text.specs.declared.cause.Cause.TheVariants.{NotAscii, Version, Missing, Limit}
-use Rattle.script_text.specs.Grammar.{is_comment, is_printable, text_limit}
-use Rattle.script_text.specs.Lines.{◌>>=◌}
+use Rattle.line_reading.specs.declared.cause.Cause.{Cause}
+use Rattle.line_reading.specs.declared.cause.Cause.TheVariants.{NotAscii, Version, Missing, Limit}
+use Rattle.line_reading.specs.Lines.{at_line, is_comment, is_printable, text_limit}
+use Rattle.line_reading.specs.Words.{◌>>=◌}
 use Rattle.text_parts.specs.Lines.{lines_of}
 use Rattle.text_parts.specs.Words.{loose_words}
 use Rattle.exposure_text.specs.declared.stage.Stage.{Stage}
 use Rattle.exposure_text.specs.declared.stage.Stage.TheVariants.{Empty, Named, Aimed, Whole}
-use Rattle.exposure_text.specs.declared.refusal.FormRefused.{FormRefused}
-use Rattle.exposure_text.specs.declared.refusal.FormRefused.TheVariants.{Bad}
+use Rattle.line_reading.specs.declared.cause.TextRefused.{TextRefused}
+use Rattle.line_reading.specs.declared.cause.TextRefused.TheVariants.{Bad}
 use Rattle.exposure_text.specs.declared.text.AutoText.{AutoText}
 use Rattle.exposure_text.specs.declared.text.Scene.{Scene}
 use Rattle.exposure_text.specs.Lines.{is_version, target_line, iso_line, scene_line}
@@ -40,23 +40,18 @@ after_line before (word ∷ words) = if is_comment word then Ok before else afte
 unfoldable pub after : Stage → List ℕ → Result Stage Cause
 after before line = if list_all is_printable line then after_line before (loose_words line) else Err NotAscii
 
--- a refusal names its line
-abbrev pub at_line : ℕ → Result Stage Cause → (Stage → Result AutoText FormRefused) → Result AutoText FormRefused
-at_line n (Ok stage) f = f stage
-at_line n (Err cause) f = Err (Bad n cause)
-
 -- what stands at the end of a text, of which n is the number that a next line would have
-abbrev pub at_end : ℕ → Stage → Result AutoText FormRefused
+abbrev pub at_end : ℕ → Stage → Result AutoText TextRefused
 at_end n (Whole text) = Ok text
 at_end n Empty = Err (Bad n Version)
 at_end n _ = Err (Bad n Missing)
 
 -- the lines from number n on, after what stands before them
-unfoldable pub auto_text_from : Stage → ℕ → List (List ℕ) → Result AutoText FormRefused
+unfoldable pub auto_text_from : Stage → ℕ → List (List ℕ) → Result AutoText TextRefused
 auto_text_from before n [] = at_end n before
 auto_text_from before n (line ∷ lines) = at_line n (after before line) (λ next. auto_text_from next (n + 1) lines)
 
 -- what a text asks for, or the first line that has a cause, with the first of its causes
-unfoldable pub auto_text_of : List ℕ → Result AutoText FormRefused
+unfoldable pub auto_text_of : List ℕ → Result AutoText TextRefused
 auto_text_of text =
     if nat_lt text_limit (length text) then Err (Bad 0 Limit) else auto_text_from Empty 1 (lines_of text)

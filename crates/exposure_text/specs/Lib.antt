@@ -1,5 +1,4 @@
 pub mod Lines
 pub mod Valid
 pub mod Grammar
-pub mod Answers
 pub mod Spelling

@@ -1,8 +1,8 @@
 -- What a line means by its words. (docs/FORMATS.md, automatic exposure)
 use Rattle.std.specs.Prelude.{ℕ, Bool, false, ◌&&◌, List, [], ◌∷◌, Result, Ok, Err, if◌then◌else◌, codes, bytes_eq}
-use Rattle.script_text.specs.declared.cause.Cause.{Cause}
-use Rattle.script_text.specs.declared.cause.Cause.TheVariants.{UnknownWord, Missing}
-use Rattle.script_text.specs.Lines.{◌>>=◌, good, one}
+use Rattle.line_reading.specs.declared.cause.Cause.{Cause}
+use Rattle.line_reading.specs.declared.cause.Cause.TheVariants.{UnknownWord, Missing}
+use Rattle.line_reading.specs.Words.{◌>>=◌, good, one}
 use Rattle.text_parts.specs.Numbers.{number_within}
 use Rattle.exposure_text.specs.declared.text.Scene.{Scene}
 

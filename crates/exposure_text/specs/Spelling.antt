@@ -1,7 +1,7 @@
 -- The line that refuses a text. (docs/FORMATS.md, automatic exposure)
 use Rattle.std.specs.Prelude.{ℕ, List, [], ◌∷◌, codes, decimal}
-use Rattle.script_text.specs.Causes.{number_of}
-use Rattle.script_text.specs.declared.cause.Cause.{Cause}
+use Rattle.line_reading.specs.Causes.{number_of}
+use Rattle.line_reading.specs.declared.cause.Cause.{Cause}
 use Rattle.text_parts.specs.Lines.{line_text}
 
 -- `refused auto LINE CAUSE`

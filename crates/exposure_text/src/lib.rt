@@ -10,7 +10,7 @@ mod stage;
 mod text;
 
 pub use reading::read;
-pub use refusal::{FormRefused, refused_text};
+pub use refusal::refused_text;
 pub use text::{AutoText, Scene, SceneList};
 
 #[cfg(test)]

@@ -1,30 +1,14 @@
 //! What a line means by its words.
-ghost use Rattle.std.specs.Prelude.{◌≡◌, ◌↔◌, ◌∷◌, ◌<◌, ◌≤◌, ◌^◌, [], IsTrue, IfOk};
-ghost use Rattle.std.specs.List.{list_all};
-ghost use Rattle.script_text.specs.Grammar.{is_printable};
-ghost use Rattle.script_text.specs.Lines.{good, one};
+ghost use Rattle.std.specs.Prelude.{◌≡◌, ◌∷◌, ◌<◌, ◌≤◌, ◌^◌, IsTrue, IfOk};
+ghost use Rattle.line_reading.specs.Words.{good, one};
 ghost use Rattle.text_parts.specs.Numbers.{number_within};
 ghost use Rattle.text_parts.specs.Words.{loose_words};
 ghost use Rattle.exposure_text.specs.Lines.{is_version, iso_line, level_and_frames, scene_line, scene_of, target_line};
 ghost use Rattle.exposure_text.specs.Valid.{is_iso, is_scene, is_target};
 
 use crate::text::Scene;
-use script_text::Cause;
+use line_reading::{Cause, is_end};
 use text_parts::{next_loose_word, number_within};
-
-/// Whether a line has bytes from space to `~` alone.
-pub fn is_printable(line: &[u8]) -> bool
-    ensures { result ≡ list_all is_printable line.now }
-{
-    line.iter().all(|byte| *byte >= b' ' && *byte <= b'~')
-}
-
-/// Whether no word is left.
-fn is_end(words: &[u8]) -> bool
-    ensures { IsTrue result ↔ (loose_words words.now ≡ []) }
-{
-    next_loose_word(words).is_none()
-}
 
 /// A number from the least to the greatest.
 fn number(word: &[u8], least: u64, greatest: u64) -> Result<u32, Cause>

@@ -1,17 +1,16 @@
 //! Scenes read from their text.
 ghost use Rattle.std.specs.Prelude.{◌≡◌, ◌<◌, ◌^◌, IfOk, IsTrue, length};
 ghost use Rattle.text_parts.specs.Words.{loose_words};
-ghost use Rattle.exposure_text.specs.Answers.{AnswersText, Gives, refused};
+ghost use Rattle.line_reading.specs.Reader.{Answers, GivesBy};
 ghost use Rattle.exposure_text.specs.Grammar.{added, after, after_words, at_end, auto_text_of};
 ghost use Rattle.exposure_text.specs.Valid.{frames_of, is_scene, is_valid};
 
 use crate::draft::Draft;
-use crate::line::{is_printable, is_version, iso_line, scene_line, target_line};
-use crate::refusal::{FormRefused, LineRefused};
+use crate::line::{is_version, iso_line, scene_line, target_line};
 use crate::stage::Stage;
 use crate::text::{AutoText, Scene, SceneList};
 use cam_types::SCRIPT_BYTES;
-use script_text::Cause;
+use line_reading::{Cause, LineRefused, TextRefused, is_printable, refused};
 use std::alloc::Global;
 use text_parts::{next_loose_word, split_line};
 
@@ -30,7 +29,7 @@ fn frames_of(scenes: &[Scene]) -> u64
 fn with_scene(mut text: AutoText, scene: Scene) -> Result<Draft, LineRefused>
     requires text { IsTrue (is_valid text) }
     requires scene { IsTrue (is_scene scene) }
-    ensures { Gives result (added text scene) }
+    ensures { GivesBy (λ d. d.stage) result (added text scene) }
 {
     let frames = frames_of(text.scenes.as_slice());
     if frames.saturating_add(u64::from(scene.frames)) > FRAME_LIMIT {
@@ -45,7 +44,7 @@ fn with_scene(mut text: AutoText, scene: Scene) -> Result<Draft, LineRefused>
 /// What stands after the first line that counts.
 #[tactic(auto, unfolding(crate::specs::Grammar::after_words))]
 fn after_nothing(word: &[u8], rest: &[u8]) -> Result<Draft, LineRefused>
-    ensures { Gives result (after_words Stage.Empty word.now (loose_words rest.now)) }
+    ensures { GivesBy (λ d. d.stage) result (after_words Stage.Empty word.now (loose_words rest.now)) }
 {
     if is_version(word, rest) {
         Ok(Draft {
@@ -59,7 +58,7 @@ fn after_nothing(word: &[u8], rest: &[u8]) -> Result<Draft, LineRefused>
 /// What stands after a line that isn't ignored.
 #[tactic(auto, unfolding(crate::specs::Grammar::after_words))]
 fn after_words(alloc: Global, before: Draft, word: &[u8], rest: &[u8]) -> Result<Draft, LineRefused>
-    ensures { Gives result (after_words before.stage word.now (loose_words rest.now)) }
+    ensures { GivesBy (λ d. d.stage) result (after_words before.stage word.now (loose_words rest.now)) }
 {
     let Draft { stage } = before;
     match stage {
@@ -90,7 +89,7 @@ fn after_words(alloc: Global, before: Draft, word: &[u8], rest: &[u8]) -> Result
 /// What stands after a line.
 #[tactic(auto, unfolding(crate::specs::Grammar::after))]
 fn after(alloc: Global, before: Draft, line: &[u8]) -> Result<Draft, LineRefused>
-    ensures { Gives result (after before.stage line.now) }
+    ensures { GivesBy (λ d. d.stage) result (after before.stage line.now) }
 {
     if !is_printable(line) {
         return Err(LineRefused::Bad(Cause::NotAscii));
@@ -101,29 +100,19 @@ fn after(alloc: Global, before: Draft, line: &[u8]) -> Result<Draft, LineRefused
     }
 }
 
-/// The refusal of a line by its number.
-fn refused(line: u32, why: LineRefused) -> FormRefused
-    ensures { result ≡ refused line why }
-{
-    match why {
-        LineRefused::Bad(cause) => FormRefused::Bad { line, cause },
-        LineRefused::NoMemory => FormRefused::NoMemory,
-    }
-}
-
 /// What stands at the end of a text, of which a next line would have the number.
-fn finish(draft: Draft, line: u32) -> Result<AutoText, FormRefused>
-    ensures exact { AnswersText result (at_end line draft.stage) }
+fn finish(draft: Draft, line: u32) -> Result<AutoText, TextRefused>
+    ensures exact { Answers result (at_end line draft.stage) }
     ensures valid { IfOk result (λ text. IsTrue (is_valid text)) }
 {
     let Draft { stage } = draft;
     match stage {
         Stage::Whole(text) => Ok(text),
-        Stage::Empty => Err(FormRefused::Bad {
+        Stage::Empty => Err(TextRefused::Bad {
             line,
             cause: Cause::Version,
         }),
-        Stage::Named | Stage::Aimed { .. } => Err(FormRefused::Bad {
+        Stage::Named | Stage::Aimed { .. } => Err(TextRefused::Bad {
             line,
             cause: Cause::Missing,
         }),
@@ -136,14 +125,14 @@ fn finish(draft: Draft, line: u32) -> Result<AutoText, FormRefused>
 /// A refusal names the first line that has a cause, counted from 1, and the first of its causes. Line 0 stands for a
 /// text of more than 65,536 bytes.
 #[tactic(auto, unfolding(crate::specs::Grammar::auto_text_of, crate::specs::Grammar::auto_text_from))]
-pub fn read(alloc: Global, bytes: &[u8]) -> Result<AutoText, FormRefused>
+pub fn read(alloc: Global, bytes: &[u8]) -> Result<AutoText, TextRefused>
     // What the text means, unless memory ran out.
-    ensures exact { AnswersText result (auto_text_of bytes.now) }
+    ensures exact { Answers result (auto_text_of bytes.now) }
     // Each number is in its range, and the frames are 64 at most together.
     ensures valid { IfOk result (λ text. IsTrue (is_valid text)) }
 {
     if bytes.len() > SCRIPT_BYTES {
-        return Err(FormRefused::Bad {
+        return Err(TextRefused::Bad {
             line: 0,
             cause: Cause::Limit,
         });

@@ -1,5 +1,6 @@
 //! Texts that are read, and texts that are refused, with line and cause.
 use super::*;
+use line_reading::TextRefused;
 use std::alloc::Global;
 use std::test::Fail;
 
@@ -54,8 +55,8 @@ const REFUSED: &[(&str, u32, u8)] = &[
 fn refusal(alloc: Global, text: &str) -> Option<(u32, u8)> {
     match read(alloc, text.as_bytes()) {
         Ok(_) => None,
-        Err(FormRefused::Bad { line, cause }) => Some((line, cause.number())),
-        Err(FormRefused::NoMemory) => Some((0, 0)),
+        Err(TextRefused::Bad { line, cause }) => Some((line, cause.number())),
+        Err(TextRefused::NoMemory) => Some((0, 0)),
     }
 }
 

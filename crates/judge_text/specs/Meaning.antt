@@ -1,9 +1,9 @@
 use Rattle.std.specs.Prelude.{◌≡◌, ◌≢◌, ℕ, List, Result, Ok, Err, length, nat_lt, true, false, ◌⊎◌}
 use Rattle.cam_types.specs.declared.script.Script.{Script}
-use Rattle.script_text.specs.Causes.{number_of}
+use Rattle.line_reading.specs.Causes.{number_of}
 use Rattle.script_text.specs.Grammar.{script_of}
-use Rattle.script_text.specs.declared.cause.ScriptRefused.{ScriptRefused}
-use Rattle.script_text.specs.declared.cause.ScriptRefused.TheVariants.{Bad, NoMemory}
+use Rattle.line_reading.specs.declared.cause.TextRefused.{TextRefused}
+use Rattle.line_reading.specs.declared.cause.TextRefused.TheVariants.{Bad, NoMemory}
 use Rattle.trace_check.specs.Verdict.{IsVerdict}
 use Rattle.trace_check.specs.declared.verdict.Verdict.{Verdict}
 use Rattle.trace_model.specs.declared.entry.Entry.{Entry}
@@ -43,7 +43,7 @@ JudgesTrace n script (Err (BadTrace line cause)) status text =
 JudgesTrace n script (Err NoTraceMemory) status text = ⊥
 
 -- the script is judged before the trace
-abbrev pub JudgesParts : ℕ → Result Script ScriptRefused → Result TraceList TraceRefused → ℕ → List ℕ → Type 0
+abbrev pub JudgesParts : ℕ → Result Script TextRefused → Result TraceList TraceRefused → ℕ → List ℕ → Type 0
 JudgesParts n (Ok script) trace status text = JudgesTrace n script trace status text
 JudgesParts n (Err (Bad line cause)) trace status text =
     (status ≡ 1) × (text ≡ refused_script_text line (number_of cause))

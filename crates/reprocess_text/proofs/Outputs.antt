@@ -1,6 +1,6 @@
 -- Outputs that are added one by one.
-use Rattle.std.proofs.Common.{◌≡◌, Bool, true, false, ◌&&◌, ◌||◌, Option, Some, None, refl, sym, is_none}
-use Rattle.std.proofs.lemmas.Bool.{and_from, and_parts, or_cases, or_right, false≢true}
+use Rattle.std.proofs.Common.{◌≡◌, true, false, ◌&&◌, ◌||◌, Option, Some, None, sym}
+use Rattle.std.proofs.lemmas.Bool.{and_from, and_parts, or_right, false≢true}
 use Rattle.cam_types.specs.declared.four.Four.{Four}
 use Rattle.cam_types.specs.declared.stream.StreamSpec.{StreamSpec}
 use Rattle.reprocess_model.specs.Plan.{are_outputs_at, is_output, is_yuv}

@@ -1,5 +1,5 @@
 -- What a text means as a plan of a reprocessing device: a function of the whole text. (docs/FORMATS.md, reprocessing)
-use Rattle.std.specs.Prelude.{ℕ, ◌==◌, ◌+◌, Bool, true, false, ◌&&◌, not, List, [], ◌∷◌, ◌++◌, length, nat_lt, nat_le, Option, Some, None, is_none, is_some, Result, Ok, Err, if◌then◌else◌, codes, bytes_eq}
+use Rattle.std.specs.Prelude.{ℕ, ◌==◌, ◌+◌, Bool, false, ◌&&◌, not, List, [], ◌∷◌, ◌++◌, length, nat_lt, nat_le, Option, Some, None, is_none, is_some, Result, Ok, Err, if◌then◌else◌, codes, bytes_eq}
 use Rattle.std.specs.List.{list_all}
 use Rattle.cam_types.specs.Metadata.{range_fault}
 use Rattle.cam_types.specs.declared.four.Four.{Four}
@@ -9,17 +9,15 @@ use Rattle.cam_types.specs.declared.stream.StreamSpec.{StreamSpec}
 use Rattle.reprocess_model.specs.declared.plan.Plan.{Plan}
 use Rattle.reprocess_model.specs.declared.plan.ReCommand.{ReCommand}
 use Rattle.reprocess_model.specs.declared.plan.ReCommand.TheVariants.{Request, Flush}
-use Rattle.script_text.specs.declared.cause.Cause.{Cause}
-use Rattle.script_text.specs.declared.cause.Cause.TheVariants.{NotAscii, Version, UnknownWord, Missing, Limit}
-use Rattle.script_text.specs.Grammar.{is_comment, is_printable, text_limit}
-use Rattle.script_text.specs.Lines.{◌>>=◌, ends, number, one, picks_of}
-use Rattle.script_text.specs.Reader.{behind}
-use Rattle.script_text.specs.Values.{four_numbers}
-use Rattle.script_text.specs.Within.{limited}
+use Rattle.line_reading.specs.declared.cause.Cause.{Cause}
+use Rattle.line_reading.specs.declared.cause.Cause.TheVariants.{NotAscii, Version, UnknownWord, Missing, Limit}
+use Rattle.line_reading.specs.Lines.{at_line, is_comment, is_printable, text_limit}
+use Rattle.line_reading.specs.Values.{number, four_numbers}
+use Rattle.line_reading.specs.Words.{◌>>=◌, ends, one, behind, few, limited, picks_of}
 use Rattle.text_parts.specs.Lines.{lines_of}
 use Rattle.text_parts.specs.Words.{loose_words}
-use Rattle.reprocess_text.specs.declared.refusal.FormRefused.{FormRefused}
-use Rattle.reprocess_text.specs.declared.refusal.FormRefused.TheVariants.{Bad}
+use Rattle.line_reading.specs.declared.cause.TextRefused.{TextRefused}
+use Rattle.line_reading.specs.declared.cause.TextRefused.TheVariants.{Bad}
 use Rattle.reprocess_text.specs.Begun.{Begun, begun}
 
 -- ---- words
@@ -57,7 +55,7 @@ abbrev pub empty : Begun
 empty = begun None (record { a = None; b = None; c = None; d = None }) [] [] []
 
 abbrev pub picks_within : List ℕ → Bool
-picks_within picks = nat_le (length picks) 1024
+picks_within picks = few 1024 picks
 
 -- a fault, a pick or a command stands
 abbrev pub is_started : Begun → Bool
@@ -163,11 +161,6 @@ after before line = if list_all is_printable line then after_line before (loose_
 
 -- ---- the text
 
--- a refusal names its line
-abbrev pub at_line : {A : Type 0} → ℕ → Result A Cause → (A → Result Plan FormRefused) → Result Plan FormRefused
-at_line n (Ok x) f = f x
-at_line n (Err cause) f = Err (Bad n cause)
-
 -- the plan, where the input and an output stand
 abbrev pub plan_with : Begun → Option StreamSpec → Option Plan
 plan_with b (Some input) =
@@ -180,19 +173,19 @@ abbrev pub plan_at : Begun → Option Plan
 plan_at b = plan_with b b.input
 
 -- what stands at the end of a text, of which n is the number that a next line would have
-abbrev pub finished : ℕ → Option Plan → Result Plan FormRefused
+abbrev pub finished : ℕ → Option Plan → Result Plan TextRefused
 finished n (Some plan) = Ok plan
 finished n None = Err (Bad n Missing)
 
-abbrev pub at_end : ℕ → Option Begun → Result Plan FormRefused
+abbrev pub at_end : ℕ → Option Begun → Result Plan TextRefused
 at_end n (Some b) = finished n (plan_at b)
 at_end n None = Err (Bad n Version)
 
 -- the lines from number n on, after what stands before them
-unfoldable pub plan_from : Option Begun → ℕ → List (List ℕ) → Result Plan FormRefused
+unfoldable pub plan_from : Option Begun → ℕ → List (List ℕ) → Result Plan TextRefused
 plan_from before n [] = at_end n before
 plan_from before n (line ∷ lines) = at_line n (after before line) (λ next. plan_from next (n + 1) lines)
 
 -- the plan that a text means, or the first line that has a cause, with the first of its causes
-unfoldable pub plan_of : List ℕ → Result Plan FormRefused
+unfoldable pub plan_of : List ℕ → Result Plan TextRefused
 plan_of text = if nat_lt text_limit (length text) then Err (Bad 0 Limit) else plan_from None 1 (lines_of text)

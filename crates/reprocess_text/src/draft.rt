@@ -5,13 +5,11 @@ ghost use Rattle.reprocess_model.specs.Plan.{command_fits, is_output, is_plan, i
 ghost use Rattle.text_parts.specs.Words.{loose_words};
 ghost use Rattle.reprocess_text.specs.Begun.{begun, outputs_fit};
 ghost use Rattle.reprocess_text.specs.Grammar.{added_command, added_fault, added_output, added_picks, empty, is_started, may_prepare, one_more_output, picks_within, plan_at};
-ghost use Rattle.reprocess_text.specs.Reader.{Gives, GivesBy};
+ghost use Rattle.line_reading.specs.Reader.{GivesBy};
 
-use crate::list::with_picks as more_picks;
-use crate::refusal::LineRefused;
 use cam_types::{Four, FrameNo, PickList, StreamSpec};
-use reprocess_model::{FrameList, PLAN_COMMANDS, PLAN_FAULTS, Plan, ReCommand, ReList};
-use script_text::Cause;
+use line_reading::{Cause, LineRefused, with_picks as more_picks};
+use reprocess_model::{FrameList, PLAN_COMMANDS, PLAN_FAULTS, PLAN_PICKS, Plan, ReCommand, ReList};
 use std::alloc::Global;
 use text_parts::next_loose_word;
 
@@ -143,7 +141,7 @@ impl Draft {
     }
 
     /// The draft with the picks of one more line.
-    #[tactic(auto, unfolding(script_text::specs::Lines::picks_of))]
+    #[tactic(auto, unfolding(line_reading::specs::Words::picks_of))]
     pub fn with_picks(self, words: &[u8]) -> Result<Draft, LineRefused>
         ensures { GivesBy (λ d. begun d.input d.outputs d.faults d.picks d.commands) result
             (added_picks (begun self.input self.outputs self.faults self.picks self.commands) (loose_words words.now)) }
@@ -158,7 +156,7 @@ impl Draft {
             picks,
             commands,
         } = self;
-        let picks = more_picks(picks, words)?;
+        let picks = more_picks(picks, words, PLAN_PICKS)?;
         Ok(Draft {
             input,
             outputs,

@@ -2,13 +2,10 @@
 #![tactic(auto)]
 
 mod draft;
-mod list;
 mod reading;
-mod refusal;
 mod word;
 
 pub use reading::read;
-pub use refusal::FormRefused;
 
 #[cfg(test)]
 mod tests;

@@ -1,28 +1,18 @@
 //! A plan read from its text.
 ghost use Rattle.std.specs.Prelude.{◌≡◌, ◌∷◌, IsTrue, IfOk, Some};
-ghost use Rattle.std.specs.List.{list_all};
 ghost use Rattle.std.specs.Option.{option_map};
 ghost use Rattle.reprocess_model.specs.Plan.{is_plan};
-ghost use Rattle.script_text.specs.Grammar.{is_printable as is_printable_byte};
 ghost use Rattle.text_parts.specs.Words.{loose_words};
 ghost use Rattle.reprocess_text.specs.Begun.{begun};
 ghost use Rattle.reprocess_text.specs.Grammar.{after as after_in, at_end as at_end_in, after_words as after_words_in, fault_line, flush_line, input_line, is_version as is_version_of, later_line, output_with, pick_line, plan_of, request_line, with_line as with_line_in};
-ghost use Rattle.reprocess_text.specs.Reader.{AnswersPlan, GivesBy, refused as refused_at};
+ghost use Rattle.line_reading.specs.Reader.{Answers, GivesBy};
 
 use crate::draft::Draft;
-use crate::refusal::{FormRefused, LineRefused};
-use crate::word::{is_end, one_number, one_output, one_request, one_size};
+use crate::word::{one_output, one_request, one_size};
+use line_reading::{Cause, LineRefused, TextRefused, is_end, is_printable, one_number, refused};
 use reprocess_model::{PLAN_BYTES, Plan, ReCommand};
-use script_text::Cause;
 use std::alloc::Global;
 use text_parts::{next_loose_word, split_line};
-
-/// Whether a line has bytes from space to `~` alone.
-fn is_printable(line: &[u8]) -> bool
-    ensures { result ≡ list_all is_printable_byte line.now }
-{
-    line.iter().all(|byte| *byte >= b' ' && *byte <= b'~')
-}
 
 /// Whether a line is `reprocess 1`.
 fn is_version(word: &[u8], rest: &[u8]) -> bool
@@ -187,31 +177,21 @@ fn after(alloc: Global, before: Option<Draft>, line: &[u8]) -> Result<Option<Dra
     }
 }
 
-/// The refusal of a line by its number.
-fn refused(line: u32, why: LineRefused) -> FormRefused
-    ensures { result ≡ refused_at line why }
-{
-    match why {
-        LineRefused::Bad(cause) => FormRefused::Bad { line, cause },
-        LineRefused::NoMemory => FormRefused::NoMemory,
-    }
-}
-
 /// What stands at the end of a text.
-fn at_end(line: u32, draft: Option<Draft>) -> Result<Plan, FormRefused>
+fn at_end(line: u32, draft: Option<Draft>) -> Result<Plan, TextRefused>
     ensures value { result ≡
         at_end_in line (option_map (λ d. begun d.input d.outputs d.faults d.picks d.commands) draft) }
     ensures valid { IfOk result (λ plan. IsTrue (is_plan plan)) }
 {
     let Some(draft) = draft else {
-        return Err(FormRefused::Bad {
+        return Err(TextRefused::Bad {
             line,
             cause: Cause::Version,
         });
     };
     match draft.finish() {
         Some(plan) => Ok(plan),
-        None => Err(FormRefused::Bad {
+        None => Err(TextRefused::Bad {
             line,
             cause: Cause::Missing,
         }),
@@ -224,14 +204,14 @@ fn at_end(line: u32, draft: Option<Draft>) -> Result<Plan, FormRefused>
 /// A refusal names the first line that has a cause, counted from 1, and the first of its causes. Line 0 stands for a
 /// text of more than 65,536 bytes.
 #[tactic(auto, unfolding(crate::specs::Grammar::plan_of, crate::specs::Grammar::plan_from))]
-pub fn read(alloc: Global, bytes: &[u8]) -> Result<Plan, FormRefused>
+pub fn read(alloc: Global, bytes: &[u8]) -> Result<Plan, TextRefused>
     // What the text means, unless memory ran out.
-    ensures exact { AnswersPlan result (plan_of bytes.now) }
+    ensures exact { Answers result (plan_of bytes.now) }
     // Only plans within their limits are read.
     ensures valid { IfOk result (λ plan. IsTrue (is_plan plan)) }
 {
     if bytes.len() > PLAN_BYTES {
-        return Err(FormRefused::Bad {
+        return Err(TextRefused::Bad {
             line: 0,
             cause: Cause::Limit,
         });

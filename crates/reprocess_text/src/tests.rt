@@ -1,8 +1,8 @@
 //! Texts that are refused, by their lines and causes, and one that is read.
-use crate::{FormRefused, read};
+use crate::read;
 use cam_types::FrameNo;
+use line_reading::{Cause, TextRefused};
 use reprocess_model::ReCommand;
-use script_text::Cause;
 use std::test::Fail;
 
 /// A text, and the line and cause by which it is refused.
@@ -47,7 +47,7 @@ fn texts_that_are_refused(rt: HostRuntime) -> Result<(), Fail> {
             Ok(_) => None,
             Err(refused) => Some(refused),
         };
-        let want = Some(FormRefused::Bad {
+        let want = Some(TextRefused::Bad {
             line: *line,
             cause: *cause,
         });

@@ -1,18 +1,16 @@
 //! What a word means: sizes, requests and numbers.
-ghost use Rattle.std.specs.Prelude.{◌≡◌, ◌↔◌, [], IfOk, IfSome, IsTrue, None};
+ghost use Rattle.std.specs.Prelude.{◌≡◌, IfOk, IfSome, IsTrue, None};
 ghost use Rattle.cam_types.specs.Metadata.{range_fault as range_fault_of};
 ghost use Rattle.reprocess_model.specs.Plan.{is_output, is_yuv};
-ghost use Rattle.script_text.specs.Lines.{number, one};
-ghost use Rattle.script_text.specs.Values.{four_numbers};
+ghost use Rattle.line_reading.specs.Values.{four_numbers};
+ghost use Rattle.line_reading.specs.Words.{one};
 ghost use Rattle.text_parts.specs.Words.{loose_words};
 ghost use Rattle.reprocess_text.specs.Grammar.{output_of as output_by, request_of as request_by, size_of as size_by, yuv as yuv_stream};
 
 use cam_types::{Format, Settings, StreamSpec};
+use line_reading::{Cause, four_numbers, is_end};
 use meta_rules::range_fault;
-use script_text::Cause;
-use text_parts::{
-    byte_number, next_loose_word, number_below, small_number, small_number_below, split_in_four,
-};
+use text_parts::next_loose_word;
 
 /// A YUV stream.
 fn yuv(width: u32, height: u32) -> StreamSpec
@@ -56,24 +54,6 @@ fn output_of(input: StreamSpec, word: &[u8]) -> Option<StreamSpec>
     }
 }
 
-/// `PATTERN,LEVEL,EXPOSURE,ISO`.
-#[tactic(auto, unfolding(script_text::specs::Values::four_numbers))]
-fn four_numbers(word: &[u8]) -> Option<Settings>
-    ensures { result ≡ four_numbers word.now }
-{
-    let (pattern, level, exposure, iso) = split_in_four(word, b',')?;
-    let pattern = byte_number(pattern)?;
-    let level = small_number_below(level, 1 << 31)?;
-    let exposure = number_below(exposure, 1 << 63)?;
-    let iso = small_number_below(iso, 1 << 31)?;
-    Some(Settings {
-        pattern,
-        level,
-        exposure,
-        iso,
-    })
-}
-
 /// The settings of a request, in range.
 fn request_of(word: &[u8]) -> Option<Settings>
     ensures value { result ≡ request_by word.now }
@@ -84,26 +64,6 @@ fn request_of(word: &[u8]) -> Option<Settings>
         Some(settings)
     } else {
         None
-    }
-}
-
-/// Whether no word is left.
-pub fn is_end(words: &[u8]) -> bool
-    ensures { IsTrue result ↔ (loose_words words.now ≡ []) }
-{
-    next_loose_word(words).is_none()
-}
-
-/// One number, and no more.
-pub fn one_number(words: &[u8]) -> Result<u32, Cause>
-    ensures { result ≡ one number (loose_words words.now) }
-{
-    let (word, rest) = next_loose_word(words).ok_or(Cause::Missing)?;
-    let number = small_number(word).ok_or(Cause::BadNumber)?;
-    if is_end(rest) {
-        Ok(number)
-    } else {
-        Err(Cause::Extra)
     }
 }
 

@@ -1,5 +1,4 @@
 pub mod Targets
-pub mod Lists
 pub mod Added
 pub mod Valid
 pub mod ValidLines

@@ -14,7 +14,8 @@ use Rattle.script_spelling.specs.Fits.{settings_fit, targets_fit, item_fits, for
 use Rattle.text_parts.proofs.Spelled.{number-below}
 use Rattle.text_parts.specs.Numbers.{number_below}
 use Rattle.text_parts.specs.Cuts.{parts_at}
-use Rattle.script_text.specs.Values.{◌>>=◌, all_of, format_of, side_of, stream_of, spec_of, four_numbers, settings_of, targets, joined_targets, targets_of, item_of}
+use Rattle.line_reading.specs.Values.{◌>>=◌, all_of, four_numbers}
+use Rattle.script_text.specs.Values.{format_of, side_of, stream_of, spec_of, settings_of, targets, joined_targets, targets_of, item_of}
 use Rattle.script_text.specs.Within.{targets_within, item_within, within}
 
 format-fits : (word : List ℕ) (f : Format) → format_of word ≡ Some f → format_fits f ≡ true

@@ -17,21 +17,23 @@ use Rattle.cam_types.specs.declared.script.Word.TheVariants.{Configure, Once, Bu
 use Rattle.cam_types.specs.declared.stream.StreamSpec.{StreamSpec}
 use Rattle.cam_types.specs.Script.{is_closing_command, awaited_by}
 use Rattle.script_spelling.specs.Fits.{item_fits, spec_fits, command_fits, fault_fits, fits}
-use Rattle.script_text.specs.declared.cause.Cause.{Cause}
-use Rattle.script_text.specs.declared.cause.Cause.TheVariants.{NotAscii, UnknownWord, Limit, FaultAfterCommand}
-use Rattle.script_text.specs.declared.cause.ScriptRefused.{ScriptRefused}
-use Rattle.script_text.specs.declared.cause.ScriptRefused.TheVariants.{Bad}
-use Rattle.script_text.specs.Grammar.{is_printable}
+use Rattle.line_reading.specs.declared.cause.Cause.{Cause}
+use Rattle.line_reading.specs.declared.cause.Cause.TheVariants.{NotAscii, UnknownWord, Limit, FaultAfterCommand}
+use Rattle.line_reading.specs.declared.cause.TextRefused.{TextRefused}
+use Rattle.line_reading.specs.declared.cause.TextRefused.TheVariants.{Bad}
+use Rattle.line_reading.specs.Lines.{is_printable, is_comment, text_limit, at_line}
 use Rattle.text_parts.specs.Words.{loose_words}
 use Rattle.text_parts.specs.Lines.{lines_of}
-use Rattle.script_text.specs.Values.{all_of, spec_of, item_of}
-use Rattle.script_text.specs.Lines.{◌>>=◌, Line, FaultLine, EarlyLine, DeviceLine, PickLine, CommandLine, good, ends, one, number, awaited, profile_number, raw_and_yuv, device_of, frame_and_stream, fault_of, picks_of, command_of, fault_line, early_line, device_line, pick_line, command_line, other_line, line_of}
+use Rattle.line_reading.specs.Values.{all_of, number}
+use Rattle.script_text.specs.Values.{spec_of, item_of}
+use Rattle.line_reading.specs.Words.{◌>>=◌, good, ends, one, picks_of}
+use Rattle.script_text.specs.Lines.{Line, FaultLine, EarlyLine, DeviceLine, PickLine, CommandLine, awaited, profile_number, raw_and_yuv, device_of, frame_and_stream, fault_of, command_of, fault_line, early_line, device_line, pick_line, command_line, other_line, line_of}
 use Rattle.command_words.specs.Words.{command_word}
 use Rattle.cam_types.specs.Profile.{is_profile, is_profile_number, profile_fits}
 use Rattle.cam_types.specs.declared.profile.Profile.{Profile}
 use Rattle.text_parts.proofs.Spelled.{number-below, number-within}
 use Rattle.script_text.specs.Within.{item_within, within}
-use Rattle.script_text.specs.Grammar.{closed, Begun, empty, counts_within, script_within, with_line, is_late, version_number, version_of, first_line, is_comment, text_limit, added, then_added, after_words, after_line, after, at_line, at_end, script_from, script_of}
+use Rattle.script_text.specs.Grammar.{closed, Begun, empty, counts_within, script_within, with_line, is_late, version_number, version_of, first_line, added, then_added, after_words, after_line, after, at_end, script_from, script_of}
 use Rattle.script_text.proofs.Valid.{spec-fits, all-fit, item-fits, is_u32}
 
 -- ---- steps that gave a value
@@ -367,7 +369,7 @@ end-valid n (Some b) s f h =
     let k : fits (record b.script { commands = closed b.script.commands }) ≡ true = grind arith in
     ap fits (sym e) ∙ k
 
-at-line-ok : {A : Type 0} (n : ℕ) (r : Result A Cause) (f : A → Result Script ScriptRefused) (s : Script) → at_line n r f ≡ Ok s → (x : A) × (r ≡ Ok x) × (f x ≡ Ok s)
+at-line-ok : {A : Type 0} (n : ℕ) (r : Result A Cause) (f : A → Result Script TextRefused) (s : Script) → at_line n r f ≡ Ok s → (x : A) × (r ≡ Ok x) × (f x ≡ Ok s)
 at-line-ok n (Ok x) f s h = (x, refl, h)
 at-line-ok n (Err cause) f s h = absurd (cc)
 
@@ -378,7 +380,7 @@ script-valid before n (line ∷ lines) s f h =
     let p = at-line-ok n (after before line) (λ next. script_from next (n + 1) lines) s h in
     script-valid p.0 (n + 1) lines s (after-fits before line p.0 f p.1) p.2
 
-long-step : (b : Bool) (r : Result Script ScriptRefused) (s : Script) → (r ≡ Ok s → fits s ≡ true) → cond b (Err (Bad 0 Limit)) r ≡ Ok s → fits s ≡ true
+long-step : (b : Bool) (r : Result Script TextRefused) (s : Script) → (r ≡ Ok s → fits s ≡ true) → cond b (Err (Bad 0 Limit)) r ≡ Ok s → fits s ≡ true
 long-step true r s k h = absurd (cc)
 long-step false r s k h = k h
 

@@ -7,13 +7,15 @@ use Rattle.cam_types.specs.declared.script.Command.TheVariants.{Close}
 use Rattle.cam_types.specs.declared.script.Script.{Script}
 use Rattle.cam_types.specs.Limits.{command_limit, awaited_limit, fault_limit}
 use Rattle.cam_types.specs.Script.{awaited_by, is_closing_command}
-use Rattle.script_text.specs.declared.cause.Cause.{Cause}
-use Rattle.script_text.specs.declared.cause.Cause.TheVariants.{NotAscii, Version, Limit, FaultAfterCommand}
-use Rattle.script_text.specs.declared.cause.ScriptRefused.{ScriptRefused}
-use Rattle.script_text.specs.declared.cause.ScriptRefused.TheVariants.{Bad}
+use Rattle.line_reading.specs.declared.cause.Cause.{Cause}
+use Rattle.line_reading.specs.declared.cause.Cause.TheVariants.{NotAscii, Version, Limit, FaultAfterCommand}
+use Rattle.line_reading.specs.declared.cause.TextRefused.{TextRefused}
+use Rattle.line_reading.specs.declared.cause.TextRefused.TheVariants.{Bad}
+use Rattle.line_reading.specs.Lines.{at_line, is_comment, is_printable, text_limit}
 use Rattle.text_parts.specs.Lines.{lines_of}
 use Rattle.text_parts.specs.Words.{loose_words}
-use Rattle.script_text.specs.Lines.{◌>>=◌, Line, FaultLine, EarlyLine, DeviceLine, PickLine, CommandLine, line_of}
+use Rattle.line_reading.specs.Words.{◌>>=◌}
+use Rattle.script_text.specs.Lines.{Line, FaultLine, EarlyLine, DeviceLine, PickLine, CommandLine, line_of}
 use Rattle.script_text.specs.Within.{within, picks_within}
 
 -- a `close` is added where none, and no `disconnect`, stands
@@ -90,44 +92,26 @@ after_words None word words = first_line (version_of (word ∷ words))
 after_words (Some before) word words =
     then_added before (line_of before.script.version word words) >>= λ next. Ok (Some next)
 
--- a word that begins a comment: 35 is `#`
-abbrev pub is_comment : List ℕ → Bool
-is_comment [] = false
-is_comment (b ∷ bs) = b == 35
-
 -- a line of spaces alone, and a comment, are ignored
 abbrev pub after_line : Option Begun → List (List ℕ) → Result (Option Begun) Cause
 after_line before [] = Ok before
 after_line before (word ∷ words) = if is_comment word then Ok before else after_words before word words
-
--- a byte from space to `~`
-abbrev pub is_printable : ℕ → Bool
-is_printable b = nat_le 32 b && nat_le b 126
 
 -- What stands after a line: nothing before the version line, a script from then on.
 -- The causes of one line are tried in the order of their numbers.
 unfoldable pub after : Option Begun → List ℕ → Result (Option Begun) Cause
 after before line = if list_all is_printable line then after_line before (loose_words line) else Err NotAscii
 
--- a refusal names its line
-abbrev pub at_line : {A : Type 0} → ℕ → Result A Cause → (A → Result Script ScriptRefused) → Result Script ScriptRefused
-at_line n (Ok x) f = f x
-at_line n (Err cause) f = Err (Bad n cause)
-
 -- what stands at the end of a text, of which n is the number that a next line would have
-abbrev pub at_end : ℕ → Option Begun → Result Script ScriptRefused
+abbrev pub at_end : ℕ → Option Begun → Result Script TextRefused
 at_end n None = Err (Bad n Version)
 at_end n (Some b) = Ok (record b.script { commands = closed b.script.commands })
 
 -- the lines from number n on, after what stands before them
-unfoldable pub script_from : Option Begun → ℕ → List (List ℕ) → Result Script ScriptRefused
+unfoldable pub script_from : Option Begun → ℕ → List (List ℕ) → Result Script TextRefused
 script_from before n [] = at_end n before
 script_from before n (line ∷ lines) = at_line n (after before line) (λ next. script_from next (n + 1) lines)
 
--- the most bytes of a text
-abbrev pub text_limit : ℕ
-text_limit = 65536
-
 -- the script that a text means, or the first line that has a cause, with the first of its causes
-unfoldable pub script_of : List ℕ → Result Script ScriptRefused
+unfoldable pub script_of : List ℕ → Result Script TextRefused
 script_of text = if nat_lt text_limit (length text) then Err (Bad 0 Limit) else script_from None 1 (lines_of text)

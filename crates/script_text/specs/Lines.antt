@@ -8,16 +8,13 @@ use Rattle.cam_types.specs.declared.script.Fault.{Fault}
 use Rattle.cam_types.specs.declared.script.Fault.TheVariants as fault
 use Rattle.cam_types.specs.declared.script.Word.{Word}
 use Rattle.cam_types.specs.declared.script.Word.TheVariants.{Configure, Once, Burst, Repeat, Stop, Wait, Await, Flush, Close, Disconnect}
-use Rattle.script_text.specs.declared.cause.Cause.{Cause}
-use Rattle.script_text.specs.declared.cause.Cause.TheVariants.{UnknownWord, BadNumber, Missing, Extra}
+use Rattle.line_reading.specs.declared.cause.Cause.{Cause}
+use Rattle.line_reading.specs.declared.cause.Cause.TheVariants.{UnknownWord, Missing}
+use Rattle.line_reading.specs.Values.{number}
+use Rattle.line_reading.specs.Words.{◌>>=◌, good, ends, one, many, picks_of}
+use Rattle.script_text.specs.Values.{spec_of, item_of}
 use Rattle.command_words.specs.Words.{command_word}
 use Rattle.text_parts.specs.Numbers.{number_below, number_within}
-use Rattle.script_text.specs.Values.{all_of, spec_of, item_of}
-
-infixl 10 ◌>>=◌
-abbrev pub ◌>>=◌ : {A B : Type 0} → Result A Cause → (A → Result B Cause) → Result B Cause
-(Ok x) >>= f = f x
-(Err cause) >>= f = Err cause
 
 -- a line that has a place in a script, after the version line
 pub data Line : Type 0 where
@@ -27,31 +24,7 @@ pub data Line : Type 0 where
   PickLine : List ℕ → Line
   CommandLine : Command → Line
 
--- BadNumber comes before Missing, and Missing before Extra
-
--- a word's value
-abbrev pub good : {A : Type 0} → Option A → Result A Cause
-good None = Err BadNumber
-good (Some x) = Ok x
-
--- no more words
-abbrev pub ends : {A : Type 0} → A → List (List ℕ) → Result A Cause
-ends x [] = Ok x
-ends x (word ∷ words) = Err Extra
-
--- one more word, with its value
-abbrev pub one : {A : Type 0} → (List ℕ → Option A) → List (List ℕ) → Result A Cause
-one read [] = Err Missing
-one read (word ∷ words) = good (read word) >>= λ x. ends x words
-
--- any number of words, with their values
-abbrev pub many : {A : Type 0} → (List ℕ → Option A) → List (List ℕ) → Result (List A) Cause
-many read words = good (all_of read words)
-
--- the numbers of a frame, a stream and a pick, and what an `await` waits for
-abbrev pub number : List ℕ → Option ℕ
-number word = number_below (2 ^ 32) word
-
+-- a stream, and what an `await` waits for
 abbrev pub stream : List ℕ → Option ℕ
 stream word = number_below (2 ^ 8) word
 
@@ -100,11 +73,6 @@ device_of (depth ∷ words) = do
   d ← good (profile_number depth)
   p ← raw_and_yuv words
   Ok (record { depth = d; raw = p.0; yuv = p.1 })
-
--- `pick` and these words
-unfoldable pub picks_of : List (List ℕ) → Result (List ℕ) Cause
-picks_of [] = Err Missing
-picks_of (word ∷ words) = many number (word ∷ words)
 
 -- a command by its word and the words behind it
 unfoldable pub command_of : Word → List (List ℕ) → Result Command Cause

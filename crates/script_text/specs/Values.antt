@@ -7,22 +7,9 @@ use Rattle.cam_types.specs.declared.item.Targets.{Targets}
 use Rattle.cam_types.specs.declared.stream.Format.{Format}
 use Rattle.cam_types.specs.declared.stream.Format.TheVariants.{Raw16, Yuv, Other}
 use Rattle.cam_types.specs.declared.stream.StreamSpec.{StreamSpec}
-use Rattle.text_parts.specs.Cuts.{parts_at, in_two, in_four}
+use Rattle.line_reading.specs.Values.{◌>>=◌, all_of, four_numbers}
+use Rattle.text_parts.specs.Cuts.{parts_at, in_two}
 use Rattle.text_parts.specs.Numbers.{number_below}
-
--- the second value, where the first is there
-infixl 10 ◌>>=◌
-abbrev pub ◌>>=◌ : {A B : Type 0} → Option A → (A → Option B) → Option B
-None >>= f = None
-(Some x) >>= f = f x
-
--- the values of words, where each has one
-abbrev pub all_of : {A : Type 0} → (List ℕ → Option A) → List (List ℕ) → Option (List A)
-all_of read [] = Some []
-all_of read (word ∷ words) = do
-  x ← read word
-  xs ← all_of read words
-  Some (x ∷ xs)
 
 -- a format that has no name: `x` (120) and its number, which is neither that of `raw16` (0x20) nor that of `yuv` (0x23)
 abbrev pub unnamed : ℕ → Option Format
@@ -62,16 +49,6 @@ preview = record { pattern = 2; level = 128; exposure = 10000000; iso = 100 }
 
 abbrev pub still : Settings
 still = record { pattern = 1; level = 200; exposure = 20000000; iso = 100 }
-
--- `PATTERN,LEVEL,EXPOSURE,ISO`: 44 is `,`
-unfoldable pub four_numbers : List ℕ → Option Settings
-four_numbers word = do
-  parts ← in_four 44 word
-  pattern ← number_below (2 ^ 8) parts.0
-  level ← number_below (2 ^ 31) parts.1
-  exposure ← number_below (2 ^ 63) parts.2
-  iso ← number_below (2 ^ 31) parts.3
-  Some (record { pattern = pattern; level = level; exposure = exposure; iso = iso })
 
 -- SETTINGS: a template, or four numbers
 unfoldable pub settings_of : List ℕ → Option Settings

@@ -1,13 +1,12 @@
 -- The limits that a line may pass by itself.
-use Rattle.std.specs.Prelude.{ℕ, Bool, true, ◌&&◌, List, length, nat_le, Result, Ok, Err, if◌then◌else◌}
+use Rattle.std.specs.Prelude.{ℕ, Bool, true, ◌&&◌, List, length, nat_le}
 use Rattle.std.specs.List.{list_all}
 use Rattle.cam_types.specs.declared.item.Item.{Item}
 use Rattle.cam_types.specs.declared.item.Targets.{Targets}
 use Rattle.cam_types.specs.declared.script.Command.{Command}
 use Rattle.cam_types.specs.declared.script.Command.TheVariants.{Configure, Once, Burst, Repeat}
 use Rattle.cam_types.specs.Limits.{burst_limit, repeat_limit, target_limit, spec_limit, pick_limit}
-use Rattle.script_text.specs.declared.cause.Cause.{Cause}
-use Rattle.script_text.specs.declared.cause.Cause.TheVariants.{Limit}
+use Rattle.line_reading.specs.Words.{few}
 
 -- eight targets at most
 abbrev pub targets_within : Targets → Bool
@@ -22,8 +21,8 @@ items_within limit items = nat_le (length items) limit && list_all item_within i
 abbrev pub specs_within : {A : Type 0} → List A → Bool
 specs_within specs = nat_le (length specs) spec_limit
 
-abbrev pub picks_within : {A : Type 0} → List A → Bool
-picks_within picks = nat_le (length picks) pick_limit
+abbrev pub picks_within : List ℕ → Bool
+picks_within picks = few pick_limit picks
 
 -- a command's lists are within their limits
 abbrev pub within : Command → Bool
@@ -32,8 +31,3 @@ within (Once item) = item_within item
 within (Burst items) = items_within burst_limit items
 within (Repeat items) = items_within repeat_limit items
 within _ = true
-
--- a value within a limit
-abbrev pub limited : {A : Type 0} → (A → Bool) → Result A Cause → Result A Cause
-limited fits (Ok x) = if fits x then Ok x else Err Limit
-limited fits (Err cause) = Err cause

@@ -6,15 +6,14 @@ ghost use Rattle.cam_types.specs.Script.{awaited_by, is_closing_command};
 ghost use Rattle.text_parts.specs.Words.{loose_words};
 ghost use Rattle.script_text.specs.Lines.{CommandLine, DeviceLine, EarlyLine, FaultLine, pick_line};
 ghost use Rattle.script_text.specs.Within.{within};
-ghost use Rattle.script_text.specs.Reader.{GivesBy};
+ghost use Rattle.line_reading.specs.Reader.{GivesBy};
 ghost use Rattle.script_text.specs.Grammar.{added, begun, closed, counts_within, empty, then_added};
 
-use crate::cause::{Cause, LineRefused};
-use crate::list::with_picks;
 use cam_types::{
     AWAITED_LIMIT, COMMAND_LIMIT, Command, CommandList, FAULT_LIMIT, Fault, FaultList, NoMemory,
-    PickList, Profile, Script,
+    PICK_LIMIT, PickList, Profile, Script,
 };
+use line_reading::{Cause, LineRefused, with_picks};
 use std::alloc::Global;
 use text_parts::next_loose_word;
 
@@ -110,7 +109,7 @@ impl Draft {
     }
 
     /// The draft with a pick line, by the words behind `pick`.
-    #[tactic(auto, unfolding(crate::specs::Grammar::added, crate::specs::Lines::picks_of))]
+    #[tactic(auto, unfolding(crate::specs::Grammar::added, line_reading::specs::Words::picks_of))]
     pub fn with_picks(self, words: &[u8]) -> Result<Draft, LineRefused>
         ensures { GivesBy (λ d. begun d.script d.devices) result
             (then_added (begun self.script self.devices) (pick_line (loose_words words.now))) }
@@ -131,7 +130,7 @@ impl Draft {
             awaited,
             is_closed,
         } = self;
-        let picks = with_picks(picks, words)?;
+        let picks = with_picks(picks, words, PICK_LIMIT)?;
         if commands.len() > 0 {
             return Err(LineRefused::Bad(Cause::FaultAfterCommand));
         }

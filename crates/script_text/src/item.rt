@@ -1,15 +1,14 @@
 //! Settings, targets and captures as they are written.
 
 ghost use Rattle.std.specs.Prelude.{◌≡◌, slice_set};
-ghost use Rattle.script_text.specs.Values.{settings_of, four_numbers, joined_targets, targets_of, item_of};
-ghost use Rattle.script_text.specs.Lines.{good};
-ghost use Rattle.script_text.specs.Within.{limited, targets_within, item_within};
+ghost use Rattle.line_reading.specs.Values.{four_numbers};
+ghost use Rattle.script_text.specs.Values.{settings_of, joined_targets, targets_of, item_of};
+ghost use Rattle.line_reading.specs.Words.{good, limited};
+ghost use Rattle.script_text.specs.Within.{targets_within, item_within};
 
-use crate::cause::Cause;
 use cam_types::{Item, Settings, TARGET_LIMIT, Targets};
-use text_parts::{
-    byte_number, number_below, small_number_below, split_at_byte, split_in_four, split_in_two,
-};
+use line_reading::{Cause, four_numbers};
+use text_parts::{byte_number, split_at_byte, split_in_two};
 
 /// The settings of the template for a preview.
 const PREVIEW: Settings = Settings {
@@ -26,24 +25,6 @@ const STILL: Settings = Settings {
     exposure: 20_000_000,
     iso: 100,
 };
-
-/// `PATTERN,LEVEL,EXPOSURE,ISO`.
-#[tactic(auto, unfolding(crate::specs::Values::four_numbers))]
-fn four_numbers(word: &[u8]) -> Option<Settings>
-    ensures { result ≡ four_numbers word.now }
-{
-    let (pattern, level, exposure, iso) = split_in_four(word, b',')?;
-    let pattern = byte_number(pattern)?;
-    let level = small_number_below(level, 1 << 31)?;
-    let exposure = number_below(exposure, 1 << 63)?;
-    let iso = small_number_below(iso, 1 << 31)?;
-    Some(Settings {
-        pattern,
-        level,
-        exposure,
-        iso,
-    })
-}
 
 /// A template, or four numbers.
 #[tactic(auto, unfolding(crate::specs::Values::settings_of))]

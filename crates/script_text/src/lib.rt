@@ -2,7 +2,6 @@
 //! that of `script_spelling`; what is printed is read again as the same script.
 #![tactic(auto)]
 
-mod cause;
 mod draft;
 mod item;
 mod line;
@@ -11,7 +10,6 @@ mod printing;
 mod reading;
 mod stream;
 
-pub use cause::{Cause, ScriptRefused};
 pub use printing::print;
 pub use reading::read;
 

@@ -1,41 +1,23 @@
 //! What a line means by its words.
 
-ghost use Rattle.std.specs.Prelude.{◌≡◌, ◌↔◌, [], IsTrue};
+ghost use Rattle.std.specs.Prelude.{◌≡◌};
 ghost use Rattle.text_parts.specs.Words.{loose_words};
 ghost use Rattle.script_text.specs.Values.{item_of};
-ghost use Rattle.script_text.specs.Lines.{awaited, command_of, device_of, ends, fault_of, frame_and_stream, good, number, one, profile_number, raw_and_yuv, stream};
-ghost use Rattle.script_text.specs.Within.{limited, within, item_within};
-ghost use Rattle.script_text.specs.Reader.{Gives};
+ghost use Rattle.line_reading.specs.Values.{number};
+ghost use Rattle.line_reading.specs.Words.{ends, good, one, limited};
+ghost use Rattle.script_text.specs.Lines.{awaited, command_of, device_of, fault_of, frame_and_stream, profile_number, raw_and_yuv, stream};
+ghost use Rattle.script_text.specs.Within.{within, item_within};
+ghost use Rattle.line_reading.specs.Reader.{Gives};
 
-use crate::cause::{Cause, LineRefused};
 use crate::item::item_of;
 use crate::list::{items_of, specs_of};
 use cam_types::{
     BURST_LIMIT, Command, Fault, FrameNo, Item, PROFILE_LIMIT, Profile, REPEAT_LIMIT, StreamIx,
     Word,
 };
+use line_reading::{Cause, LineRefused, is_end, one_number};
 use std::alloc::Global;
 use text_parts::{byte_number, next_loose_word, number_within, small_number};
-
-/// Whether no word is left.
-pub fn is_end(words: &[u8]) -> bool
-    ensures { IsTrue result ↔ (loose_words words.now ≡ []) }
-{
-    next_loose_word(words).is_none()
-}
-
-/// One number, and no more.
-fn one_number(words: &[u8]) -> Result<u32, Cause>
-    ensures { result ≡ one number (loose_words words.now) }
-{
-    let (word, rest) = next_loose_word(words).ok_or(Cause::Missing)?;
-    let number = small_number(word).ok_or(Cause::BadNumber)?;
-    if is_end(rest) {
-        Ok(number)
-    } else {
-        Err(Cause::Extra)
-    }
-}
 
 /// One byte, and no more.
 fn one_byte(words: &[u8]) -> Result<u8, Cause>

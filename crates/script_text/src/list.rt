@@ -1,18 +1,19 @@
-//! Lists of words: the streams of a `configure`, the captures of a `burst` or `repeat`, the numbers of a `pick`.
+//! Lists of words: the streams of a `configure`, the captures of a `burst` or `repeat`.
 
-ghost use Rattle.std.specs.Prelude.{◌≡◌, IsTrue};
+ghost use Rattle.std.specs.Prelude.{◌≡◌};
 ghost use Rattle.text_parts.specs.Words.{loose_words};
-ghost use Rattle.script_text.specs.Values.{all_of, spec_of, item_of};
-ghost use Rattle.script_text.specs.Lines.{many, number};
-ghost use Rattle.script_text.specs.Within.{limited, specs_within, items_within, picks_within};
-ghost use Rattle.script_text.specs.Reader.{Gives, past_limit, behind};
+ghost use Rattle.line_reading.specs.Values.{all_of};
+ghost use Rattle.script_text.specs.Values.{spec_of, item_of};
+ghost use Rattle.line_reading.specs.Words.{many, limited, past_limit, behind};
+ghost use Rattle.script_text.specs.Within.{specs_within, items_within};
+ghost use Rattle.line_reading.specs.Reader.{Gives};
 
-use crate::cause::{Cause, LineRefused};
 use crate::item::item_of;
 use crate::stream::spec_of;
-use cam_types::{ItemList, PICK_LIMIT, PickList, SPEC_LIMIT, SpecList};
+use cam_types::{ItemList, SPEC_LIMIT, SpecList};
+use line_reading::{Cause, LineRefused};
 use std::alloc::Global;
-use text_parts::{next_loose_word, small_number};
+use text_parts::next_loose_word;
 
 /// The cause of a line that has too many streams, by the words behind the first that is too many.
 fn past_specs(words: &[u8]) -> Cause
@@ -80,37 +81,4 @@ pub fn items_of(alloc: Global, words: &[u8], limit: u32) -> Result<ItemList, Lin
         rest = after;
     }
     Ok(items)
-}
-
-/// The cause of a line that has too many numbers, by the words behind the first that is too many.
-fn past_numbers(words: &[u8]) -> Cause
-    ensures { result ≡ past_limit (all_of number (loose_words words.now)) }
-{
-    let mut rest = words;
-    while let Some((word, after)) = next_loose_word(rest) {
-        if small_number(word).is_none() {
-            return Cause::BadNumber;
-        }
-        rest = after;
-    }
-    Cause::Limit
-}
-
-/// The picks with those of one more line.
-pub fn with_picks(mut picks: PickList, words: &[u8]) -> Result<PickList, LineRefused>
-    requires { IsTrue (picks_within picks) }
-    ensures { Gives result (limited picks_within (behind picks (many number (loose_words words.now)))) }
-{
-    let mut rest = words;
-    while let Some((word, after)) = next_loose_word(rest) {
-        let Some(pick) = small_number(word) else {
-            return Err(LineRefused::Bad(Cause::BadNumber));
-        };
-        if picks.len() >= PICK_LIMIT {
-            return Err(LineRefused::Bad(past_numbers(after)));
-        }
-        picks.push(pick)?;
-        rest = after;
-    }
-    Ok(picks)
 }

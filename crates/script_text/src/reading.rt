@@ -1,31 +1,23 @@
 //! A script read from its text.
 
 ghost use Rattle.std.specs.Prelude.{◌≡◌, ◌∷◌, IsTrue, IfOk};
-ghost use Rattle.std.specs.List.{list_all};
 ghost use Rattle.std.specs.Option.{option_map};
 ghost use Rattle.cam_types.specs.Script.{is_valid};
 ghost use Rattle.command_words.specs.Words.{command_word};
 ghost use Rattle.script_spelling.specs.Fits.{fits};
 ghost use Rattle.text_parts.specs.Words.{loose_words};
 ghost use Rattle.script_text.specs.Lines.{command_line, device_line, early_line, line_of, other_line};
-ghost use Rattle.script_text.specs.Reader.{GivesBy};
-ghost use Rattle.script_text.specs.Grammar.{after, after_words, begun, is_printable, script_of, then_added, version_number, version_of};
-ghost use Rattle.script_text.specs.Answers.{AnswersScript, refused};
+ghost use Rattle.line_reading.specs.Reader.{GivesBy, Answers, refused};
+ghost use Rattle.line_reading.specs.Lines.{is_printable};
+ghost use Rattle.script_text.specs.Grammar.{after, after_words, begun, script_of, then_added, version_number, version_of};
 
-use crate::cause::{Cause, LineRefused, ScriptRefused};
 use crate::draft::Draft;
-use crate::line::{command_of, device_of, fault_of, is_end};
+use crate::line::{command_of, device_of, fault_of};
 use cam_types::{SCRIPT_BYTES, Script};
 use command_words::command_word;
+use line_reading::{Cause, LineRefused, TextRefused, is_end, is_printable, refused};
 use std::alloc::Global;
 use text_parts::{next_loose_word, split_line};
-
-/// Whether a line has bytes from space to `~` alone.
-fn is_printable(line: &[u8]) -> bool
-    ensures { result ≡ list_all is_printable line.now }
-{
-    line.iter().all(|byte| *byte >= b' ' && *byte <= b'~')
-}
 
 /// The version that a word names.
 fn version_number(word: &[u8]) -> Option<u8>
@@ -161,31 +153,21 @@ fn after(alloc: Global, before: Option<Draft>, line: &[u8]) -> Result<Option<Dra
     }
 }
 
-/// The refusal of a line by its number.
-fn refused(line: u32, why: LineRefused) -> ScriptRefused
-    ensures { result ≡ refused line why }
-{
-    match why {
-        LineRefused::Bad(cause) => ScriptRefused::Bad { line, cause },
-        LineRefused::NoMemory => ScriptRefused::NoMemory,
-    }
-}
-
 /// Reads a client script, as `docs/FORMATS.md` has it. It takes time in the length of the text, and no memory but
 /// the script's.
 ///
 /// A refusal names the first line that has a cause, counted from 1, and the first of its causes. Line 0 stands for a
 /// text of more than 65,536 bytes.
 #[tactic(auto, unfolding(crate::specs::Grammar::script_of, crate::specs::Grammar::script_from))]
-pub fn read(alloc: Global, bytes: &[u8]) -> Result<Script, ScriptRefused>
+pub fn read(alloc: Global, bytes: &[u8]) -> Result<Script, TextRefused>
     // What the text means, unless memory ran out.
-    ensures exact { AnswersScript result (script_of bytes.now) }
+    ensures exact { Answers result (script_of bytes.now) }
     // Only valid scripts are read, with numbers within their types.
     ensures valid { IfOk result (λ script. IsTrue (is_valid script)) }
     ensures fits { IfOk result (λ script. IsTrue (fits script)) }
 {
     if bytes.len() > SCRIPT_BYTES {
-        return Err(ScriptRefused::Bad {
+        return Err(TextRefused::Bad {
             line: 0,
             cause: Cause::Limit,
         });
@@ -203,7 +185,7 @@ pub fn read(alloc: Global, bytes: &[u8]) -> Result<Script, ScriptRefused>
     }
     match draft {
         Some(draft) => Ok(draft.finish()?),
-        None => Err(ScriptRefused::Bad {
+        None => Err(TextRefused::Bad {
             line: number,
             cause: Cause::Version,
         }),

@@ -1,5 +1,6 @@
 //! Texts that are scripts, and texts that aren't, with line and cause.
 use super::*;
+use line_reading::TextRefused;
 use std::alloc::{AllocError, Global};
 use std::test::Fail;
 
@@ -7,8 +8,8 @@ use std::test::Fail;
 fn refusal(alloc: Global, text: &str) -> Option<(u32, u8)> {
     match read(alloc, text.as_bytes()) {
         Ok(_) => None,
-        Err(ScriptRefused::Bad { line, cause }) => Some((line, cause.number())),
-        Err(ScriptRefused::NoMemory) => Some((0, 0)),
+        Err(TextRefused::Bad { line, cause }) => Some((line, cause.number())),
+        Err(TextRefused::NoMemory) => Some((0, 0)),
     }
 }
 

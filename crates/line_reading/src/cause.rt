@@ -1,19 +1,20 @@
-//! Why a script is refused.
+//! Why a text is refused.
 
 ghost use Rattle.std.specs.Prelude.{◌≡◌};
-ghost use Rattle.script_text.specs.declared.cause.ScriptRefused.TheVariants.{NoMemory as OutOfMemory};
-ghost use Rattle.script_text.specs.declared.cause.LineRefused.TheVariants.{Bad, NoMemory};
+ghost use Rattle.line_reading.specs.Reader.{refused};
+ghost use Rattle.line_reading.specs.declared.cause.TextRefused.TheVariants.{NoMemory as OutOfMemory};
+ghost use Rattle.line_reading.specs.declared.cause.LineRefused.TheVariants.{Bad, NoMemory};
 
 use std::alloc::AllocError;
 
-/// Why a line of a script is refused. In one line the causes are tried in the order of their numbers.
+/// Why a line is refused. In one line the causes are tried in the order of their numbers.
 #[derive(Clone, Copy, Debug, PartialEq, Eq)]
 pub enum Cause {
     /// The line has a byte other than 0x20 to 0x7E, apart from its end.
     NotAscii = 31,
-    /// It is the first line that isn't ignored, and is neither `camera 1` nor `camera 2`.
+    /// It is the first line that isn't ignored, and isn't the version line of its text.
     Version = 32,
-    /// Its first word isn't that of any line of its version, or the word after `fault` isn't that of any fault.
+    /// Its first word isn't that of any line that may stand there, or the word after `fault` isn't that of any fault.
     UnknownWord = 33,
     /// A word that stands in the place of a number, a stream or a capture isn't one, or is out of its range.
     BadNumber = 34,
@@ -29,7 +30,7 @@ pub enum Cause {
 }
 
 impl Cause {
-    ghost use Rattle.script_text.specs.Causes.{number_of};
+    ghost use Rattle.line_reading.specs.Causes.{number_of};
 
     /// The number that stands for the cause in what the program prints.
     pub fn number(self) -> u8
@@ -39,10 +40,11 @@ impl Cause {
     }
 }
 
-/// Why `read` gives no script.
+/// Why a text means nothing.
 #[derive(Clone, Copy, Debug, PartialEq, Eq)]
-pub enum ScriptRefused {
-    /// The first line that has a cause, counted from 1, and the first of its causes.
+pub enum TextRefused {
+    /// The first line that has a cause, counted from 1, and the first of its causes. Line 0 stands for a text of more
+    /// than 65,536 bytes.
     Bad { line: u32, cause: Cause },
     /// Memory ran out.
     NoMemory,
@@ -71,10 +73,20 @@ impl From<AllocError> for LineRefused {
     }
 }
 
-impl From<AllocError> for ScriptRefused {
+impl From<AllocError> for TextRefused {
     ghost from_gives = { λ _ e. e ≡ OutOfMemory };
 
-    fn from(_error: AllocError) -> ScriptRefused {
-        ScriptRefused::NoMemory
+    fn from(_error: AllocError) -> TextRefused {
+        TextRefused::NoMemory
+    }
+}
+
+/// The refusal of a line by its number.
+pub fn refused(line: u32, why: LineRefused) -> TextRefused
+    ensures { result ≡ refused line why }
+{
+    match why {
+        LineRefused::Bad(cause) => TextRefused::Bad { line, cause },
+        LineRefused::NoMemory => TextRefused::NoMemory,
     }
 }

@@ -1,6 +1,7 @@
+-- The numbers of causes. (docs/FORMATS.md)
 use Rattle.std.specs.Prelude.{ℕ}
-use Rattle.script_text.specs.declared.cause.Cause.{Cause}
-use Rattle.script_text.specs.declared.cause.Cause.TheVariants.{NotAscii, Version, UnknownWord, BadNumber, Missing, Extra, Limit, FaultAfterCommand}
+use Rattle.line_reading.specs.declared.cause.Cause.{Cause}
+use Rattle.line_reading.specs.declared.cause.Cause.TheVariants.{NotAscii, Version, UnknownWord, BadNumber, Missing, Extra, Limit, FaultAfterCommand}
 
 -- the number of a cause
 abbrev pub number_of : Cause → ℕ

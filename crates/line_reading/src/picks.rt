@@ -1,17 +1,12 @@
 //! The numbers of a `pick`.
 ghost use Rattle.std.specs.Prelude.{◌≡◌, IsTrue};
-ghost use Rattle.script_text.specs.Lines.{many, number};
-ghost use Rattle.script_text.specs.Reader.{past_limit, behind};
-ghost use Rattle.script_text.specs.Values.{all_of};
-ghost use Rattle.script_text.specs.Within.{limited};
+ghost use Rattle.line_reading.specs.Reader.{Gives};
+ghost use Rattle.line_reading.specs.Values.{all_of, number};
+ghost use Rattle.line_reading.specs.Words.{behind, few, limited, many, past_limit};
 ghost use Rattle.text_parts.specs.Words.{loose_words};
-ghost use Rattle.reprocess_text.specs.Grammar.{picks_within};
-ghost use Rattle.reprocess_text.specs.Reader.{Gives};
 
-use crate::refusal::LineRefused;
+use crate::cause::{Cause, LineRefused};
 use cam_types::PickList;
-use reprocess_model::PLAN_PICKS;
-use script_text::Cause;
 use text_parts::{next_loose_word, small_number};
 
 /// The cause of a line that has too many numbers, by the words behind the first that is too many.
@@ -28,17 +23,17 @@ fn past_numbers(words: &[u8]) -> Cause
     Cause::Limit
 }
 
-/// The picks with those of one more line.
-pub fn with_picks(mut picks: PickList, words: &[u8]) -> Result<PickList, LineRefused>
-    requires { IsTrue (picks_within picks) }
-    ensures { Gives result (limited picks_within (behind picks (many number (loose_words words.now)))) }
+/// The picks with those of one more line, of which a text may have so many together.
+pub fn with_picks(mut picks: PickList, words: &[u8], limit: u32) -> Result<PickList, LineRefused>
+    requires { IsTrue (few limit picks) }
+    ensures { Gives result (limited (few limit) (behind picks (many number (loose_words words.now)))) }
 {
     let mut rest = words;
     while let Some((word, after)) = next_loose_word(rest) {
         let Some(pick) = small_number(word) else {
             return Err(LineRefused::Bad(Cause::BadNumber));
         };
-        if picks.len() >= PLAN_PICKS {
+        if picks.len() >= limit {
             return Err(LineRefused::Bad(past_numbers(after)));
         }
         picks.push(pick)?;

@@ -1,0 +1,5 @@
+pub mod Causes
+pub mod Values
+pub mod Words
+pub mod Lines
+pub mod Reader
