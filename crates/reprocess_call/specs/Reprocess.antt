@@ -1,0 +1,38 @@
+-- What `reprocess` answers and writes. (docs/FORMATS.md, reprocessing)
+use Rattle.std.specs.Prelude.{◌≡◌, ℕ, List, Result, Ok, Err, reverse}
+use Rattle.io_edge.specs.States.{SinkState, Writes}
+use Rattle.reprocess_model.specs.Run.{IsPlayedRun, IsRun}
+use Rattle.reprocess_model.specs.declared.entry.ReEntry.{ReEntry}
+use Rattle.reprocess_model.specs.declared.plan.Plan.{Plan}
+use Rattle.reprocess_text.specs.Grammar.{plan_of}
+use Rattle.line_reading.specs.declared.cause.TextRefused.{TextRefused}
+use Rattle.line_reading.specs.declared.cause.TextRefused.TheVariants.{Bad, NoMemory}
+use Rattle.reprocess_output.specs.Lines.{refused_text, run_text}
+
+-- the complete run that a plan's picks choose
+pub record IsWholeRun (plan : Plan) (past : List ReEntry) : Type 0 where
+  pub chosen : IsPlayedRun plan past
+  pub legal : IsRun plan past
+
+-- the text is that of the plan's run
+pub record IsRunText (plan : Plan) (told : List ℕ) : Type 0 where
+  pub past : List ReEntry
+  pub run : IsWholeRun plan past
+  pub shown : told ≡ run_text (reverse past)
+
+-- the status and the whole text that belong to what an input means
+abbrev pub TellsOfPlan : Result Plan TextRefused → ℕ → List ℕ → Type 0
+TellsOfPlan (Ok plan) status told = (status ≡ 0) × IsRunText plan told
+TellsOfPlan (Err (Bad line cause)) status told = (status ≡ 1) × (told ≡ refused_text line cause)
+TellsOfPlan (Err NoMemory) status told = ⊥
+
+abbrev pub Reprocesses : List ℕ → ℕ → List ℕ → Type 0
+Reprocesses input status told = TellsOfPlan (plan_of input) status told
+
+-- the input is a plan's text, and what was written is the complete run that the plan's picks choose
+pub record IsReprocessed (input : List ℕ) (before after : SinkState) : Type 0 where
+  pub plan : Plan
+  pub meaning : plan_of input ≡ Ok plan
+  pub past : List ReEntry
+  pub run : IsWholeRun plan past
+  pub written : Writes before after (run_text (reverse past))

@@ -1,0 +1,83 @@
+//! `reprocess`: a plan is read, played and its run written.
+ghost use Rattle.std.specs.Prelude.{◌≡◌, ◌≢◌, ◌≤◌, IfSome, IsTrue, Result};
+ghost use Rattle.std.specs.Io.KnownBytes.{IsAtEnd};
+ghost use Rattle.io_edge.specs.Faults.{Rose};
+ghost use Rattle.io_edge.specs.States.{WritesNothing};
+ghost use Rattle.call_status.specs.Answers.{AnswersWithMemory, Tells, TellsBy, Untouched};
+ghost use Rattle.reprocess_model.specs.Plan.{is_plan};
+ghost use Rattle.reprocess_output.specs.Lines.{refused_text};
+ghost use Rattle.reprocess_call.specs.Reprocess.{IsReprocessed, Reprocesses, TellsOfPlan};
+
+use crate::player::play;
+use call_status::{Status, answer};
+use io_edge::{ReadBytes, ReadFault, Sink, Source, read_all};
+use line_reading::{Cause, TextRefused};
+use reprocess_core::Reprocess;
+use reprocess_model::{PLAN_BYTES, Plan};
+use reprocess_output::{refused_text, run_text};
+use reprocess_text::read;
+use std::alloc::Global;
+
+/// Reads a plan, plays it by its picks, and writes its run. All memory is taken before the first write.
+pub fn reprocess_call<S: Source, K: Sink>(alloc: Global, source: &mut S, sink: &mut K) -> Status
+    // At status 0 the source was read to its end, its bytes are a plan's text, and what was written is the complete run
+    // that the plan's picks choose, and nothing else.
+    ensures whole { result.number ≡ 0 → IsAtEnd (S.left source.new)
+        × IfSome (S.left source.old) (λ input. IsReprocessed input (K.state sink.old) (K.state sink.new)) }
+    // Each status and each text has its cause in the input's meaning: where no end failed and memory was there, the
+    // status and the text are those that belong to it. At status 4 a front of that text is written.
+    ensures tells { Tells Reprocesses (S.left source.old) result.number (K.state sink.old) (K.state sink.new) }
+    ensures source_failed { result.number ≡ 3 → Rose (S.faults source.old) (S.faults source.new)
+        × WritesNothing (K.state sink.old) (K.state sink.new) }
+    ensures sink_failed { result.number ≡ 4 → Rose (K.state sink.old).faults (K.state sink.new).faults }
+    ensures no_memory { result.number ≡ 5 → (S.faults source.new ≡ S.faults source.old)
+        × Untouched (K.state sink.old) (K.state sink.new) }
+    ensures known { result.number ≤ 5 }
+    ensures no_usage { result.number ≢ 2 }
+{
+    match read_all(alloc, source, PLAN_BYTES) {
+        Err(ReadFault::Failed) => Status::SOURCE_FAILED,
+        Err(ReadFault::NoMemory) => Status::NO_MEMORY,
+        Ok(ReadBytes::TooLong) => refuse(alloc, 0, Cause::Limit, sink),
+        Ok(ReadBytes::Whole(bytes)) => play_text(alloc, bytes.as_slice(), sink),
+    }
+}
+
+/// Plays the plan that a text means, and writes its run.
+fn play_text<K: Sink>(alloc: Global, input: &[u8], sink: &mut K) -> Status
+    ensures { TellsBy (Reprocesses input.now) result.number (K.state sink.old) (K.state sink.new) }
+{
+    match read(alloc, input) {
+        Err(TextRefused::NoMemory) => Status::NO_MEMORY,
+        Err(TextRefused::Bad { line, cause }) => refuse(alloc, line, cause, sink),
+        Ok(plan) => play_plan(alloc, plan, sink),
+    }
+}
+
+/// Plays a plan, and writes its run.
+fn play_plan<K: Sink>(alloc: Global, plan: Plan, sink: &mut K) -> Status
+    requires { IsTrue (is_plan plan) }
+    ensures { TellsBy (TellsOfPlan (Result.Ok plan)) result.number (K.state sink.old) (K.state sink.new) }
+{
+    let Ok(opened) = Reprocess::open(alloc, plan) else {
+        return Status::NO_MEMORY;
+    };
+    let mut device = opened;
+    play(&mut device);
+    let text = run_text(alloc, device.lines());
+    device.scrap();
+    match text {
+        Ok(text) => answer(sink, text.as_slice(), Status::DONE),
+        Err(_) => Status::NO_MEMORY,
+    }
+}
+
+/// Refuses a text.
+fn refuse<K: Sink>(alloc: Global, line: u32, cause: Cause, sink: &mut K) -> Status
+    ensures { AnswersWithMemory 1 (refused_text line cause) result.number (K.state sink.old) (K.state sink.new) }
+{
+    match refused_text(alloc, line, cause) {
+        Ok(text) => answer(sink, text.as_slice(), Status::REFUSED),
+        Err(_) => Status::NO_MEMORY,
+    }
+}

@@ -1,0 +1,10 @@
+//! The command `reprocess`: a plan is read, played by its picks, and its run is written.
+#![tactic(auto)]
+
+mod call;
+mod player;
+
+pub use call::reprocess_call;
+
+#[cfg(test)]
+mod tests;

@@ -1,0 +1,5 @@
+pub mod Places
+pub mod Ready
+pub mod Yuv
+pub mod Finds
+pub mod Listed

@@ -1,0 +1,7 @@
+use Rattle.std.proofs.Common.{arith}
+use Rattle.std.proofs.lemmas.Grind.{common_steps}
+use Rattle.reprocess_laws.proofs.Calls.{length-requests}
+use Rattle.reprocess_core.proofs.device.request_count.Goals as goal
+
+pub returns : goal.returns
+returns c = let all = length-requests c.args.plan.now.commands in grind (arith, common_steps, all)

@@ -1,0 +1,4 @@
+pub mod Tickets
+pub mod Inputs
+pub mod Inside
+pub mod Device
