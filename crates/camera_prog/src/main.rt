@@ -9,14 +9,17 @@ ghost use Rattle.io_edge.specs.Faults.{Rose};
 ghost use Rattle.io_edge.specs.States.{WritesNothing};
 ghost use Rattle.camera_prog.specs.Ends.{number_of};
 
-use camera_top::{Status, camera_main};
+use camera_top::{OpenGate, Status, camera_main};
 use io_edge::{NoMemory, Sink, Source, StdSink, StdSource};
 use std::alloc::{AllocError, Global};
 use std::process::ExitCode;
+use std::sync::Wait;
+use std::thread::Threads;
+use std::time::Clock;
 use std::{env, io};
 
 fn main(rt: HostRuntime) -> ExitCode {
-    ExitCode::from(number_of(run(&rt)))
+    ExitCode::from(number_of(run(&rt, &rt)))
 }
 
 /// The number that the program ends with.
@@ -29,16 +32,26 @@ fn number_of(ended: Result<Status, NoMemory>) -> u8
     }
 }
 
-/// Runs the top call on the program's words, standard input and standard output.
-fn run(rt: &HostRuntime) -> Result<Status, NoMemory> {
+/// Runs the top call on the program's words, standard input and standard output, with threads where it starts some.
+fn run<T: Threads + Wait + Clock + Sync>(
+    threads: &T,
+    rt: &HostRuntime,
+) -> Result<Status, NoMemory> {
     let mut source = StdSource::new(rt)?;
     let mut sink = StdSink::new(rt)?;
     let texts = words_of(rt)?;
-    answer(rt.alloc(), texts.as_slice(), &mut source, &mut sink)
+    answer(
+        threads,
+        rt.alloc(),
+        texts.as_slice(),
+        &mut source,
+        &mut sink,
+    )
 }
 
 /// Runs the top call on the words. Where there is no memory to hand them over, nothing is written.
-fn answer<S: Source, K: Sink>(
+fn answer<R: Threads + Wait + Clock + Sync, S: Source, K: Sink>(
+    rt: &R,
     alloc: Global,
     texts: &[String],
     source: &mut S,
@@ -59,7 +72,7 @@ fn answer<S: Source, K: Sink>(
     for text in texts {
         words.push(text.as_str())?;
     }
-    Ok(camera_main(alloc, words.as_slice(), source, sink))
+    Ok(camera_main(alloc, rt, words.as_slice(), source, sink, &OpenGate))
 }
 
 /// The words behind the program's name. Words that are no text are no form of the command line, as no words are.

@@ -1,21 +1,25 @@
-use Rattle.std.specs.Prelude.{ℕ, List, Option, Some}
+use Rattle.std.specs.Prelude.{ℕ, List, Option, Some, None}
 use Rattle.io_edge.specs.States.{SinkState}
 use Rattle.camera_words.specs.declared.form.Form.{Form}
-use Rattle.camera_words.specs.declared.form.Form.TheVariants.{Play, Check, Convert, Gen, Auto, Help}
+use Rattle.camera_words.specs.declared.form.Form.TheVariants.{Play, Run, Check, Convert, Gen, Auto, Reprocess, Help}
 use Rattle.judge_text.specs.Meaning.{Judges}
 use Rattle.call_status.specs.Answers.{Answers, Tells, TellsBy}
-use Rattle.camera_top.specs.Auto.{Captures}
-use Rattle.camera_top.specs.Converting.{ConvertsInput}
+use Rattle.auto_call.specs.Auto.{Captures}
+use Rattle.trace_calls.specs.Converting.{ConvertsInput}
 use Rattle.camera_top.specs.Help.{help_text, usage_line}
-use Rattle.camera_top.specs.Says.{Says, SaysOfSeed}
+use Rattle.reprocess_call.specs.Reprocess.{Reprocesses}
+use Rattle.run_calls.specs.Running.{Runs}
+use Rattle.play_calls.specs.Says.{Says, SaysOfSeed}
 
 -- What the program answers and writes for each form that its words have: what belongs to the input's meaning, or to the
--- seed and the count; and the usage line where they have no form that is built. (docs/FORMATS.md)
+-- seed and the count; and the usage line where they have no form. (docs/FORMATS.md)
 abbrev pub TellsOf : Option Form → Option (List ℕ) → ℕ → SinkState → SinkState → Type 0
 TellsOf (Some Play) left status before after = Tells Says left status before after
+TellsOf (Some (Run workers)) left status before after = Tells Runs left status before after
 TellsOf (Some Check) left status before after = Tells Judges left status before after
 TellsOf (Some Convert) left status before after = Tells ConvertsInput left status before after
 TellsOf (Some Auto) left status before after = Tells Captures left status before after
+TellsOf (Some Reprocess) left status before after = Tells Reprocesses left status before after
 TellsOf (Some (Gen seed count)) left status before after = TellsBy (SaysOfSeed seed count) status before after
 TellsOf (Some Help) left status before after = Answers 0 help_text status before after
-TellsOf _ left status before after = Answers 2 usage_line status before after
+TellsOf None left status before after = Answers 2 usage_line status before after

@@ -1,9 +1,8 @@
+-- What `help` writes, and the line for words that have no form. (docs/FORMATS.md)
 use Rattle.std.specs.Prelude.{ℕ, List, ◌++◌, codes}
 
--- What `help` writes, and the line for words that have no form. (docs/FORMATS.md)
-
 abbrev pub usage_line : List ℕ
-usage_line = codes "usage: camera play | run --workers N | check | gen SEED COUNT | convert | auto | help\n"
+usage_line = codes "usage: camera play | run --workers N | check | gen SEED COUNT | convert | auto | reprocess | help\n"
 
 -- what `help` writes
 abbrev pub help_text : List ℕ

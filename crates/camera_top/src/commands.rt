@@ -1,57 +1,70 @@
 //! What the words ask for.
-ghost use Rattle.std.specs.Prelude.{◌≡◌, ◌≤◌, ℕ, true, false, IfSome, Option};
+ghost use Rattle.std.specs.Prelude.{◌≡◌, ◌≤◌, ℕ, true, false, is_some, IfSome, Option};
 ghost use Rattle.std.specs.Io.KnownBytes.{IsAtEnd};
 ghost use Rattle.io_edge.specs.Faults.{Rose};
 ghost use Rattle.io_edge.specs.States.{Writes, WritesNothing};
 ghost use Rattle.camera_words.specs.Forms.{form_of};
 ghost use Rattle.generated_scripts.specs.Generated.{generated};
 ghost use Rattle.call_status.specs.Answers.{Answers, Untouched};
-ghost use Rattle.camera_top.specs.Auto.{IsCaptured};
+ghost use Rattle.auto_call.specs.Auto.{IsCaptured};
 ghost use Rattle.camera_top.specs.Commands.{TellsOf};
-ghost use Rattle.camera_top.specs.Converting.{IsConverted};
+ghost use Rattle.trace_calls.specs.Converting.{IsConverted};
 ghost use Rattle.camera_top.specs.Help.{help_text, usage_line};
-ghost use Rattle.camera_top.specs.Judging.{IsJudgedLegal};
-ghost use Rattle.camera_top.specs.Says.{IsWhole, IsWholeRun};
-ghost use Rattle.camera_top.specs.Words.{is_built, reads};
+ghost use Rattle.trace_calls.specs.Judging.{IsJudgedLegal};
+ghost use Rattle.reprocess_call.specs.Reprocess.{IsReprocessed};
+ghost use Rattle.run_calls.specs.Running.{IsRunWhole};
+ghost use Rattle.play_calls.specs.Says.{IsWhole, IsWholeRun};
+ghost use Rattle.camera_top.specs.Words.{reads};
 
-use crate::auto::auto_call;
-use crate::convert::convert_call;
-use crate::judge::check_call;
-use crate::player::{gen_call, play_call};
-use crate::prepared::Output;
+use auto_call::auto_call;
 use call_status::{Status, answer};
 use camera_words::{Form, form_of};
+use camera_workers::Gate;
 use io_edge::{Sink, Source};
+use play_calls::{gen_call, play_call};
+use reprocess_call::reprocess_call;
+use run_calls::run_call;
+use run_output::Output;
 use std::alloc::Global;
+use std::sync::Wait;
+use std::thread::Threads;
+use std::time::Clock;
+use trace_calls::{check_call, convert_call};
 
-/// The line of words that are no form, or of a form whose command isn't built yet.
+/// The line of words that are no form.
 const USAGE_LINE: &[u8] =
-    b"usage: camera play | run --workers N | check | gen SEED COUNT | convert | auto | help\n";
+    b"usage: camera play | run --workers N | check | gen SEED COUNT | convert | auto | reprocess | help\n";
 
 /// What `help` writes: what the program does, and the usage line.
 const HELP_TEXT: &[u8] =
-    b"camera: plays, runs and judges HAL3 camera scripts\nusage: camera play | run --workers N | check | gen SEED COUNT | convert | auto | help\n";
+    b"camera: plays, runs and judges HAL3 camera scripts\nusage: camera play | run --workers N | check | gen SEED COUNT | convert | auto | reprocess | help\n";
 
 /// Does what the words ask for.
-pub fn camera_main<S: Source, K: Sink>(
+pub fn camera_main<R: Threads + Wait + Clock + Sync, S: Source, K: Sink, G: Gate + Sync>(
     alloc: Global,
+    rt: &R,
     words: &[&str],
     source: &mut S,
     sink: &mut K,
+    gate: &G,
 ) -> Status
     // The status and the text are those that belong to the form that the words have, and to the input's meaning.
     ensures tells { TellsOf (form_of words.now) (S.left source.old) result.number (K.state sink.old)
         (K.state sink.new) }
-    ensures usage_only { result.number ≡ 2 → is_built (form_of words.now) ≡ false }
+    ensures usage_only { result.number ≡ 2 → form_of words.now ≡ Option.None }
 
     // Status 0: the help text; or the source was read to its end, and the whole trace of the script's played run was
-    // written, which is complete; or the summary of that of the generated script; or the trace that was read is a
+    // written, which is complete; or that of a run of the script on workers, which is complete and keeps the laws; or
+    // the summary of the played run of the generated script; or the trace that was read is a
     // complete legal run of the script that was read; or the trace that was read was written as one of version 2; or
-    // the frames of the scenes that were read, with their trace.
+    // the frames of the scenes that were read, with their trace; or the complete run of the plan that was read.
     ensures help_done { form_of words.now ≡ Option.Some Form.Help → result.number ≡ 0
         → Writes (K.state sink.old) (K.state sink.new) help_text }
     ensures play_done { form_of words.now ≡ Option.Some Form.Play → result.number ≡ 0 → IsAtEnd (S.left source.new)
         × IfSome (S.left source.old) (λ input. IsWhole input (K.state sink.old) (K.state sink.new)) }
+    ensures run_done { (workers : ℕ) → form_of words.now ≡ Option.Some (Form.Run workers) → result.number ≡ 0
+        → IsAtEnd (S.left source.new)
+        × IfSome (S.left source.old) (λ input. IsRunWhole input (K.state sink.old) (K.state sink.new)) }
     ensures gen_done { (seed count : ℕ) → form_of words.now ≡ Option.Some (Form.Gen seed count) → result.number ≡ 0
         → IsWholeRun Output.Summary (generated seed count) (K.state sink.old) (K.state sink.new) }
     ensures check_done { form_of words.now ≡ Option.Some Form.Check → result.number ≡ 0 → IsAtEnd (S.left source.new)
@@ -61,7 +74,10 @@ pub fn camera_main<S: Source, K: Sink>(
         × IfSome (S.left source.old) (λ input. IsConverted input (K.state sink.old) (K.state sink.new)) }
     ensures auto_done { form_of words.now ≡ Option.Some Form.Auto → result.number ≡ 0 → IsAtEnd (S.left source.new)
         × IfSome (S.left source.old) (λ input. IsCaptured input (K.state sink.old) (K.state sink.new)) }
-    ensures done_built { result.number ≡ 0 → is_built (form_of words.now) ≡ true }
+    ensures reprocess_done { form_of words.now ≡ Option.Some Form.Reprocess → result.number ≡ 0
+        → IsAtEnd (S.left source.new)
+        × IfSome (S.left source.old) (λ input. IsReprocessed input (K.state sink.old) (K.state sink.new)) }
+    ensures done_form { result.number ≡ 0 → is_some (form_of words.now) ≡ true }
 
     // Other words read nothing.
     ensures unread { reads (form_of words.now) ≡ false → S.left source.new ≡ S.left source.old }
@@ -74,12 +90,14 @@ pub fn camera_main<S: Source, K: Sink>(
 {
     match form_of(words) {
         Some(Form::Play) => play_call(alloc, source, sink),
+        Some(Form::Run { workers }) => run_call(alloc, rt, source, sink, gate, workers),
         Some(Form::Check) => check_call(alloc, source, sink),
         Some(Form::Convert) => convert_call(alloc, source, sink),
         Some(Form::Auto) => auto_call(alloc, source, sink),
         Some(Form::Help) => help_call(sink),
         Some(Form::Gen { seed, count }) => gen_call(alloc, seed, count, sink),
-        Some(Form::Run { .. } | Form::Reprocess) | None => usage(sink),
+        Some(Form::Reprocess) => reprocess_call(alloc, source, sink),
+        None => usage(sink),
     }
 }
 

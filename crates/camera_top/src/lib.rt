@@ -1,20 +1,10 @@
-//! The commands of the program.
+//! The program over any ends: what its words ask for is done.
 #![tactic(auto)]
 
-mod auto;
 mod commands;
-mod convert;
-mod judge;
-mod player;
-mod prepared;
-mod refusal;
 #[cfg(test)]
 mod tests;
 
-pub use auto::auto_call;
 pub use call_status::Status;
+pub use camera_workers::{Gate, OpenGate};
 pub use commands::{camera_main, help_call};
-pub use convert::convert_call;
-pub use judge::check_call;
-pub use player::{gen_call, play_call};
-pub use prepared::{Output, Prepared, play_prepared, prepare};

@@ -1,6 +1,7 @@
 //! The top call over ends in memory: pieces, faults, full rooms.
 use super::*;
 use io_edge::{MemSink, MemSource};
+use play_calls::play_call;
 use std::alloc::{AllocError, Global};
 use std::test::Fail;
 
@@ -32,10 +33,17 @@ const NO_COMMANDS: &[u8] =
 const TOO_LONG: &[u8] = b"refused script 0 37\n";
 
 const USAGE: &[u8] =
-    b"usage: camera play | run --workers N | check | gen SEED COUNT | convert | auto | help\n";
+    b"usage: camera play | run --workers N | check | gen SEED COUNT | convert | auto | reprocess | help\n";
 
 const HELP: &[u8] =
-    b"camera: plays, runs and judges HAL3 camera scripts\nusage: camera play | run --workers N | check | gen SEED COUNT | convert | auto | help\n";
+    b"camera: plays, runs and judges HAL3 camera scripts\nusage: camera play | run --workers N | check | gen SEED COUNT | convert | auto | reprocess | help\n";
+
+/// A plan that only flushes, its run, and the refusal of a script as a plan.
+const PLAN: &[u8] = b"reprocess 1\ninput yuv:40x30\noutput yuv:40x30\nflush\n";
+
+const PLAN_RUN: &[u8] = b"reprocess 1\nbegin flush\ncall 0 flush = ok\nend\n";
+
+const NO_PLAN: &[u8] = b"refused reprocess 1 32\n";
 
 /// A script that closes, and its trace.
 const JUDGED: &[u8] = b"camera 1\nclose\ntrace 1\nbegin close\ncall 0 close = ok\nend\n";
@@ -47,6 +55,10 @@ const ILLEGAL: &[u8] = b"illegal 1 D15\n";
 const INCOMPLETE: &[u8] = b"incomplete calls\n";
 
 const TRUNCATED: &[u8] = b"refused trace 5 41\n";
+
+/// The script of row one_frame, and the first line of a trace.
+const CUT_BEHIND_ITS_FIRST_LINE: &[u8] =
+    b"camera 1\nconfigure raw16:160x120\nonce 0,100,10000000,100@0\ntrace 1\n";
 
 const NO_TRACE: &[u8] = b"refused trace 3 41\n";
 
@@ -65,6 +77,14 @@ const DEEPER: &[u8] = b"trace 2 8 3 7\nbegin close\ncall 0 close = ok\nend\n";
 const NO_PROFILE: &[u8] = b"refused trace 1 42\n";
 
 const NOTHING: &[u8] = b"refused trace 1 41\n";
+
+/// What `auto` is asked for without scenes, what it writes then, and the refusal of a scene of the third pattern.
+const NO_SCENES: &[u8] = b"auto 1\ntarget 107\niso 100\n";
+
+const WITHOUT_SCENES: &[u8] =
+    b"auto 1\ntrace 1\nbegin configure\ncall 0 configure = ok 0:b0+6\nbegin close\ncall 1 close = ok\nend\n";
+
+const NO_RAMP: &[u8] = b"refused auto 4 34\n";
 
 /// What row one_frame writes, in parts: up to the metadata, the metadata and the picture's digest, the rest.
 const OPENING: &[u8] =
@@ -608,7 +628,7 @@ const CASES: &[Case] = &[
         sink_failing: &[],
         status: 2,
         text: Text::Line(USAGE),
-        written: 86,
+        written: 98,
     },
     Case {
         words: &["play", "play"],
@@ -620,7 +640,7 @@ const CASES: &[Case] = &[
         sink_failing: &[],
         status: 2,
         text: Text::Line(USAGE),
-        written: 86,
+        written: 98,
     },
     Case {
         words: &["help"],
@@ -632,7 +652,7 @@ const CASES: &[Case] = &[
         sink_failing: &[],
         status: 0,
         text: Text::Line(HELP),
-        written: 137,
+        written: 149,
     },
     Case {
         words: &["help"],
@@ -656,10 +676,46 @@ const CASES: &[Case] = &[
         sink_failing: &[],
         status: 2,
         text: Text::Line(USAGE),
-        written: 86,
+        written: 98,
     },
     Case {
         words: &["run", "--workers", "2"],
+        input: b"camera 1\n",
+        source_piece: 7,
+        source_failing: &[],
+        room: 9000,
+        sink_piece: 64,
+        sink_failing: &[],
+        status: 0,
+        text: Text::Line(VERSION_ONE),
+        written: 42,
+    },
+    Case {
+        words: &["run", "--workers", "8"],
+        input: b"camera 1\n",
+        source_piece: 7,
+        source_failing: &[],
+        room: 9000,
+        sink_piece: 20,
+        sink_failing: &[2],
+        status: 4,
+        text: Text::Line(VERSION_ONE),
+        written: 20,
+    },
+    Case {
+        words: &["run", "--workers", "2"],
+        input: b"camera 3\n",
+        source_piece: 7,
+        source_failing: &[],
+        room: 9000,
+        sink_piece: 64,
+        sink_failing: &[],
+        status: 1,
+        text: Text::Line(VERSION),
+        written: 20,
+    },
+    Case {
+        words: &["run", "--workers", "9"],
         input: SCRIPT,
         source_piece: 7,
         source_failing: &[],
@@ -668,7 +724,31 @@ const CASES: &[Case] = &[
         sink_failing: &[],
         status: 2,
         text: Text::Line(USAGE),
-        written: 86,
+        written: 98,
+    },
+    Case {
+        words: &["reprocess"],
+        input: PLAN,
+        source_piece: 7,
+        source_failing: &[],
+        room: 9000,
+        sink_piece: 64,
+        sink_failing: &[],
+        status: 0,
+        text: Text::Line(PLAN_RUN),
+        written: 46,
+    },
+    Case {
+        words: &["reprocess"],
+        input: b"camera 1\n",
+        source_piece: 7,
+        source_failing: &[],
+        room: 9000,
+        sink_piece: 64,
+        sink_failing: &[],
+        status: 1,
+        text: Text::Line(NO_PLAN),
+        written: 23,
     },
     Case {
         words: &["gen", "1", "201"],
@@ -680,7 +760,7 @@ const CASES: &[Case] = &[
         sink_failing: &[],
         status: 2,
         text: Text::Line(USAGE),
-        written: 86,
+        written: 98,
     },
     Case {
         words: &["gen", "7", "0"],
@@ -705,6 +785,90 @@ const CASES: &[Case] = &[
         status: 4,
         text: Text::Line(NO_COMMANDS),
         written: 50,
+    },
+    Case {
+        words: &["play"],
+        input: b"",
+        source_piece: 7,
+        source_failing: &[],
+        room: 9000,
+        sink_piece: 64,
+        sink_failing: &[1],
+        status: 4,
+        text: Text::Line(VERSION),
+        written: 0,
+    },
+    Case {
+        words: &["check"],
+        input: CUT_BEHIND_ITS_FIRST_LINE,
+        source_piece: 7,
+        source_failing: &[],
+        room: 9000,
+        sink_piece: 64,
+        sink_failing: &[],
+        status: 1,
+        text: Text::Line(TRUNCATED),
+        written: 19,
+    },
+    Case {
+        words: &["auto"],
+        input: NO_SCENES,
+        source_piece: 7,
+        source_failing: &[],
+        room: 9000,
+        sink_piece: 64,
+        sink_failing: &[],
+        status: 0,
+        text: Text::Line(WITHOUT_SCENES),
+        written: 94,
+    },
+    Case {
+        words: &["auto"],
+        input: NO_SCENES,
+        source_piece: 7,
+        source_failing: &[2],
+        room: 9000,
+        sink_piece: 64,
+        sink_failing: &[],
+        status: 3,
+        text: Text::Line(WITHOUT_SCENES),
+        written: 0,
+    },
+    Case {
+        words: &["auto"],
+        input: NO_SCENES,
+        source_piece: 1,
+        source_failing: &[],
+        room: 50,
+        sink_piece: 64,
+        sink_failing: &[],
+        status: 4,
+        text: Text::Line(WITHOUT_SCENES),
+        written: 50,
+    },
+    Case {
+        words: &["auto"],
+        input: b"auto 1\ntarget 107\niso 100\nscene 2 0 1\n",
+        source_piece: 7,
+        source_failing: &[],
+        room: 9000,
+        sink_piece: 64,
+        sink_failing: &[],
+        status: 1,
+        text: Text::Line(NO_RAMP),
+        written: 18,
+    },
+    Case {
+        words: &["auto"],
+        input: b"",
+        source_piece: 7,
+        source_failing: &[],
+        room: 9000,
+        sink_piece: 64,
+        sink_failing: &[1],
+        status: 4,
+        text: Text::Line(NO_RAMP),
+        written: 0,
     },
     Case {
         words: &["play", ""],
@@ -741,7 +905,7 @@ fn every_end_has_its_answer(rt: HostRuntime) -> Result<(), Fail> {
             case.sink_piece,
             case.sink_failing.to_vec(alloc)?,
         )?;
-        let status = camera_main(alloc, case.words, &mut source, &mut sink);
+        let status = camera_main(alloc, &rt, case.words, &mut source, &mut sink, &OpenGate);
         let wanted = match case.text {
             Text::OneFrame => one_frame.as_slice(),
             Text::Line(line) => line,
@@ -758,7 +922,7 @@ fn a_script_may_have_65_536_bytes(rt: HostRuntime) -> Result<(), Fail> {
     let alloc = rt.alloc();
     let mut source = MemSource::new(vec![in alloc; b' '; 65_537]?, 4_096, Vec::new(alloc));
     let mut sink = MemSink::new(alloc, 100, 100, Vec::new(alloc))?;
-    let status = camera_main(alloc, &["play"], &mut source, &mut sink);
+    let status = play_call(alloc, &mut source, &mut sink);
     assert_eq!(rt; status.number, 1);
     assert_eq!(rt; sink.bytes(), TOO_LONG);
     Ok(())
@@ -787,6 +951,6 @@ fn trace_of_thirty_two(alloc: Global, failing: Vec<u32>) -> Result<(u8, Vec<u8>)
     script.push(b'\n')?;
     let mut source = MemSource::new(script, 4_096, Vec::new(alloc));
     let mut sink = MemSink::new(alloc, 20_000, 4_096, failing)?;
-    let status = camera_main(alloc, &["play"], &mut source, &mut sink);
+    let status = play_call(alloc, &mut source, &mut sink);
     Ok((status.number, sink.bytes().to_vec(alloc)?))
 }

@@ -46,7 +46,8 @@ form_of (word ∷ []) = alone word.now
 form_of (first ∷ second ∷ third ∷ []) = of_three first.now second.now third.now
 form_of _ = None
 
--- a script is generated of at most 200 commands
-abbrev pub is_few : Form → Bool
-is_few (Gen seed count) = nat_le count 200
-is_few form = true
+-- a run has 1 to 8 workers, and a script is generated of at most 200 commands
+abbrev pub is_in_range : Form → Bool
+is_in_range (Run workers) = nat_le 1 workers && nat_le workers 8
+is_in_range (Gen seed count) = nat_le count 200
+is_in_range form = true

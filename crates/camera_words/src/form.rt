@@ -1,7 +1,7 @@
 //! The forms of the command line.
 
 ghost use Rattle.std.specs.Prelude.{◌≡◌, IfSome, IsTrue};
-ghost use Rattle.camera_words.specs.Forms.{alone, form_of, gen_of, is_few, of_three, run_of};
+ghost use Rattle.camera_words.specs.Forms.{alone, form_of, gen_of, is_in_range, of_three, run_of};
 
 use text_parts::number_within;
 
@@ -27,7 +27,7 @@ pub enum Form {
 /// A form of one word.
 fn alone(word: &str) -> Option<Form>
     ensures form { result ≡ alone word.now }
-    ensures few { IfSome result (λ form. IsTrue (is_few form)) }
+    ensures range { IfSome result (λ form. IsTrue (is_in_range form)) }
 {
     match word {
         "play" => Some(Form::Play),
@@ -43,7 +43,7 @@ fn alone(word: &str) -> Option<Form>
 /// A run with so many workers, 1 to 8.
 fn run_of(workers: &str) -> Option<Form>
     ensures form { result ≡ run_of workers.now }
-    ensures few { IfSome result (λ form. IsTrue (is_few form)) }
+    ensures range { IfSome result (λ form. IsTrue (is_in_range form)) }
 {
     let workers = number_within(workers.as_bytes(), 1, WORKER_LIMIT)?;
     Some(Form::Run {
@@ -54,7 +54,7 @@ fn run_of(workers: &str) -> Option<Form>
 /// A script made from a seed, with at most 200 commands.
 fn gen_of(seed: &str, count: &str) -> Option<Form>
     ensures form { result ≡ gen_of seed.now count.now }
-    ensures few { IfSome result (λ form. IsTrue (is_few form)) }
+    ensures range { IfSome result (λ form. IsTrue (is_in_range form)) }
 {
     let seed = number_within(seed.as_bytes(), 0, u64::MAX)?;
     let count = number_within(count.as_bytes(), 0, COUNT_LIMIT)?;
@@ -67,7 +67,7 @@ fn gen_of(seed: &str, count: &str) -> Option<Form>
 /// A form of three words.
 fn of_three(first: &str, second: &str, third: &str) -> Option<Form>
     ensures form { result ≡ of_three first.now second.now third.now }
-    ensures few { IfSome result (λ form. IsTrue (is_few form)) }
+    ensures range { IfSome result (λ form. IsTrue (is_in_range form)) }
 {
     match (first, second) {
         ("run", "--workers") => run_of(third),
@@ -79,7 +79,7 @@ fn of_three(first: &str, second: &str, third: &str) -> Option<Form>
 /// The form that the words have. There are no other spellings of a form, and no abbreviations.
 pub fn form_of(words: &[&str]) -> Option<Form>
     ensures form { result ≡ form_of words.now }
-    ensures few { IfSome result (λ form. IsTrue (is_few form)) }
+    ensures range { IfSome result (λ form. IsTrue (is_in_range form)) }
 {
     match words {
         [word] => alone(word),

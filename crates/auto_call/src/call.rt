@@ -1,0 +1,93 @@
+//! `auto`: an exposure is searched for each scene, and the frames of the searches are played.
+ghost use Rattle.std.specs.Prelude.{◌≡◌, ◌≢◌, ◌≤◌, ◌⊎◌, IfSome, IsTrue, Result};
+ghost use Rattle.std.specs.Io.KnownBytes.{IsAtEnd};
+ghost use Rattle.io_edge.specs.Faults.{Rose};
+ghost use Rattle.io_edge.specs.States.{WritesNothing};
+ghost use Rattle.cam_types.specs.Script.{is_valid as is_valid_script};
+ghost use Rattle.call_status.specs.Answers.{AnswersWithMemory, Tells, TellsBy, Untouched};
+ghost use Rattle.exposure_text.specs.Spelling.{refused_text};
+ghost use Rattle.exposure_text.specs.Valid.{is_valid};
+ghost use Rattle.auto_call.specs.Auto.{Captures, CapturesText, IsCaptured};
+ghost use Rattle.play_calls.specs.Says.{PlaysBehind};
+
+use auto_output::{Drawn, draw_up};
+use call_status::{Status, answer};
+use cam_types::{SCRIPT_BYTES, Script};
+use exposure_text::{AutoText, refused_text};
+use io_edge::{ReadBytes, ReadFault, Sink, Source, read_all};
+use line_reading::{Cause, TextRefused};
+use play_calls::{play_behind, prepare};
+use run_laws::a_complete_run_keeps_the_laws;
+use run_output::Output;
+use std::alloc::Global;
+
+/// Reads scenes, searches an exposure for each, and writes what was found of each frame and scene, and the trace of the
+/// frames.
+pub fn auto_call<S: Source, K: Sink>(alloc: Global, source: &mut S, sink: &mut K) -> Status
+    // At status 0 the source was read to its end, its bytes ask for scenes, and what was written is the whole text of
+    // their frames, with the trace of the frames' played run, which is complete and keeps the laws, and nothing else.
+    ensures whole { result.number ≡ 0 → IsAtEnd (S.left source.new)
+        × IfSome (S.left source.old) (λ input. IsCaptured input (K.state sink.old) (K.state sink.new)) }
+    // Each status and each text has its cause in the input's meaning: where no end failed and memory was there, the
+    // status and the text are those that belong to it. At status 4 a front of that text is written.
+    ensures tells { Tells Captures (S.left source.old) result.number (K.state sink.old) (K.state sink.new) }
+    ensures source_failed { result.number ≡ 3 → Rose (S.faults source.old) (S.faults source.new)
+        × WritesNothing (K.state sink.old) (K.state sink.new) }
+    ensures sink_failed { result.number ≡ 4 → Rose (K.state sink.old).faults (K.state sink.new).faults }
+    ensures no_memory { result.number ≡ 5 → (S.faults source.new ≡ S.faults source.old)
+        × Untouched (K.state sink.old) (K.state sink.new) }
+    ensures known { result.number ≤ 5 }
+    ensures no_usage { result.number ≢ 2 }
+{
+    a_complete_run_keeps_the_laws();
+    match read_all(alloc, source, SCRIPT_BYTES) {
+        Err(ReadFault::Failed) => Status::SOURCE_FAILED,
+        Err(ReadFault::NoMemory) => Status::NO_MEMORY,
+        Ok(ReadBytes::TooLong) => refuse_auto(alloc, 0, Cause::Limit, sink),
+        Ok(ReadBytes::Whole(bytes)) => capture_text(alloc, bytes.as_slice(), sink),
+    }
+}
+
+/// Searches the scenes that a text asks for, and writes their frames.
+fn capture_text<K: Sink>(alloc: Global, input: &[u8], sink: &mut K) -> Status
+    ensures { TellsBy (Captures input.now) result.number (K.state sink.old) (K.state sink.new) }
+{
+    match exposure_text::read(alloc, input) {
+        Err(TextRefused::NoMemory) => Status::NO_MEMORY,
+        Err(TextRefused::Bad { line, cause }) => refuse_auto(alloc, line, cause, sink),
+        Ok(text) => capture_scenes(alloc, &text, sink),
+    }
+}
+
+/// Searches the scenes, and writes their frames. All memory is taken before the first write.
+fn capture_scenes<K: Sink>(alloc: Global, text: &AutoText, sink: &mut K) -> Status
+    requires { IsTrue (is_valid text.now) }
+    ensures { TellsBy (CapturesText (Result.Ok text.now)) result.number (K.state sink.old) (K.state sink.new) }
+{
+    match draw_up(alloc, text) {
+        Ok(Drawn { front, script }) => play_frames(alloc, front.as_slice(), script, sink),
+        Err(_) => Status::NO_MEMORY,
+    }
+}
+
+/// Plays the frames, and writes their trace behind the lines.
+fn play_frames<K: Sink>(alloc: Global, front: &[u8], script: Script, sink: &mut K) -> Status
+    requires { IsTrue (is_valid_script script) }
+    ensures { ((result.number ≡ 5) × Untouched (K.state sink.old) (K.state sink.new))
+        ⊎ PlaysBehind front.now Output.Trace script result.number (K.state sink.old) (K.state sink.new) }
+{
+    match prepare(alloc, script) {
+        Ok(prepared) => play_behind(prepared, front, Output::Trace, sink),
+        Err(_) => Status::NO_MEMORY,
+    }
+}
+
+/// Refuses a text.
+fn refuse_auto<K: Sink>(alloc: Global, line: u32, cause: Cause, sink: &mut K) -> Status
+    ensures { AnswersWithMemory 1 (refused_text line cause) result.number (K.state sink.old) (K.state sink.new) }
+{
+    match refused_text(alloc, line, cause) {
+        Ok(text) => answer(sink, text.as_slice(), Status::REFUSED),
+        Err(_) => Status::NO_MEMORY,
+    }
+}

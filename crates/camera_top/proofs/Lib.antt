@@ -1,3 +1,0 @@
-pub mod General
-pub mod Telling
-pub mod Capturing

@@ -1,0 +1,83 @@
+//! The loop of a part: turns of its kinds until the run is complete.
+ghost use mathlib.Core.List.{IsPrefix};
+ghost use Rattle.turn_lock.specs.Lending.{IsDone, IsIdle};
+ghost use Rattle.turn_lock.specs.Seats.{view};
+ghost use Rattle.shared_camera.specs.Cameras.{script_of};
+
+use crate::gate::Gate;
+use crate::idle::Idle;
+use crate::part::Part;
+use crate::turns::turn;
+use run_model::Kind;
+use shared_camera::{CamSeat, Shared};
+use std::sync::Wait;
+use std::thread::Threads;
+use std::time::Clock;
+
+/// The loop with this number makes turns of its kinds until the run is complete, or until no work came for very long.
+/// The jobs that it took out are given back.
+pub(crate) fn work<R: Threads + Wait + Clock + Sync, G: Gate>(
+    rt: &R,
+    shared: &Shared,
+    seat: &mut CamSeat,
+    gate: &G,
+    number: u32,
+)
+    requires { IsIdle script_of shared.now.turnstile seat.old }
+    ensures done { IsDone script_of shared.now.turnstile (view seat.old) seat.new }
+    ensures begins { IsPrefix (view seat.old).seen (view seat.new).seen }
+{
+    let kinds = Part::of_loop(number).kinds();
+    let mut idle = Idle::new();
+    for _ in rt.forever() {
+        if each_kind(rt, shared, seat, gate, kinds) {
+            idle.end();
+        } else if is_over(rt, shared, seat, &mut idle, kinds.len()) {
+            break;
+        }
+    }
+}
+
+/// A turn of each kind. It answers whether one of them made a step.
+fn each_kind<R: Threads + Wait + Sync, G: Gate>(
+    rt: &R,
+    shared: &Shared,
+    seat: &mut CamSeat,
+    gate: &G,
+    kinds: &[Kind],
+) -> bool
+    requires { IsIdle script_of shared.now.turnstile seat.old }
+    ensures done { IsDone script_of shared.now.turnstile (view seat.old) seat.new }
+    ensures begins { IsPrefix (view seat.old).seen (view seat.new).seen }
+{
+    let mut worked = false;
+    for kind in kinds {
+        if turn(rt, shared, seat, gate, *kind) {
+            worked = true;
+        }
+    }
+    worked
+}
+
+/// After so many turns without work: whether the loop ends. Where it doesn't, it has waited.
+fn is_over<R: Wait + Clock>(
+    rt: &R,
+    shared: &Shared,
+    seat: &mut CamSeat,
+    idle: &mut Idle,
+    turns: usize,
+) -> bool
+    requires { IsIdle script_of shared.now.turnstile seat.old }
+    ensures done { IsDone script_of shared.now.turnstile (view seat.old) seat.new }
+    ensures begins { IsPrefix (view seat.old).seen (view seat.new).seen }
+{
+    if shared.done_turn(rt, seat) {
+        return true;
+    }
+    idle.add(turns);
+    if idle.is_over() {
+        return true;
+    }
+    idle.wait(rt);
+    false
+}

@@ -1,0 +1,96 @@
+//! One step of a kind, in one turn, or in two between which a job is worked on.
+ghost use Rattle.std.specs.Prelude.{◌≡◌, false};
+ghost use mathlib.Core.List.{IsPrefix};
+ghost use Rattle.turn_lock.specs.Lending.{IsDone, IsIdle};
+ghost use Rattle.turn_lock.specs.Seats.{view};
+ghost use Rattle.shared_camera.specs.Cameras.{script_of};
+ghost use Rattle.shared_camera.specs.Moves.{is_of_jobs};
+
+use crate::gate::Gate;
+use fill_jobs::{FillJob, FilledJob};
+use run_model::Kind;
+use shared_camera::{CamSeat, Shared, Shuttered, Turned};
+use std::sync::Wait;
+use std::thread::Threads;
+
+/// In so many bands the rows of a picture are drawn side by side.
+const BANDS: u32 = 2;
+
+/// Makes the first ready step of a kind, and answers whether there was one. The end of a job is no work of its own: who
+/// takes a job out gives it back.
+pub(crate) fn turn<R: Threads + Wait + Sync, G: Gate>(
+    rt: &R,
+    shared: &Shared,
+    seat: &mut CamSeat,
+    gate: &G,
+    kind: Kind,
+) -> bool
+    requires { IsIdle script_of shared.now.turnstile seat.old }
+    ensures done { IsDone script_of shared.now.turnstile (view seat.old) seat.new }
+    ensures begins { IsPrefix (view seat.old).seen (view seat.new).seen }
+{
+    match kind {
+        Kind::Shutter => expose(rt, shared, seat),
+        Kind::TakeFill => fill(rt, shared, seat, gate),
+        Kind::SensorDone | Kind::FillDone => false,
+        _ => step(rt, shared, seat, kind),
+    }
+}
+
+/// Makes a step of no job.
+fn step<R: Wait>(rt: &R, shared: &Shared, seat: &mut CamSeat, kind: Kind) -> bool
+    requires idle { IsIdle script_of shared.now.turnstile seat.old }
+    requires alone { is_of_jobs kind ≡ false }
+    ensures done { IsDone script_of shared.now.turnstile (view seat.old) seat.new }
+    ensures begins { IsPrefix (view seat.old).seen (view seat.new).seen }
+{
+    let answer = shared.step_turn(rt, seat, kind);
+    matches!(answer, Turned::Did(_))
+}
+
+/// Exposes a frame between two turns.
+fn expose<R: Threads + Wait + Sync>(rt: &R, shared: &Shared, seat: &mut CamSeat) -> bool
+    requires { IsIdle script_of shared.now.turnstile seat.old }
+    ensures done { IsDone script_of shared.now.turnstile (view seat.old) seat.new }
+    ensures begins { IsPrefix (view seat.old).seen (view seat.new).seen }
+{
+    match shared.shutter_turn(rt, seat) {
+        Shuttered::Began(_, job) => {
+            shared.sensor_done_turn(rt, seat, job.expose_bands(rt, BANDS));
+            true
+        }
+        Shuttered::NotBegun => false,
+    }
+}
+
+/// Fills a buffer between two turns.
+fn fill<R: Threads + Wait + Sync, G: Gate>(
+    rt: &R,
+    shared: &Shared,
+    seat: &mut CamSeat,
+    gate: &G,
+) -> bool
+    requires { IsIdle script_of shared.now.turnstile seat.old }
+    ensures done { IsDone script_of shared.now.turnstile (view seat.old) seat.new }
+    ensures begins { IsPrefix (view seat.old).seen (view seat.new).seen }
+{
+    match shared.take_fill_turn(rt, seat) {
+        Some(job) => {
+            shared.fill_done_turn(rt, seat, pass(rt, gate, job));
+            true
+        }
+        None => false,
+    }
+}
+
+/// Fills a buffer, within the gate.
+fn pass<R: Threads + Sync, G: Gate>(rt: &R, gate: &G, job: FillJob) -> FilledJob
+    ensures { result ≡ job }
+{
+    let frame = job.frame();
+    let stream = job.stream();
+    gate.enter(frame, stream);
+    let filled = job.fill_bands(rt, BANDS);
+    gate.leave(frame, stream);
+    filled
+}

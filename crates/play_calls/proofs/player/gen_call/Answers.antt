@@ -1,0 +1,7 @@
+use Rattle.play_calls.proofs.Telling.{whole_run}
+use Rattle.run_output.specs.declared.output.Output.TheVariants.{Summary}
+use Rattle.play_calls.proofs.player.gen_call.Goals as goal
+
+pub returns-in-Ok-clause-whole : goal.returns-in-Ok-clause-whole
+returns-in-Ok-clause-whole g c done =
+    rw (← c.in-Ok.ensures) (whole_run Summary c.in-Ok.script c.play_script.result.number (g.K.Sink.state c.args.sink.now) (g.K.Sink.state c.play_script.new.sink) (c.a_complete_run_keeps_the_laws.ensures c.in-Ok.script) done c.play_script.ensures)

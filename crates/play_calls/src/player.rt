@@ -1,0 +1,89 @@
+//! `play`: a script is read and played, and its trace written. `gen`: a script is generated and played, and the summary
+//! of its trace written.
+ghost use Rattle.std.specs.Prelude.{◌≡◌, ◌≢◌, ◌≤◌, ◌⊎◌, IfSome, IsTrue};
+ghost use Rattle.std.specs.Io.KnownBytes.{IsAtEnd};
+ghost use Rattle.cam_types.specs.Script.{is_valid};
+ghost use Rattle.generated_scripts.specs.Generated.{generated};
+ghost use Rattle.io_edge.specs.Faults.{Rose};
+ghost use Rattle.io_edge.specs.States.{WritesNothing};
+ghost use Rattle.call_status.specs.Answers.{Tells, TellsBy, Untouched};
+ghost use Rattle.play_calls.specs.Says.{IsWhole, IsWholeRun, Says, SaysOfScript, SaysOfSeed};
+
+use crate::prepared::{play_prepared, prepare};
+use call_status::Status;
+use cam_types::{SCRIPT_BYTES, Script};
+use generated_scripts::{generate, generated_scripts_are_valid};
+use input_refusals::refuse_script;
+use io_edge::{ReadBytes, ReadFault, Sink, Source, read_all};
+use line_reading::{Cause, TextRefused};
+use run_laws::a_complete_run_keeps_the_laws;
+use run_output::Output;
+use std::alloc::Global;
+
+/// Reads a script, plays it and writes its trace.
+pub fn play_call<S: Source, K: Sink>(alloc: Global, source: &mut S, sink: &mut K) -> Status
+    // The headline: at status 0 the source was read to its end, its bytes spell a script, and what was written is the
+    // whole trace of the script's played run, which is complete and keeps the laws, and nothing else.
+    ensures whole { result.number ≡ 0 → IsAtEnd (S.left source.new)
+        × IfSome (S.left source.old) (λ input. IsWhole input (K.state sink.old) (K.state sink.new)) }
+    // Each status and each text has its cause in the input's meaning: where no end failed and memory was there, the
+    // status and the text are those that belong to it. At status 4 a front of that text is written.
+    ensures tells { Tells Says (S.left source.old) result.number (K.state sink.old) (K.state sink.new) }
+    ensures source_failed { result.number ≡ 3 → Rose (S.faults source.old) (S.faults source.new)
+        × WritesNothing (K.state sink.old) (K.state sink.new) }
+    ensures sink_failed { result.number ≡ 4 → Rose (K.state sink.old).faults (K.state sink.new).faults }
+    ensures no_memory { result.number ≡ 5 → (S.faults source.new ≡ S.faults source.old)
+        × Untouched (K.state sink.old) (K.state sink.new) }
+    ensures known { result.number ≤ 5 }
+    ensures no_usage { result.number ≢ 2 }
+{
+    a_complete_run_keeps_the_laws();
+    match read_all(alloc, source, SCRIPT_BYTES) {
+        Err(ReadFault::Failed) => Status::SOURCE_FAILED,
+        Err(ReadFault::NoMemory) => Status::NO_MEMORY,
+        Ok(ReadBytes::TooLong) => refuse_script(alloc, 0, Cause::Limit.number(), sink),
+        Ok(ReadBytes::Whole(bytes)) => play_text(alloc, bytes.as_slice(), sink),
+    }
+}
+
+/// Plays the script of so many commands that the seed generates, and writes the summary of its trace.
+pub fn gen_call<K: Sink>(alloc: Global, seed: u64, count: u32, sink: &mut K) -> Status
+    requires { count ≤ 200 }
+    // At status 0 what was written is the summary of the script's played run, which is complete and keeps the laws.
+    ensures whole { result.number ≡ 0
+        → IsWholeRun Output.Summary (generated seed count) (K.state sink.old) (K.state sink.new) }
+    // The status is 0, or 4 or 5 for its reason.
+    ensures tells { TellsBy (SaysOfSeed seed count) result.number (K.state sink.old) (K.state sink.new) }
+    ensures sink_failed { result.number ≡ 4 → Rose (K.state sink.old).faults (K.state sink.new).faults }
+    ensures no_memory { result.number ≡ 5 → Untouched (K.state sink.old) (K.state sink.new) }
+    ensures known { (result.number ≡ 0) ⊎ ((result.number ≡ 4) ⊎ (result.number ≡ 5)) }
+{
+    a_complete_run_keeps_the_laws();
+    generated_scripts_are_valid();
+    match generate(alloc, seed, count) {
+        Ok(script) => play_script(alloc, script, Output::Summary, sink),
+        Err(_) => Status::NO_MEMORY,
+    }
+}
+
+/// Reads a script from its text, plays it and writes its trace.
+fn play_text<K: Sink>(alloc: Global, input: &[u8], sink: &mut K) -> Status
+    ensures { TellsBy (Says input.now) result.number (K.state sink.old) (K.state sink.new) }
+{
+    match script_text::read(alloc, input) {
+        Err(TextRefused::NoMemory) => Status::NO_MEMORY,
+        Err(TextRefused::Bad { line, cause }) => refuse_script(alloc, line, cause.number(), sink),
+        Ok(script) => play_script(alloc, script, Output::Trace, sink),
+    }
+}
+
+/// Plays a script and writes its trace, or the summary of that.
+fn play_script<K: Sink>(alloc: Global, script: Script, output: Output, sink: &mut K) -> Status
+    requires { IsTrue (is_valid script) }
+    ensures { TellsBy (SaysOfScript output script) result.number (K.state sink.old) (K.state sink.new) }
+{
+    match prepare(alloc, script) {
+        Ok(prepared) => play_prepared(prepared, output, sink),
+        Err(_) => Status::NO_MEMORY,
+    }
+}

@@ -1,0 +1,64 @@
+//! Ending a run that is shared.
+ghost use Rattle.std.specs.Prelude.{◌≡◌, ◌≤◌, [], reverse};
+ghost use Rattle.job_moves.specs.Outs.{AreOut};
+ghost use Rattle.turn_lock.specs.Lending.{IsIdle};
+ghost use Rattle.turn_lock.specs.Seats.{fixed_of, view};
+ghost use Rattle.shared_camera.specs.Cameras.{script_of};
+ghost use Rattle.run_calls.specs.Finished.{FinishesAs};
+
+use call_status::Status;
+use camera_workers::{Gate, run_workers};
+use io_edge::Sink;
+use job_hands::Hands;
+use run_laws::a_complete_run_keeps_the_laws;
+use run_output::write_trace;
+use service_core::Service;
+use settle::{close, settle};
+use shared_camera::{CamSeat, Shared, the_jobs_that_are_out};
+use std::sync::Wait;
+use std::thread::Threads;
+use std::time::Clock;
+use trace_writer::TraceWriter;
+
+/// Runs the workers, ends the sharing, makes the steps that are left on this thread, and writes the trace. It takes no
+/// memory: the status is 0, or 4 where the sink failed.
+pub fn finish_run<R: Threads + Wait + Clock + Sync, K: Sink, G: Gate + Sync>(
+    rt: &R,
+    shared: Shared,
+    mut root: CamSeat,
+    workers: u32,
+    gate: &G,
+    writer: &mut TraceWriter,
+    sink: &mut K,
+) -> Status
+    requires idle { IsIdle script_of shared.turnstile root }
+    requires root { (view root).number ≡ 0 }
+    requires alone { (view root).others ≡ [] }
+    requires least { 1 ≤ workers }
+    requires most { workers ≤ 8 }
+    // What is written is the whole trace of a run of the script that begins with what the root had seen, is complete
+    // and keeps the laws; or at status 4 a front of it.
+    ensures { FinishesAs writer.old (fixed_of script_of shared.turnstile) (view root).seen result.number
+        (K.state sink.old) (K.state sink.new) }
+{
+    run_workers(rt, &shared, &mut root, workers, gate);
+    let service = shared.close(root);
+    the_jobs_that_are_out();
+    service.is_a_run();
+    settle_and_write(service, writer, sink)
+}
+
+/// Makes the steps that are left of a service of which no job is out, and writes its trace.
+fn settle_and_write<K: Sink>(mut service: Service, writer: &mut TraceWriter, sink: &mut K) -> Status
+    requires { AreOut service.script service.history [] }
+    ensures { FinishesAs writer.old service.script (reverse service.history) result.number
+        (K.state sink.old) (K.state sink.new) }
+{
+    a_complete_run_keeps_the_laws();
+    let mut hands = Hands::new();
+    settle(&mut service, &mut hands);
+    service.is_a_run();
+    let status = write_trace(writer, &service, sink);
+    close(service, hands);
+    status
+}

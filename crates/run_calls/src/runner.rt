@@ -1,0 +1,171 @@
+//! `run`: a script is read and run on workers, and its trace written.
+ghost use Rattle.std.specs.Prelude.{◌≡◌, ◌≢◌, ◌≤◌, [], IfOk, IfSome, IsTrue};
+ghost use Rattle.std.specs.Io.KnownBytes.{IsAtEnd};
+ghost use Rattle.cam_types.specs.Script.{is_valid};
+ghost use Rattle.io_edge.specs.Faults.{Rose};
+ghost use Rattle.io_edge.specs.States.{WritesNothing};
+ghost use Rattle.call_status.specs.Answers.{Tells, TellsBy, Untouched};
+ghost use Rattle.run_calls.specs.Finished.{FinishesAs};
+ghost use Rattle.run_calls.specs.Running.{IsRunWhole, Runs, SaysOfRun};
+ghost use Rattle.run_output.specs.Texts.{named_profile};
+
+use crate::finish::finish_run;
+use call_status::Status;
+use cam_types::{NoMemory, SCRIPT_BYTES, Script};
+use camera_workers::Gate;
+use input_refusals::refuse_script;
+use io_edge::{ReadBytes, ReadFault, Sink, Source, read_all};
+use job_hands::Hands;
+use job_moves::no_job_is_out_at_first;
+use line_reading::{Cause, TextRefused};
+use run_output::named_profile;
+use service_core::Service;
+use settle::close;
+use shared_camera::{CamSeat, Shared};
+use std::alloc::{AllocError, Global};
+use std::marker::Model;
+use std::sync::Wait;
+use std::thread::Threads;
+use std::time::Clock;
+use trace_writer::TraceWriter;
+
+/// A run on workers that isn't begun, with all the memory that it and its printing need. A contract sees its script. It
+/// can't be let go: `run_prepared` ends it.
+pub struct PreparedRun {
+    shared: Shared,
+    root: CamSeat,
+    writer: TraceWriter,
+}
+
+impl Model for PreparedRun {
+    ghost use Rattle.std.specs.Prelude.{◌≡◌, []};
+    ghost use Rattle.cam_types.specs.declared.script.Script.{Script as AScript};
+    ghost use Rattle.turn_lock.specs.Lending.{IsIdle};
+    ghost use Rattle.turn_lock.specs.Seats.{fixed_of, view as view_of};
+    ghost use Rattle.shared_camera.specs.Cameras.{script_of};
+    ghost use Rattle.run_output.specs.Texts.{named_profile};
+
+    ghost Value = { AScript };
+
+    ghost view = { λ p. fixed_of script_of p.shared.turnstile };
+
+    ghost invariant = { λ p. IsIdle script_of p.shared.turnstile p.root × ((view_of p.root).number ≡ 0)
+        × ((view_of p.root).others ≡ []) × ((view_of p.root).seen ≡ [])
+        × (p.writer ≡ named_profile (fixed_of script_of p.shared.turnstile)) };
+}
+
+/// Takes all the memory that the run of a script on workers and its printing need.
+pub fn prepare_run(alloc: Global, script: Script) -> Result<PreparedRun, NoMemory>
+    requires { IsTrue (is_valid script) }
+    ensures { IfOk result (λ prepared. prepared ≡ script) }
+{
+    let writer = TraceWriter::new(alloc, named_profile(&script))?;
+    let service = Service::open(alloc, script)?;
+    no_job_is_out_at_first();
+    match Shared::new(alloc, service) {
+        Ok((shared, root)) => Ok(PreparedRun {
+            shared,
+            root,
+            writer,
+        }),
+        Err(service) => {
+            close(service, Hands::new());
+            Err(AllocError)
+        }
+    }
+}
+
+/// Runs a script on so many workers, and writes its trace. It takes no memory: the status is 0, or 4 where the sink
+/// failed.
+pub fn run_prepared<R: Threads + Wait + Clock + Sync, K: Sink, G: Gate + Sync>(
+    rt: &R,
+    prepared: PreparedRun,
+    sink: &mut K,
+    gate: &G,
+    workers: u32,
+) -> Status
+    requires least { 1 ≤ workers }
+    requires most { workers ≤ 8 }
+    ensures { FinishesAs (named_profile prepared) prepared [] result.number (K.state sink.old) (K.state sink.new) }
+{
+    let PreparedRun {
+        shared,
+        root,
+        mut writer,
+    } = prepared;
+    finish_run(rt, shared, root, workers, gate, &mut writer, sink)
+}
+
+/// Reads a script, runs it on so many workers and writes the trace. The script's picks choose nothing: each step is made
+/// by the worker that comes to it first.
+pub fn run_call<R: Threads + Wait + Clock + Sync, S: Source, K: Sink, G: Gate + Sync>(
+    alloc: Global,
+    rt: &R,
+    source: &mut S,
+    sink: &mut K,
+    gate: &G,
+    workers: u32,
+) -> Status
+    requires least { 1 ≤ workers }
+    requires most { workers ≤ 8 }
+    // The headline: at status 0 the source was read to its end, its bytes spell a script, and what was written is the
+    // whole trace of a run of the script, which is complete and keeps the laws, and nothing else.
+    ensures whole { result.number ≡ 0 → IsAtEnd (S.left source.new)
+        × IfSome (S.left source.old) (λ input. IsRunWhole input (K.state sink.old) (K.state sink.new)) }
+    // Each status and each text has its cause in the input's meaning. At status 4 a front of such a text is written.
+    ensures tells { Tells Runs (S.left source.old) result.number (K.state sink.old) (K.state sink.new) }
+    ensures source_failed { result.number ≡ 3 → Rose (S.faults source.old) (S.faults source.new)
+        × WritesNothing (K.state sink.old) (K.state sink.new) }
+    ensures sink_failed { result.number ≡ 4 → Rose (K.state sink.old).faults (K.state sink.new).faults }
+    ensures no_memory { result.number ≡ 5 → (S.faults source.new ≡ S.faults source.old)
+        × Untouched (K.state sink.old) (K.state sink.new) }
+    ensures known { result.number ≤ 5 }
+    ensures no_usage { result.number ≢ 2 }
+{
+    match read_all(alloc, source, SCRIPT_BYTES) {
+        Err(ReadFault::Failed) => Status::SOURCE_FAILED,
+        Err(ReadFault::NoMemory) => Status::NO_MEMORY,
+        Ok(ReadBytes::TooLong) => refuse_script(alloc, 0, Cause::Limit.number(), sink),
+        Ok(ReadBytes::Whole(bytes)) => run_text(alloc, rt, bytes.as_slice(), sink, gate, workers),
+    }
+}
+
+/// Reads a script from its text, runs it and writes the trace.
+fn run_text<R: Threads + Wait + Clock + Sync, K: Sink, G: Gate + Sync>(
+    alloc: Global,
+    rt: &R,
+    input: &[u8],
+    sink: &mut K,
+    gate: &G,
+    workers: u32,
+) -> Status
+    requires least { 1 ≤ workers }
+    requires most { workers ≤ 8 }
+    ensures { TellsBy (Runs input.now) result.number (K.state sink.old) (K.state sink.new) }
+{
+    match script_text::read(alloc, input) {
+        Err(TextRefused::NoMemory) => Status::NO_MEMORY,
+        Err(TextRefused::Bad { line, cause }) => refuse_script(alloc, line, cause.number(), sink),
+        Ok(script) => run_script(alloc, rt, script, sink, gate, workers),
+    }
+}
+
+/// Runs a script and writes the trace.
+fn run_script<R: Threads + Wait + Clock + Sync, K: Sink, G: Gate + Sync>(
+    alloc: Global,
+    rt: &R,
+    script: Script,
+    sink: &mut K,
+    gate: &G,
+    workers: u32,
+) -> Status
+    requires valid { IsTrue (is_valid script) }
+    requires least { 1 ≤ workers }
+    requires most { workers ≤ 8 }
+    ensures { TellsBy (SaysOfRun script) result.number (K.state sink.old) (K.state sink.new) }
+{
+    match prepare_run(alloc, script) {
+        Ok(prepared) => run_prepared(rt, prepared, sink, gate, workers),
+        Err(_) => Status::NO_MEMORY,
+    }
+}

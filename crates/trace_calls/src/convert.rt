@@ -1,0 +1,73 @@
+//! `convert`: a trace is read, and written as one of version 2.
+ghost use Rattle.std.specs.Prelude.{◌≡◌, ◌≢◌, ◌≤◌, IfSome, Result, length, true};
+ghost use Rattle.std.specs.Io.KnownBytes.{IsAtEnd};
+ghost use Rattle.std.specs.List.{list_all};
+ghost use Rattle.io_edge.specs.Faults.{Rose};
+ghost use Rattle.io_edge.specs.States.{Writes, WritesNothing};
+ghost use Rattle.trace_model.specs.Printable.{is_printable};
+ghost use Rattle.trace_reader.specs.Grammar.{trace_of};
+ghost use Rattle.call_status.specs.Answers.{Tells, TellsBy, Untouched};
+ghost use Rattle.trace_calls.specs.Converting.{Converts, ConvertsInput, IsConverted};
+
+use call_status::Status;
+use input_refusals::{TOO_LONG, refuse_trace};
+use io_edge::{ReadBytes, ReadFault, Sink, Source, read_all};
+use judge_text::profile_of;
+use std::alloc::Global;
+use trace_model::TraceList;
+use trace_reader::{TRACE_BYTES, TraceRefused, read, read_is_spelled};
+use trace_writer::TraceWriter;
+
+/// Reads a trace and writes it as one of version 2, with the profile that it names, or 6 3 4.
+pub fn convert_call<S: Source, K: Sink>(alloc: Global, source: &mut S, sink: &mut K) -> Status
+    // At status 0 the source was read to its end, its bytes are the spelling of a trace, and what was written is the
+    // whole spelling of that trace with the first line of version 2, and nothing else.
+    ensures whole { result.number ≡ 0 → IsAtEnd (S.left source.new)
+        × IfSome (S.left source.old) (λ input. IsConverted input (K.state sink.old) (K.state sink.new)) }
+    // Each status and each text has its cause in the input's meaning: where no end failed and memory was there, the
+    // status and the text are those that belong to it. At status 4 a front of that text is written.
+    ensures tells { Tells ConvertsInput (S.left source.old) result.number (K.state sink.old) (K.state sink.new) }
+    ensures source_failed { result.number ≡ 3 → Rose (S.faults source.old) (S.faults source.new)
+        × WritesNothing (K.state sink.old) (K.state sink.new) }
+    ensures sink_failed { result.number ≡ 4 → Rose (K.state sink.old).faults (K.state sink.new).faults }
+    ensures no_memory { result.number ≡ 5 → (S.faults source.new ≡ S.faults source.old)
+        × Untouched (K.state sink.old) (K.state sink.new) }
+    ensures known { result.number ≤ 5 }
+    ensures no_usage { result.number ≢ 2 }
+{
+    read_is_spelled();
+    match read_all(alloc, source, TRACE_BYTES) {
+        Err(ReadFault::Failed) => Status::SOURCE_FAILED,
+        Err(ReadFault::NoMemory) => Status::NO_MEMORY,
+        Ok(ReadBytes::TooLong) => refuse_trace(alloc, 0, TOO_LONG, sink),
+        Ok(ReadBytes::Whole(bytes)) => convert_text(alloc, bytes.as_slice(), sink),
+    }
+}
+
+/// Reads a trace from its text, and writes it as one of version 2.
+fn convert_text<K: Sink>(alloc: Global, text: &[u8], sink: &mut K) -> Status
+    requires { length text.now ≤ 134217728 }
+    ensures { TellsBy (Converts (trace_of 1 text.now)) result.number (K.state sink.old) (K.state sink.new) }
+{
+    read_is_spelled();
+    match read(alloc, text, 1) {
+        Err(TraceRefused::NoMemory) => Status::NO_MEMORY,
+        Err(TraceRefused::Bad { line, cause }) => refuse_trace(alloc, line, cause.number(), sink),
+        Ok(trace) => write_version_two(alloc, &trace, sink),
+    }
+}
+
+/// Writes a trace as one of version 2. All memory is taken before the first write.
+fn write_version_two<K: Sink>(alloc: Global, trace: &TraceList, sink: &mut K) -> Status
+    requires { list_all is_printable trace.now.entries ≡ true }
+    ensures { TellsBy (Converts (Result.Ok trace.now)) result.number (K.state sink.old) (K.state sink.new) }
+{
+    let mut writer = match TraceWriter::new(alloc, Some(profile_of(trace))) {
+        Ok(writer) => writer,
+        Err(_) => return Status::NO_MEMORY,
+    };
+    match writer.write(trace.as_slice(), sink) {
+        Ok(()) => Status::DONE,
+        Err(_) => Status::SINK_FAILED,
+    }
+}
