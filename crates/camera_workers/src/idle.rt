@@ -5,11 +5,12 @@ use std::time::{Clock, Duration};
 /// So many turns in a row without work end a loop.
 const TURNS: u32 = 2_000_000;
 
-/// So many turns without work are followed by a yield alone: work often comes at once.
-const YIELDS: u32 = 16;
+/// So many turns without work are followed by a yield alone: work often comes at once. They are few, since each look for
+/// work takes a turn from the loops that have some.
+const YIELDS: u32 = 4;
 
 /// The longest wait between two looks for work, in microseconds.
-const LONGEST: u32 = 200;
+const LONGEST: u32 = 400;
 
 /// The turns in a row in which a loop found no work.
 #[derive(Drop)]

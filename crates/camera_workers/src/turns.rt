@@ -13,8 +13,9 @@ use shared_camera::{CamSeat, Shared, Shuttered, Turned};
 use std::sync::Wait;
 use std::thread::Threads;
 
-/// In so many bands the rows of a picture are drawn side by side.
-const BANDS: u32 = 2;
+/// In so many bands the rows of a picture are drawn side by side: in one, since a thread costs more than it saves on
+/// pictures of this size (docs/DECISIONS.md, Pictures).
+const BANDS: u32 = 1;
 
 /// Makes the first ready step of a kind, and answers whether there was one. The end of a job is no work of its own: who
 /// takes a job out gives it back.
