@@ -61,6 +61,14 @@ pub fn buffer(alloc: Global, bytes: u32) -> io::Result<PixelBuf>
     Ok(PixelBuf::over(block, BufferId(0), bytes))
 }
 
+/// What a frame takes, and what the digest of as many bytes takes alone. Their rounds took turns, so that whatever
+/// slows the machine for a while slows both.
+#[derive(Clone, Copy)]
+pub struct Costs {
+    pub work: Cost,
+    pub digest: Cost,
+}
+
 /// What a frame of the round took that began at `start`.
 fn cost_since(clock: &impl Clock, start: io::Result<Instant>, seen: u8) -> io::Result<Cost> {
     let nanos = start?.elapsed(clock)?.as_nanos() / FRAMES as u128;
@@ -74,6 +82,14 @@ fn cheaper(best: io::Result<Cost>, next: io::Result<Cost>) -> io::Result<Cost> {
     Ok(Cost {
         nanos: best.nanos.min(next.nanos),
         seen: best.seen ^ next.seen,
+    })
+}
+
+/// Both costs, if there is a clock.
+fn both(work: io::Result<Cost>, digest: io::Result<Cost>) -> io::Result<Costs> {
+    Ok(Costs {
+        work: work?,
+        digest: digest?,
     })
 }
 
@@ -113,22 +129,25 @@ fn expose_round<R: Clock + Threads + Sync>(
     (cost_since(rt, start, seen), readout)
 }
 
-/// Times exposures in so many bands, or by the plain call.
+/// Times exposures in so many bands, or by the plain call, beside the digest of a RAW16 picture.
 pub fn time_expose<R: Clock + Threads + Sync>(
     rt: &R,
     alloc: Global,
     bands: Option<u32>,
-) -> io::Result<Cost>
+) -> io::Result<Costs>
     requires { IfSome bands (λ n. (1 ≤ n) × (n ≤ 8)) }
 {
+    let bytes = vec![in alloc; 7u8; 38_400]?;
     let mut readout = Readout::new(alloc)?;
-    let mut best = Ok(DEAREST);
+    let mut work = Ok(DEAREST);
+    let mut digest = Ok(DEAREST);
     for _ in 0..ROUNDS {
         let (cost, back) = expose_round(rt, bands, readout);
         readout = back;
-        best = cheaper(best, cost);
+        work = cheaper(work, cost);
+        digest = cheaper(digest, digest_round(rt, bytes.as_slice()));
     }
-    best
+    both(work, digest)
 }
 
 /// Fills with the RAW16 picture in so many bands, or by the plain call.
@@ -169,23 +188,25 @@ fn raw_round<R: Clock + Threads + Sync>(
     cost_since(rt, start, seen)
 }
 
-/// Times the RAW16 fill with its digest, in so many bands or by the plain call.
+/// Times the RAW16 fill with its digest, in so many bands or by the plain call, beside the digest.
 pub fn time_raw<R: Clock + Threads + Sync>(
     rt: &R,
     alloc: Global,
     readout: &Readout,
     bands: Option<u32>,
-) -> io::Result<Cost>
+) -> io::Result<Costs>
     requires bands { IfSome bands (λ n. (1 ≤ n) × (n ≤ 8)) }
     requires values { All (λ v. (64 ≤ v) × (v ≤ 1023)) readout.now }
 {
     let mut out = buffer(alloc, 38_400)?;
-    let mut best = Ok(DEAREST);
+    let mut work = Ok(DEAREST);
+    let mut digest = Ok(DEAREST);
     for _ in 0..ROUNDS {
-        best = cheaper(best, raw_round(rt, bands, readout, &mut out));
+        work = cheaper(work, raw_round(rt, bands, readout, &mut out));
+        digest = cheaper(digest, digest_round(rt, out.bytes()));
     }
     let _ = out.into_block();
-    best
+    both(work, digest)
 }
 
 /// Fills with the YUV picture in so many bands, or by the plain call.
@@ -232,7 +253,7 @@ fn yuv_round<R: Clock + Threads + Sync>(
     cost_since(rt, start, seen)
 }
 
-/// Times the YUV fill of a size with its digest, in so many bands or by the plain call.
+/// Times the YUV fill of a size with its digest, in so many bands or by the plain call, beside the digest.
 pub fn time_yuv<R: Clock + Threads + Sync>(
     rt: &R,
     alloc: Global,
@@ -240,18 +261,20 @@ pub fn time_yuv<R: Clock + Threads + Sync>(
     width: u32,
     height: u32,
     bands: Option<u32>,
-) -> io::Result<Cost>
+) -> io::Result<Costs>
     requires bands { IfSome bands (λ n. (1 ≤ n) × (n ≤ 8)) }
     requires values { All (λ v. (64 ≤ v) × (v ≤ 1023)) readout.now }
     requires size { IsTrue (is_yuv_size width height) }
 {
     let mut out = buffer(alloc, width * height * 3 / 2)?;
-    let mut best = Ok(DEAREST);
+    let mut work = Ok(DEAREST);
+    let mut digest = Ok(DEAREST);
     for _ in 0..ROUNDS {
-        best = cheaper(best, yuv_round(rt, bands, readout, width, height, &mut out));
+        work = cheaper(work, yuv_round(rt, bands, readout, width, height, &mut out));
+        digest = cheaper(digest, digest_round(rt, out.bytes()));
     }
     let _ = out.into_block();
-    best
+    both(work, digest)
 }
 
 /// Times a thread that does nothing, from its start until it is joined.
@@ -272,16 +295,6 @@ fn thread_round<R: Clock + Threads>(rt: &R) -> io::Result<Cost> {
         seen ^= one ^ other;
     }
     cost_since(rt, start, seen.to_le_bytes()[0])
-}
-
-/// Times the digest of so many bytes alone.
-pub fn time_digest(clock: &impl Clock, alloc: Global, bytes: usize) -> io::Result<Cost> {
-    let block = vec![in alloc; 7u8; bytes]?;
-    let mut best = Ok(DEAREST);
-    for _ in 0..ROUNDS {
-        best = cheaper(best, digest_round(clock, block.as_slice()));
-    }
-    best
 }
 
 /// Times a round of digests.

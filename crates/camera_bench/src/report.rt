@@ -2,9 +2,7 @@
 ghost use Rattle.std.specs.Prelude.{◌≤◌};
 ghost use Rattle.std.specs.List.{All};
 
-use crate::measure::{
-    Cost, exposed, ramp, time_digest, time_expose, time_raw, time_thread, time_yuv,
-};
+use crate::measure::{Costs, exposed, ramp, time_expose, time_raw, time_thread, time_yuv};
 use cam_types::{FrameNo, Readout};
 use std::alloc::Global;
 use std::io;
@@ -12,7 +10,8 @@ use std::thread::Threads;
 use std::time::Clock;
 
 /// Prints what a frame takes and what its digest takes, in microseconds with one decimal, and the ratio of the two.
-fn print_cost(rt: &impl Print, work: Cost, digest: Cost) -> io::Result<()> {
+fn print_costs_of(rt: &impl Print, costs: Costs) -> io::Result<()> {
+    let Costs { work, digest } = costs;
     let percent = work.nanos.saturating_mul(100) / digest.nanos.max(1);
     println!(rt;
         " {:>6}.{} {:>6}.{} {:>4}.{:02}",
@@ -26,15 +25,15 @@ fn print_cost(rt: &impl Print, work: Cost, digest: Cost) -> io::Result<()> {
 }
 
 /// Prints the line of a plain call.
-fn print_line(rt: &impl Print, name: &str, work: Cost, digest: Cost) -> io::Result<()> {
+fn print_line(rt: &impl Print, name: &str, costs: Costs) -> io::Result<()> {
     print!(rt; "{name:<20}")?;
-    print_cost(rt, work, digest)
+    print_costs_of(rt, costs)
 }
 
 /// Prints the line of the same work in so many bands.
-fn print_bands(rt: &impl Print, bands: u32, work: Cost, digest: Cost) -> io::Result<()> {
+fn print_bands(rt: &impl Print, bands: u32, costs: Costs) -> io::Result<()> {
     print!(rt; "  bands: {bands:<11}")?;
-    print_cost(rt, work, digest)
+    print_costs_of(rt, costs)
 }
 
 /// 1, 2, 4 and 8 bands.
@@ -57,43 +56,20 @@ fn print_large<R: Clock + Print + Threads + Sync>(
 ) -> io::Result<()>
     requires { All (λ v. (64 ≤ v) × (v ≤ 1023)) readout.now }
 {
-    let raw_digest = time_digest(rt, alloc, 38_400)?;
-    print_line(
-        rt,
-        "expose (of RAW16)",
-        time_expose(rt, alloc, None)?,
-        raw_digest,
-    )?;
+    print_line(rt, "expose (of RAW16)", time_expose(rt, alloc, None)?)?;
     for step in 0..4 {
         let bands = bands_at(step);
-        print_bands(rt, bands, time_expose(rt, alloc, Some(bands))?, raw_digest)?;
+        print_bands(rt, bands, time_expose(rt, alloc, Some(bands))?)?;
     }
-    print_line(
-        rt,
-        "RAW16 160 x 120",
-        time_raw(rt, alloc, readout, None)?,
-        raw_digest,
-    )?;
+    print_line(rt, "RAW16 160 x 120", time_raw(rt, alloc, readout, None)?)?;
     for step in 0..4 {
         let bands = bands_at(step);
-        print_bands(
-            rt,
-            bands,
-            time_raw(rt, alloc, readout, Some(bands))?,
-            raw_digest,
-        )?;
+        print_bands(rt, bands, time_raw(rt, alloc, readout, Some(bands))?)?;
     }
-    let yuv_digest = time_digest(rt, alloc, 28_800)?;
-    print_line(
-        rt,
-        "YUV 160 x 120",
-        time_yuv(rt, alloc, readout, 160, 120, None)?,
-        yuv_digest,
-    )?;
+    print_line(rt, "YUV 160 x 120", time_yuv(rt, alloc, readout, 160, 120, None)?)?;
     for step in 0..4 {
         let bands = bands_at(step);
-        let work = time_yuv(rt, alloc, readout, 160, 120, Some(bands))?;
-        print_bands(rt, bands, work, yuv_digest)?;
+        print_bands(rt, bands, time_yuv(rt, alloc, readout, 160, 120, Some(bands))?)?;
     }
     Ok(())
 }
@@ -108,13 +84,11 @@ pub fn print_costs<R: Clock + Print + Threads + Sync>(rt: &R, alloc: Global) -> 
         rt,
         "YUV 80 x 60",
         time_yuv(rt, alloc, &readout, 80, 60, None)?,
-        time_digest(rt, alloc, 7_200)?,
     )?;
     print_line(
         rt,
         "YUV 40 x 30",
         time_yuv(rt, alloc, &readout, 40, 30, None)?,
-        time_digest(rt, alloc, 1_800)?,
     )?;
     let thread = time_thread(rt)?;
     println!(rt;

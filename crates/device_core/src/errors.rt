@@ -6,7 +6,7 @@ ghost use Rattle.device_rows.specs.Rows.{with_error};
 ghost use Rattle.device_core.specs.View.{with_rows};
 
 use crate::device::Device;
-use cam_types::{Fault, FrameNo, RowView};
+use cam_types::{Fault, FrameNo, RowVerdict, RowView};
 use device_rows::{faults_of, has_device_fault};
 use device_store::Store;
 use error_notify::{ErrorEntry, next_error};
@@ -54,10 +54,15 @@ fn fails_device_at(store: &Store, faults: &[Fault], frame: FrameNo) -> bool
     }
 }
 
-/// The next error that the row's verdict names.
+/// The next error that the row's verdict names. The other rows are asked only where it names the metadata, whose error
+/// alone waits for its turn.
 fn error_of(store: &Store, faults: &[Fault], row: RowView) -> Option<ErrorEntry>
     ensures { result ≡ error_of faults.now store.now.rows (Some row) }
 {
     let due = verdict(row, faults_of(faults, row));
-    next_error(row, due, store.may_end_metadata(row.frame))
+    let may_end = match due {
+        RowVerdict::Parts { result: true, .. } => store.may_end_metadata(row.frame),
+        _ => false,
+    };
+    next_error(row, due, may_end)
 }
