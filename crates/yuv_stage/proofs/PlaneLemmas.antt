@@ -2,7 +2,7 @@
 use Rattle.std.proofs.Common.{◌≡◌, ℕ, ◌+◌, ◌*◌, ◌/◌, ◌%◌, ◌<◌, ◌≤◌, List, ◌++◌, length, take, drop, get_or, refl, ap, sym, ◌∙◌, arith}
 use Rattle.std.proofs.lemmas.Grind.{common_steps}
 use Rattle.std.proofs.lemmas.List.FromFn.{fill_by_all, get_or-map-range_with_len}
-use Rattle.std.proofs.lemmas.Nat.{div-mul-add, mod-mul-add, row_fits_turned}
+use Rattle.std.proofs.lemmas.Nat.{div-mul-add, mod-mul-add}
 use Rattle.std.proofs.Math.Nat.{add-zero, mul_comm}
 use Rattle.cam_types.specs.Picture.{plane, yuv_picture, of_cell, cell_at, luma, chroma_blue, chroma_red}
 use Rattle.yuv_stage.specs.Cells.{at_cell, AreWideRows, AreChromaRows}
@@ -38,27 +38,12 @@ luma-160 values x y =
     let row : cell_at y 120 120 ≡ y / 2 * 2 = omega arith in
     rw (column, row) refl
 
--- one more row of a plane of so many rows is written
-pub cells-more : (value : ℕ → ℕ → ℕ) (width height y wide : ℕ) (xs row : List ℕ) → wide ≡ width → y < height → length xs ≡ width * height → length row ≡ length (take wide (drop (y * width) xs)) → ((k : ℕ) → k < y * width → get_or xs k 0 ≡ value (k % width) (k / width)) → ((k : ℕ) → k < length row → get_or row k 0 ≡ value k y) → (k : ℕ) → k < (y + 1) * width → get_or (take (y * width) xs ++ (row ++ drop wide (drop (y * width) xs))) k 0 ≡ value (k % width) (k / width)
-cells-more value width height y wide xs row w low size same before here =
-    let fits : y * width + width ≤ width * height = row_fits_turned y width width height low (omega arith) in
-    let room : y * width + width ≤ length xs = omega arith in
-    let len : length row ≡ width = same ∙ grind (arith, common_steps) in
-    plane-more value width y wide xs row w room len before (λ x h. here x (omega arith))
-
 -- all rows are written, of cells that are step columns and rows of the sensor apart
 pub cells-all : (part : ℕ → ℕ → ℕ → ℕ) (values : List ℕ) (step width height y : ℕ) (xs : List ℕ) → height ≤ y → y ≤ height → length xs ≡ width * height → ((k : ℕ) → k < y * width → get_or xs k 0 ≡ at_cell part values (k % width * step) (k / width * step)) → xs ≡ plane (λ x z. at_cell part values (x * step) (z * step)) width height
 cells-all part values step width height y xs low high len each =
     let all : y ≡ height = omega arith in
     let size : width * height ≡ y * width = mul_comm width height ∙ ap (λ n. n * width) (sym all) in
     plane-all (λ x z. at_cell part values (x * step) (z * step)) width height xs len (λ k h. each k (omega (arith, size)))
-
--- so many rows are written
-pub rows-all : (part : ℕ → ℕ → ℕ → ℕ) (values : List ℕ) (step width first rows y : ℕ) (xs : List ℕ) → rows ≤ y → y ≤ rows → length xs ≡ width * rows → ((k : ℕ) → k < y * width → get_or xs k 0 ≡ at_cell part values (k % width * step) ((k / width + first) * step)) → AreChromaRows part values step width first xs
-rows-all part values step width first rows y xs low high len each k h =
-    let all : y ≡ rows = omega arith in
-    let size : width * rows ≡ y * width = mul_comm width rows ∙ ap (λ n. n * width) (sym all) in
-    each k (omega (arith, size))
 
 -- rows from the first one on, so many that they are all, are the plane
 wide-all : (values xs : List ℕ) → length xs ≡ 19200 → AreWideRows values 0 xs → xs ≡ plane (λ x y. at_cell luma values (x / 2 * 2) (y / 2 * 2)) 160 120
@@ -83,9 +68,16 @@ pub quarter-luma-all : (values : List ℕ) (pair : ℕ) (xs : List ℕ) → 15 �
 quarter-luma-all values pair xs all len each =
     plane-all (λ x y. at_cell luma values (x * 4) (y * 4)) 40 30 xs len (λ k h. each k (omega arith) ∙ quarter-rows luma values k)
 
-pub quarter-chroma-all : (part : ℕ → ℕ → ℕ → ℕ) (values : List ℕ) (pair : ℕ) (xs : List ℕ) → 15 ≤ pair → length xs ≡ 300 → ((k : ℕ) → k < pair * 20 → get_or xs k 0 ≡ at_cell part values (k % 20 * 8) (k / 20 * 8)) → xs ≡ plane (λ x y. at_cell part values (x * 8) (y * 8)) 20 15
-quarter-chroma-all part values pair xs all len each =
-    plane-all (λ x y. at_cell part values (x * 8) (y * 8)) 20 15 xs len (λ k h. each k (omega arith))
+-- rows of 160 places are pairs of rows of 80, whose cells are two columns and rows of the sensor apart
+half-rows : (part : ℕ → ℕ → ℕ → ℕ) (values : List ℕ) (k : ℕ) → at_cell part values (k % 160 % 80 * 2) (k % 160 / 80 * 2 + k / 160 * 4) ≡ at_cell part values (k % 80 * 2) (k / 80 * 2)
+half-rows part values k =
+    let column : k % 160 % 80 * 2 ≡ k % 80 * 2 = omega arith in
+    let row : k % 160 / 80 * 2 + k / 160 * 4 ≡ k / 80 * 2 = omega arith in
+    rw (column, row) refl
+
+pub half-luma-all : (values : List ℕ) (pair : ℕ) (xs : List ℕ) → 30 ≤ pair → length xs ≡ 4800 → ((k : ℕ) → k < pair * 160 → get_or xs k 0 ≡ at_cell luma values (k % 160 % 80 * 2) (k % 160 / 80 * 2 + k / 160 * 4)) → xs ≡ plane (λ x y. at_cell luma values (x * 2) (y * 2)) 80 60
+half-luma-all values pair xs all len each =
+    plane-all (λ x y. at_cell luma values (x * 2) (y * 2)) 80 60 xs len (λ k h. each k (omega arith) ∙ half-rows luma values k)
 
 -- ---- the pictures of the three sizes
 
@@ -132,9 +124,9 @@ pub picture-160 : (values y b r : List ℕ) → length y ≡ 19200 → length b 
 picture-160 values y b r luma-len blue-len red-len luma-is blue-is red-is =
     picture-of 160 120 values y b r (wide-all values y luma-len luma-is ∙ plane-same _ _ 160 120 (luma-160 values)) (chroma-all chroma_blue values 2 80 60 b blue-len blue-is ∙ plane-same _ _ 80 60 (chroma-160 chroma_blue values)) (chroma-all chroma_red values 2 80 60 r red-len red-is ∙ plane-same _ _ 80 60 (chroma-160 chroma_red values))
 
-pub picture-80 : (values y b r : List ℕ) → y ≡ plane (λ x z. at_cell luma values (x * 2) (z * 2)) 80 60 → length b ≡ 1200 → length r ≡ 1200 → AreChromaRows chroma_blue values 4 40 0 b → AreChromaRows chroma_red values 4 40 0 r → y ++ (b ++ r) ≡ yuv_picture 80 60 values
-picture-80 values y b r luma-is blue-len red-len blue-is red-is =
-    picture-of 80 60 values y b r (luma-is ∙ plane-same _ _ 80 60 (luma-80 values)) (chroma-all chroma_blue values 4 40 30 b blue-len blue-is ∙ plane-same _ _ 40 30 (chroma-80 chroma_blue values)) (chroma-all chroma_red values 4 40 30 r red-len red-is ∙ plane-same _ _ 40 30 (chroma-80 chroma_red values))
+pub picture-80 : (values y b r : List ℕ) → y ≡ plane (λ x z. at_cell luma values (x * 2) (z * 2)) 80 60 → b ≡ plane (λ x z. at_cell chroma_blue values (x * 4) (z * 4)) 40 30 → r ≡ plane (λ x z. at_cell chroma_red values (x * 4) (z * 4)) 40 30 → y ++ (b ++ r) ≡ yuv_picture 80 60 values
+picture-80 values y b r luma-is blue-is red-is =
+    picture-of 80 60 values y b r (luma-is ∙ plane-same _ _ 80 60 (luma-80 values)) (blue-is ∙ plane-same _ _ 40 30 (chroma-80 chroma_blue values)) (red-is ∙ plane-same _ _ 40 30 (chroma-80 chroma_red values))
 
 pub picture-40 : (values y b r : List ℕ) → y ≡ plane (λ x z. at_cell luma values (x * 4) (z * 4)) 40 30 → b ≡ plane (λ x z. at_cell chroma_blue values (x * 8) (z * 8)) 20 15 → r ≡ plane (λ x z. at_cell chroma_red values (x * 8) (z * 8)) 20 15 → y ++ (b ++ r) ≡ yuv_picture 40 30 values
 picture-40 values y b r luma-is blue-is red-is =

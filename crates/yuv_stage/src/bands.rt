@@ -5,32 +5,8 @@ ghost use Rattle.cam_types.specs.Picture.{chroma_blue, chroma_red};
 ghost use Rattle.yuv_stage.specs.Cells.{AreWideRows, AreChromaRows};
 ghost use denote.Param.Send.{IsSync};
 
-use crate::planes::{write_chroma_rows, write_wide_pairs};
+use crate::wide::write_band;
 use std::thread::{Threads, join_mut};
-
-/// Writes a band of a picture of the sensor's size: pairs of rows of the plane Y from the pair `first` on, and the row
-/// of the planes Cb and Cr that goes with each.
-pub fn write_band(
-    values: &[u16],
-    first: usize,
-    pairs: usize,
-    luma: &mut [u8],
-    blue: &mut [u8],
-    red: &mut [u8],
-)
-    requires len { length values.now ≡ 19200 }
-    requires values { All (λ v. (64 ≤ v) × (v ≤ 1023)) values.now }
-    requires within { first + pairs ≤ 60 }
-    requires luma_room { length luma.old ≡ pairs * 320 }
-    requires blue_room { length blue.old ≡ pairs * 80 }
-    requires red_room { length red.old ≡ pairs * 80 }
-    ensures luma { AreWideRows values.now first luma.new }
-    ensures blue { AreChromaRows chroma_blue values.now 2 80 first blue.new }
-    ensures red { AreChromaRows chroma_red values.now 2 80 first red.new }
-{
-    write_wide_pairs(values, first, pairs, luma);
-    write_chroma_rows::<2>(values, 80, first, pairs, blue, red);
-}
 
 /// Writes what `write_band` writes, in so many bands side by side.
 pub fn write_bands<R: Threads + Sync>(

@@ -4,9 +4,9 @@ ghost use Rattle.std.specs.List.{All};
 ghost use Rattle.cam_types.specs.Picture.{is_yuv_size, yuv_picture};
 ghost use Rattle.sha2.specs.Sha256.{sha256};
 
-use crate::bands::{write_band, write_bands};
-use crate::planes::{write_chroma_rows, write_narrow_plane};
-use crate::quarter::write_quarter_planes;
+use crate::bands::write_bands;
+use crate::narrow::{write_half_planes, write_quarter_planes};
+use crate::wide::write_band;
 use cam_types::{PixelBuf, Readout};
 use sha2::{Digest, Sha256};
 use std::thread::Threads;
@@ -48,8 +48,7 @@ fn write_half(values: &[u16], bytes: &mut [u8])
 {
     let (luma, chroma) = bytes.split_at_mut(4_800);
     let (blue, red) = chroma.split_at_mut(1_200);
-    write_narrow_plane::<2>(values, 80, 60, luma);
-    write_chroma_rows::<4>(values, 40, 0, 30, blue, red);
+    write_half_planes(values, luma, blue, red);
 }
 
 /// Writes the picture of a quarter of the sensor's size.

@@ -4,10 +4,11 @@
 mod bands;
 mod colour;
 mod fill;
+mod lanes;
 mod laws;
-mod planes;
-mod quarter;
-mod rows;
+mod narrow;
+mod strip;
+mod wide;
 
 pub use fill::{fill_yuv, fill_yuv_bands};
 pub use laws::a_yuv_stream_has_yuv_pictures;
