@@ -14,11 +14,8 @@ use std::thread::{Threads, join};
 use std::time::{Clock, Instant};
 use yuv_stage::{fill_yuv, fill_yuv_bands};
 
-/// The frames of a round.
-const FRAMES: u32 = 8;
-
-/// The rounds of a kind of work. The fastest one counts: the others were disturbed.
-const ROUNDS: u32 = 400;
+/// How often each kind of work is timed, in turns with the digest of as many bytes.
+const TURNS: u32 = 3_200;
 
 /// What a frame takes.
 #[derive(Clone, Copy)]
@@ -27,6 +24,14 @@ pub struct Cost {
     pub nanos: u128,
     /// A byte that depends on all that was computed, so that no part of the work can be left out.
     pub seen: u8,
+}
+
+/// What a frame takes, and what the digest of as many bytes takes alone, right after it: whatever slows the processor
+/// for a while slows both.
+#[derive(Clone, Copy)]
+pub struct Costs {
+    pub work: Cost,
+    pub digest: Cost,
 }
 
 /// The settings that are measured: the ramp.
@@ -61,43 +66,51 @@ pub fn buffer(alloc: Global, bytes: u32) -> io::Result<PixelBuf>
     Ok(PixelBuf::over(block, BufferId(0), bytes))
 }
 
-/// What a frame takes, and what the digest of as many bytes takes alone. Their rounds took turns, so that whatever
-/// slows the machine for a while slows both.
-#[derive(Clone, Copy)]
-pub struct Costs {
-    pub work: Cost,
-    pub digest: Cost,
-}
-
-/// What a frame of the round took that began at `start`.
-fn cost_since(clock: &impl Clock, start: io::Result<Instant>, seen: u8) -> io::Result<Cost> {
-    let nanos = start?.elapsed(clock)?.as_nanos() / FRAMES as u128;
-    Ok(Cost { nanos, seen })
-}
-
-/// The cheaper of two rounds, if there is a clock.
-fn cheaper(best: io::Result<Cost>, next: io::Result<Cost>) -> io::Result<Cost> {
-    let best = best?;
-    let next = next?;
-    Ok(Cost {
-        nanos: best.nanos.min(next.nanos),
-        seen: best.seen ^ next.seen,
-    })
-}
-
-/// Both costs, if there is a clock.
-fn both(work: io::Result<Cost>, digest: io::Result<Cost>) -> io::Result<Costs> {
-    Ok(Costs {
-        work: work?,
-        digest: digest?,
-    })
-}
-
-/// The cost that no round exceeds.
+/// The cost that no turn exceeds.
 const DEAREST: Cost = Cost {
     nanos: u64::MAX as u128,
     seen: 0,
 };
+
+impl Costs {
+    /// The costs that no turn exceeds.
+    const DEAREST: Costs = Costs {
+        work: DEAREST,
+        digest: DEAREST,
+    };
+
+    /// What both take.
+    fn nanos(&self) -> u128 {
+        self.work.nanos.saturating_add(self.digest.nanos)
+    }
+}
+
+/// What began at `start` took.
+fn cost_since(clock: &impl Clock, start: io::Result<Instant>, seen: u8) -> io::Result<Cost> {
+    let nanos = start?.elapsed(clock)?.as_nanos();
+    Ok(Cost { nanos, seen })
+}
+
+/// The faster of two turns, if there is a clock: the other was disturbed.
+fn faster(
+    best: io::Result<Costs>,
+    work: io::Result<Cost>,
+    digest: io::Result<Cost>,
+) -> io::Result<Costs> {
+    let best = best?;
+    let next = Costs {
+        work: work?,
+        digest: digest?,
+    };
+    let mut kept = if next.nanos() < best.nanos() {
+        next
+    } else {
+        best
+    };
+    kept.work.seen = best.work.seen ^ next.work.seen;
+    kept.digest.seen = best.digest.seen ^ next.digest.seen;
+    Ok(kept)
+}
 
 /// Exposes in so many bands, or by the plain call.
 fn expose<R: Threads + Sync>(rt: &R, bands: Option<u32>, job: SensorJob) -> ExposedJob
@@ -109,23 +122,19 @@ fn expose<R: Threads + Sync>(rt: &R, bands: Option<u32>, job: SensorJob) -> Expo
     }
 }
 
-/// Times a round of exposures, each in so many bands or by the plain call, and gives the readout back.
-fn expose_round<R: Clock + Threads + Sync>(
+/// Times an exposure in so many bands or by the plain call, and gives the readout back.
+fn time_exposure<R: Clock + Threads + Sync>(
     rt: &R,
     bands: Option<u32>,
+    frame: FrameNo,
     readout: Readout,
 ) -> (io::Result<Cost>, Readout)
     requires { IfSome bands (λ n. (1 ≤ n) × (n ≤ 8)) }
 {
-    let mut readout = readout;
-    let mut seen = 0;
     let start = Instant::now(rt);
-    for n in 0..FRAMES {
-        let job = SensorJob::new(FrameNo(n), ramp(), readout);
-        let (_, _, back) = expose(rt, bands, job).into_parts();
-        seen ^= back.values()[n as usize].to_le_bytes()[0];
-        readout = back;
-    }
+    let job = SensorJob::new(frame, ramp(), readout);
+    let (_, _, readout) = expose(rt, bands, job).into_parts();
+    let seen = readout.values()[7].to_le_bytes()[0];
     (cost_since(rt, start, seen), readout)
 }
 
@@ -139,15 +148,13 @@ pub fn time_expose<R: Clock + Threads + Sync>(
 {
     let bytes = vec![in alloc; 7u8; 38_400]?;
     let mut readout = Readout::new(alloc)?;
-    let mut work = Ok(DEAREST);
-    let mut digest = Ok(DEAREST);
-    for _ in 0..ROUNDS {
-        let (cost, back) = expose_round(rt, bands, readout);
+    let mut best = Ok(Costs::DEAREST);
+    for turn in 0..TURNS {
+        let (work, back) = time_exposure(rt, bands, FrameNo(turn), readout);
         readout = back;
-        work = cheaper(work, cost);
-        digest = cheaper(digest, digest_round(rt, bytes.as_slice()));
+        best = faster(best, work, time_digest(rt, bytes.as_slice()));
     }
-    both(work, digest)
+    best
 }
 
 /// Fills with the RAW16 picture in so many bands, or by the plain call.
@@ -168,26 +175,6 @@ fn draw_raw<R: Threads + Sync>(
     }
 }
 
-/// Times a round of the RAW16 fill.
-fn raw_round<R: Clock + Threads + Sync>(
-    rt: &R,
-    bands: Option<u32>,
-    readout: &Readout,
-    out: &mut PixelBuf,
-) -> io::Result<Cost>
-    requires bands { IfSome bands (λ n. (1 ≤ n) × (n ≤ 8)) }
-    requires values { All (λ v. (64 ≤ v) × (v ≤ 1023)) readout.now }
-    requires room { length out.old.bytes ≡ 38400 }
-    ensures { length out.new.bytes ≡ 38400 }
-{
-    let mut seen = 0;
-    let start = Instant::now(rt);
-    for _ in 0..FRAMES {
-        seen ^= draw_raw(rt, bands, readout, out)[0];
-    }
-    cost_since(rt, start, seen)
-}
-
 /// Times the RAW16 fill with its digest, in so many bands or by the plain call, beside the digest.
 pub fn time_raw<R: Clock + Threads + Sync>(
     rt: &R,
@@ -199,14 +186,15 @@ pub fn time_raw<R: Clock + Threads + Sync>(
     requires values { All (λ v. (64 ≤ v) × (v ≤ 1023)) readout.now }
 {
     let mut out = buffer(alloc, 38_400)?;
-    let mut work = Ok(DEAREST);
-    let mut digest = Ok(DEAREST);
-    for _ in 0..ROUNDS {
-        work = cheaper(work, raw_round(rt, bands, readout, &mut out));
-        digest = cheaper(digest, digest_round(rt, out.bytes()));
+    let mut best = Ok(Costs::DEAREST);
+    for _ in 0..TURNS {
+        let start = Instant::now(rt);
+        let seen = draw_raw(rt, bands, readout, &mut out)[0];
+        let work = cost_since(rt, start, seen);
+        best = faster(best, work, time_digest(rt, out.bytes()));
     }
     let _ = out.into_block();
-    both(work, digest)
+    best
 }
 
 /// Fills with the YUV picture in so many bands, or by the plain call.
@@ -230,29 +218,6 @@ fn draw_yuv<R: Threads + Sync>(
     }
 }
 
-/// Times a round of the YUV fill.
-fn yuv_round<R: Clock + Threads + Sync>(
-    rt: &R,
-    bands: Option<u32>,
-    readout: &Readout,
-    width: u32,
-    height: u32,
-    out: &mut PixelBuf,
-) -> io::Result<Cost>
-    requires bands { IfSome bands (λ n. (1 ≤ n) × (n ≤ 8)) }
-    requires values { All (λ v. (64 ≤ v) × (v ≤ 1023)) readout.now }
-    requires size { IsTrue (is_yuv_size width height) }
-    requires room { length out.old.bytes ≡ width * height * 3 / 2 }
-    ensures { length out.new.bytes ≡ width * height * 3 / 2 }
-{
-    let mut seen = 0;
-    let start = Instant::now(rt);
-    for _ in 0..FRAMES {
-        seen ^= draw_yuv(rt, bands, readout, width, height, out)[0];
-    }
-    cost_since(rt, start, seen)
-}
-
 /// Times the YUV fill of a size with its digest, in so many bands or by the plain call, beside the digest.
 pub fn time_yuv<R: Clock + Threads + Sync>(
     rt: &R,
@@ -267,42 +232,34 @@ pub fn time_yuv<R: Clock + Threads + Sync>(
     requires size { IsTrue (is_yuv_size width height) }
 {
     let mut out = buffer(alloc, width * height * 3 / 2)?;
-    let mut work = Ok(DEAREST);
-    let mut digest = Ok(DEAREST);
-    for _ in 0..ROUNDS {
-        work = cheaper(work, yuv_round(rt, bands, readout, width, height, &mut out));
-        digest = cheaper(digest, digest_round(rt, out.bytes()));
+    let mut best = Ok(Costs::DEAREST);
+    for _ in 0..TURNS {
+        let start = Instant::now(rt);
+        let seen = draw_yuv(rt, bands, readout, width, height, &mut out)[0];
+        let work = cost_since(rt, start, seen);
+        best = faster(best, work, time_digest(rt, out.bytes()));
     }
     let _ = out.into_block();
-    both(work, digest)
+    best
+}
+
+/// Times a digest.
+fn time_digest(clock: &impl Clock, bytes: &[u8]) -> io::Result<Cost> {
+    let start = Instant::now(clock);
+    let seen = Sha256::digest(bytes)[0];
+    cost_since(clock, start, seen)
 }
 
 /// Times a thread that does nothing, from its start until it is joined.
 pub fn time_thread<R: Clock + Threads>(rt: &R) -> io::Result<Cost> {
-    let mut best = Ok(DEAREST);
-    for _ in 0..ROUNDS {
-        best = cheaper(best, thread_round(rt));
+    let mut best = DEAREST;
+    for turn in 0..TURNS {
+        let start = Instant::now(rt);
+        let (one, other) = join(rt, || turn, || turn);
+        let next = cost_since(rt, start, (one ^ other).to_le_bytes()[0])?;
+        if next.nanos < best.nanos {
+            best = next;
+        }
     }
-    best
-}
-
-/// Times a round of threads.
-fn thread_round<R: Clock + Threads>(rt: &R) -> io::Result<Cost> {
-    let mut seen = 0;
-    let start = Instant::now(rt);
-    for n in 0..FRAMES {
-        let (one, other) = join(rt, || n, || n + 1);
-        seen ^= one ^ other;
-    }
-    cost_since(rt, start, seen.to_le_bytes()[0])
-}
-
-/// Times a round of digests.
-fn digest_round(clock: &impl Clock, bytes: &[u8]) -> io::Result<Cost> {
-    let mut seen = 0;
-    let start = Instant::now(clock);
-    for _ in 0..FRAMES {
-        seen ^= Sha256::digest(bytes)[0];
-    }
-    cost_since(clock, start, seen)
+    Ok(best)
 }

@@ -66,10 +66,18 @@ fn print_large<R: Clock + Print + Threads + Sync>(
         let bands = bands_at(step);
         print_bands(rt, bands, time_raw(rt, alloc, readout, Some(bands))?)?;
     }
-    print_line(rt, "YUV 160 x 120", time_yuv(rt, alloc, readout, 160, 120, None)?)?;
+    print_line(
+        rt,
+        "YUV 160 x 120",
+        time_yuv(rt, alloc, readout, 160, 120, None)?,
+    )?;
     for step in 0..4 {
         let bands = bands_at(step);
-        print_bands(rt, bands, time_yuv(rt, alloc, readout, 160, 120, Some(bands))?)?;
+        print_bands(
+            rt,
+            bands,
+            time_yuv(rt, alloc, readout, 160, 120, Some(bands))?,
+        )?;
     }
     Ok(())
 }

@@ -1,5 +1,0 @@
-use Rattle.std.proofs.Common.{◌≡◌, ◌*◌, ◌/◌, length}
-use Rattle.camera_bench.proofs.measure.yuv_round.Given as goal
-
-abbrev pub invariant-loop : goal.invariant-loop
-invariant-loop g l = length l.out.bytes ≡ l.width * l.height * 3 / 2
