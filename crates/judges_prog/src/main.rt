@@ -22,6 +22,8 @@ const INPUT_BYTES: usize = 1 << 24;
 enum NotJudged {
     /// The input can't be read, or it is too long, or it isn't a trace behind its script.
     NoInput,
+    /// The words behind the program's name aren't a first place and a step of 1 or more.
+    NoPlaces,
     NoMemory,
 }
 
@@ -68,6 +70,12 @@ fn main(rt: HostRuntime) -> io::Result<ExitCode> {
             println!(rt; "nothing is judged: the input isn't a trace behind its script")?;
             Ok(ExitCode::from(3))
         }
+        Err(NotJudged::NoPlaces) => {
+            println!(rt;
+                "nothing is judged: the words aren't a first place and a step of 1 or more"
+            )?;
+            Ok(ExitCode::from(2))
+        }
         Err(NotJudged::NoMemory) => {
             println!(rt; "nothing is judged: there is no memory")?;
             Ok(ExitCode::from(5))
@@ -93,17 +101,21 @@ fn judge_input(rt: &HostRuntime, input: &[u8]) -> Result<Tally, NotJudged> {
     let parts = parts_of(input);
     let script = script_text::read(alloc, parts.script)?;
     let trace = trace_reader::read(alloc, parts.trace, parts.first_line as u32)?;
-    Ok(judge_all(alloc, &script, &trace, places_of(rt))?)
+    Ok(judge_all(alloc, &script, &trace, places_of(rt)?)?)
 }
 
-/// The places that the two words behind the program's name give: the first and the step. All, where there are none.
-fn places_of(rt: &HostRuntime) -> Places {
+/// The places that the words behind the program's name give: the first and the step. All, where there are none.
+fn places_of(rt: &HostRuntime) -> Result<Places, NotJudged> {
     let mut numbers = [0, 1];
     if let Ok(args) = env::args(rt) {
-        for (number, text) in numbers.iter_mut().zip(args.skip(1)) {
-            *number = text.as_str().parse().unwrap_or(*number);
+        for (at, text) in args.skip(1).enumerate() {
+            let number = numbers.get_mut(at).ok_or(NotJudged::NoPlaces)?;
+            *number = text.as_str().parse().map_err(|_| NotJudged::NoPlaces)?;
         }
     }
     let [first, step] = numbers;
-    Places { first, step }
+    if step == 0 {
+        return Err(NotJudged::NoPlaces);
+    }
+    Ok(Places { first, step })
 }
