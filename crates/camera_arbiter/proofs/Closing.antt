@@ -7,6 +7,7 @@ use Rattle.std.proofs.lemmas.Bool.{and_parts, cases_eq, cases_lt, eq-eqb, ne_eqb
 use Rattle.std.proofs.lemmas.Bool.Decides.{nat_tests}
 use Rattle.std.proofs.lemmas.Grind.{flat_map-append}
 use Rattle.std.proofs.lemmas.List.{append-nil, reverse-append, length-append}
+use mathlib.Core.List.{IsPrefix}
 use Rattle.basic_lemmas.proofs.Ranges.{range-more}
 use Rattle.camera_arbiter.proofs.Fair.{Sound, held-is, leave-ends, sound-ended, sound-first, sound-log}
 use Rattle.camera_arbiter.proofs.Sessions.{at-its, at-its-camera, named, passed-over}
@@ -162,6 +163,11 @@ left-few session past =
     let few = few-ended Leave session in
     let both = length-append (ended Leave session) past in
     omega (arith, few, both)
+
+-- the log begins with what it was
+pub begins-after : (cameras : ℕ) (past : List LogLine) (line : ArbiterLine) → IsPrefix (reverse past) (reverse (after cameras past line))
+begins-after cameras past line =
+    let more = added past line (answer_to cameras past line) in (reverse more, sym (reverse-append more past))
 
 -- ---- one camera after the other
 

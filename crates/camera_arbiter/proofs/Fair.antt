@@ -12,7 +12,7 @@ use Rattle.camera_arbiter.specs.Answers.{added, after, answer_to, asked, log_aft
 use Rattle.camera_arbiter.specs.Arbitration.{IsMade}
 use Rattle.camera_arbiter.specs.Laws.{InTurn, IsFair, KeepsLaws, begins, ends}
 use Rattle.camera_arbiter.specs.Log.{begun_by, held, is_of, names, session_of}
-use Rattle.camera_arbiter.specs.Ranges.{is_client, is_count, is_line, is_session}
+use Rattle.camera_arbiter.specs.Ranges.{is_client, is_count, is_line, is_logged, is_session}
 use Rattle.camera_arbiter.specs.declared.answer.LogLine.{LogLine}
 use Rattle.camera_arbiter.specs.declared.answer.LogLine.TheVariants.{Grant, Evict, Leave, Refused}
 use Rattle.camera_arbiter.specs.declared.answer.Answer.{Answer}
@@ -28,12 +28,14 @@ pub record Sound (cameras : ℕ) (past : List LogLine) : Type 0 where
   pub laws : KeepsLaws past
   pub fair : IsFair past
   pub valid : (c : ℕ) (s : Session) → session_of c past ≡ Some s → is_session cameras s ≡ true
+  pub logged : list_all (is_logged cameras) past ≡ true
 
 pub sound-first : (cameras : ℕ) → Sound cameras []
 sound-first cameras = record {
   laws = tt;
   fair = record { cameras = λ c. refl; clients = λ k c d h g. absurd (false≢true h) };
   valid = λ c s h. absurd (cc);
+  logged = refl;
 }
 
 -- ---- a line that isn't served
@@ -44,7 +46,7 @@ sound-refused cameras past why sound =
       cameras = λ c. count-over (begins c) (Refused why) past refl ∙ (sound.fair.cameras c ∙ ap (λ n. n + (if is_some (session_of c past) then 1 else 0)) (sym (count-over (ends c) (Refused why) past refl)));
       clients = sound.fair.clients;
     } in
-    record { laws = (tt, fair, sound.laws); fair = fair; valid = sound.valid }
+    record { laws = (tt, fair, sound.laws); fair = fair; valid = sound.valid; logged = and_from _ _ refl sound.logged }
 
 -- ---- a session that begins
 
@@ -115,7 +117,7 @@ module _ (cameras : ℕ) (past : List LogLine) (s : Session) (sound : Sound came
   pub sound-granted : Sound cameras (Grant s ∷ past)
   sound-granted =
       let fair : IsFair (Grant s ∷ past) = record { cameras = granted-camera; clients = granted-client } in
-      record { laws = ((free, none), fair, sound.laws); fair = fair; valid = granted-valid }
+      record { laws = ((free, none), fair, sound.laws); fair = fair; valid = granted-valid; logged = and_from _ _ valid sound.logged }
 
 -- ---- a session that ends
 
@@ -125,13 +127,14 @@ pub record Ends (s : Session) (line : LogLine) : Type 0 where
   pub begun : begun_by (Some line) ≡ None
   pub begins : (c : ℕ) → begins c line ≡ false
   pub ends : (c : ℕ) → ends c line ≡ (s.camera.0 == c)
+  pub logged : (cameras : ℕ) → is_logged cameras line ≡ is_session cameras s
   pub turn : (past : List LogLine) → session_of s.camera.0 past ≡ Some s → InTurn past line
 
 pub evict-ends : (s : Session) → Ends s (Evict s)
-evict-ends s = record { names = λ c. refl; begun = refl; begins = λ c. refl; ends = λ c. refl; turn = λ past h. h }
+evict-ends s = record { names = λ c. refl; begun = refl; begins = λ c. refl; ends = λ c. refl; logged = λ cameras. refl; turn = λ past h. h }
 
 pub leave-ends : (s : Session) → Ends s (Leave s)
-leave-ends s = record { names = λ c. refl; begun = refl; begins = λ c. refl; ends = λ c. refl; turn = λ past h. h }
+leave-ends s = record { names = λ c. refl; begun = refl; begins = λ c. refl; ends = λ c. refl; logged = λ cameras. refl; turn = λ past h. h }
 
 module _ (cameras : ℕ) (past : List LogLine) (s : Session) (line : LogLine) (e : Ends s line) (sound : Sound cameras past)
     (there : session_of s.camera.0 past ≡ Some s) where
@@ -180,7 +183,7 @@ module _ (cameras : ℕ) (past : List LogLine) (s : Session) (line : LogLine) (e
         cameras = ended-camera;
         clients = λ k c d h g. sound.fair.clients k c d (still k c h) (still k d g);
       } in
-      record { laws = (e.turn past there, fair, sound.laws); fair = fair; valid = ended-valid }
+      record { laws = (e.turn past there, fair, sound.laws); fair = fair; valid = ended-valid; logged = and_from _ _ (e.logged cameras ∙ sound.valid s.camera.0 s there) sound.logged }
 
 -- ---- a client's camera
 
@@ -208,6 +211,7 @@ held-is cameras past c s sound at = by (held cameras s.client.0 past) refl
   where
     own : is_of s.client.0 (session_of c past) ≡ true
     own = rw at (is-its s)
+
     by : (found : Option ℕ) → held cameras s.client.0 past ≡ found → held cameras s.client.0 past ≡ Some c
     by None e = absurd (both_ways (is_of s.client.0 (session_of c past)) (holds-none cameras past s.client.0 sound e c) own)
     by (Some d) e =
@@ -227,16 +231,20 @@ asked-sound cameras past s (Some t) e valid none sound =
   where
     at : t.camera.0 ≡ s.camera.0
     at = at-its-camera s.camera.0 past t e
+
     there : session_of t.camera.0 past ≡ Some t
     there = subst (λ (d : ℕ). session_of d past ≡ Some t) (sym at) e
+
     free : session_of s.camera.0 (Evict t ∷ past) ≡ None
     free = gone cameras past t (Evict t) (evict-ends t) sound there s.camera.0 (eq-eqb t.camera.0 s.camera.0 at)
+
     nowhere : (c : ℕ) → is_of s.client.0 (session_of c (Evict t ∷ past)) ≡ false
     nowhere c =
         elim (cases_Bool (is_of s.client.0 (session_of c (Evict t ∷ past)))) [
           | inl own ↦ absurd (both_ways (is_of s.client.0 (session_of c past)) (none c) (still cameras past t (Evict t) (evict-ends t) sound there s.client.0 c own))
           | inr no' ↦ no'
         ]
+
     granted : Sound cameras (Grant s ∷ (Evict t ∷ past))
     granted =
         sound-granted cameras (Evict t ∷ past) s (sound-ended cameras past t (Evict t) (evict-ends t) sound there) valid free nowhere

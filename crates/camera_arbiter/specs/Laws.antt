@@ -26,9 +26,9 @@ InTurn past (Refused why) = Unit {0}
 -- at most one session that began at a camera hasn't ended, and no client holds two cameras
 pub record IsFair (past : List LogLine) : Type 0 where
   pub cameras : (c : ℕ) →
-    count_by (begins c) past ≡ count_by (ends c) past + (if is_some (session_of c past) then 1 else 0)
+      count_by (begins c) past ≡ count_by (ends c) past + (if is_some (session_of c past) then 1 else 0)
   pub clients : (k c d : ℕ) →
-    is_of k (session_of c past) ≡ true → is_of k (session_of d past) ≡ true → c ≡ d
+      is_of k (session_of c past) ≡ true → is_of k (session_of d past) ≡ true → c ≡ d
 
 -- after each line
 abbrev pub KeepsLaws : List LogLine → Type 0

@@ -4,4 +4,4 @@ pub mod Log
 pub mod Answers
 pub mod Arbitration
 pub mod Laws
-
+pub mod Turns

@@ -1,5 +1,8 @@
 -- What clients may ask. (docs/FORMATS.md, several clients; our own choice)
-use Rattle.std.specs.Prelude.{ℕ, Bool, ◌&&◌, nat_le, nat_lt}
+use Rattle.std.specs.Prelude.{ℕ, Bool, true, ◌&&◌, nat_le, nat_lt}
+use Rattle.camera_arbiter.specs.declared.answer.LogLine.{LogLine}
+use Rattle.camera_arbiter.specs.declared.answer.LogLine.TheVariants.{Grant, Evict, Refused}
+use Rattle.camera_arbiter.specs.declared.answer.LogLine.TheVariants as log
 use Rattle.camera_arbiter.specs.declared.line.ArbiterLine.{ArbiterLine}
 use Rattle.camera_arbiter.specs.declared.line.ArbiterLine.TheVariants.{Connect, Leave}
 use Rattle.camera_arbiter.specs.declared.session.Session.{Session}
@@ -24,3 +27,10 @@ is_session cameras s =
 abbrev pub is_line : ℕ → ArbiterLine → Bool
 is_line cameras (Connect s) = is_session cameras s
 is_line cameras (Leave client) = is_client client.0
+
+-- a line of a log is of such a session
+abbrev pub is_logged : ℕ → LogLine → Bool
+is_logged cameras (Grant s) = is_session cameras s
+is_logged cameras (Evict s) = is_session cameras s
+is_logged cameras (log.Leave s) = is_session cameras s
+is_logged cameras (Refused why) = true

@@ -1,11 +1,12 @@
 //! Who has which camera, by what clients ask.
-ghost use Rattle.std.specs.Prelude.{◌≡◌, ◌+◌, ◌≤◌, ◌<◌, ◌∷◌, ◌++◌, [], Some, None, false, IfOk, IfNone, IfSome, IsTrue, MatchOption, length, nat_le, reverse};
+ghost use Rattle.std.specs.Prelude.{◌≡◌, ◌+◌, ◌≤◌, ◌<◌, ◌∷◌, ◌++◌, [], Some, None, false, true, IfOk, IfNone, IfSome, IsTrue, OnSome, MatchOption, length, nat_le, reverse};
 ghost use Rattle.std.specs.List.{list_all};
+ghost use mathlib.Core.List.{IsPrefix};
 ghost use Rattle.camera_arbiter.specs.Answers.{added, after, answer_to, asked, closed, ended, log_of};
 ghost use Rattle.camera_arbiter.specs.Arbitration.{IsMade};
 ghost use Rattle.camera_arbiter.specs.Laws.{KeepsLaws};
 ghost use Rattle.camera_arbiter.specs.Log.{held, holder, is_of, session_of};
-ghost use Rattle.camera_arbiter.specs.Ranges.{is_client, is_count, is_line, is_session};
+ghost use Rattle.camera_arbiter.specs.Ranges.{is_client, is_count, is_line, is_logged, is_session};
 
 use crate::answer::{Answer, LogLine, Refusal};
 use crate::line::ArbiterLine;
@@ -224,10 +225,29 @@ impl Arbiter {
         }
     }
 
+    /// Answers a line, if the log has room for the lines of one more answer. Otherwise the arbiter is as it was.
+    pub fn try_answer(&mut self, line: ArbiterLine) -> Option<Answer>
+        requires { IsTrue (is_line self.old.cameras line) }
+        ensures answer { IfSome result (λ answer. answer ≡ answer_to self.old.cameras self.old.past line) }
+        ensures log { OnSome result (self.new ≡ record self.old {
+          past = after self.old.cameras self.old.past line;
+        }) }
+        ensures full { IfNone result ((self.new ≡ self.old) × (LOG_LINES < length self.old.past + 2)) }
+        ensures cameras { self.new.cameras ≡ self.old.cameras }
+        ensures begins { IsPrefix (reverse self.old.past) (reverse self.new.past) }
+    {
+        if self.has_room() {
+            Some(self.answer(line))
+        } else {
+            None
+        }
+    }
+
     /// Whatever calls were made: the log is what some lines made, and it keeps the laws.
     pub fn keeps_the_laws(&self)
         ensures made { IsMade self.now.cameras self.now.past }
         ensures laws { KeepsLaws self.now.past }
+        ensures range { list_all (is_logged self.now.cameras) self.now.past ≡ true }
     {
         let _made = &self.log;
     }
@@ -255,7 +275,6 @@ impl Arbiter {
             self.vacate(camera);
         }
     }
-
 }
 
 /// The arbiter of cameras that nobody holds, once it has answered all lines and the last holders have left. It fails only

@@ -8,14 +8,14 @@ mod laws;
 mod line;
 mod session;
 mod session_log;
-
+mod turns;
 
 pub use answer::{Answer, LogLine, Refusal};
 pub use arbiter::{Arbiter, arbitrate};
 pub use laws::every_log_keeps_the_laws;
 pub use line::ArbiterLine;
 pub use session::{CAMERA_LIMIT, CameraId, ClientId, LINE_LIMIT, LOG_LINES, Session};
-
+pub use turns::answer_turn;
 
 #[cfg(test)]
 mod tests;
