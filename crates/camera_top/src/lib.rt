@@ -2,8 +2,6 @@
 #![tactic(auto)]
 
 mod commands;
-#[cfg(test)]
-mod tests;
 
 pub use call_status::Status;
 pub use camera_workers::{Gate, OpenGate};

@@ -12,6 +12,3 @@ pub use laws::{
     candidates_are_read_from_the_parts, kinds_of_candidates, single_steps_are_ready_or_not,
     unsignalled_fences_may_be_signalled,
 };
-
-#[cfg(test)]
-mod tests;

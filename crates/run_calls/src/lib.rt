@@ -7,8 +7,6 @@
 
 mod finish;
 mod runner;
-#[cfg(test)]
-mod tests;
 
 pub use finish::finish_run;
 pub use runner::{PreparedRun, prepare_run, run_call, run_prepared};
