@@ -14,4 +14,6 @@ mod remembered;
 #[cfg(test)]
 mod sensor;
 #[cfg(test)]
+mod stages;
+#[cfg(test)]
 mod types;
