@@ -7,7 +7,7 @@ ghost use Rattle.device_core.specs.View.{with_rows};
 
 use buffer_pool::{Blocks, Parked, Pool};
 use cam_types::{
-    BufferId, Fault, FaultList, Format, Four, FrameNo, Listing, Part, PixelBuf, Profile, RequestId,
+    BufferId, FaultList, Format, Four, FrameNo, Listing, Part, PixelBuf, Profile, RequestId,
     RowView, SensorPlace, Settings, StreamIx, StreamSpec, TargetState, TargetView,
 };
 use device_core::*;
@@ -109,14 +109,6 @@ struct Pools {
     raw: Pool,
     yuv: Pool,
     blocks: Blocks,
-}
-
-fn one_fault(alloc: Global, fault: Fault) -> Result<FaultList, Fail>
-    ensures { IfOk result (λ faults. faults ≡ fault ∷ []) }
-{
-    let mut faults = Listing::new(alloc);
-    faults.push(fault)?;
-    Ok(faults)
 }
 
 /// A device of both streams.
@@ -305,61 +297,6 @@ fn an_early_buffer_is_finished_once_it_is_filled(
     Ok(())
 }
 
-fn a_stop_while_a_fill_is_out_waits_for_the_fill(
-    rt: &impl Abort,
-    alloc: Global,
-) -> Result<(), Fail> {
-    let frame = FrameNo(0);
-    let mut fences = Fences::new(alloc);
-    let (mut device, pools) = sent(rt, alloc, Listing::new(alloc))?;
-    expose(rt, &mut device);
-    let Some(job) = device.take_fill(frame, StreamIx(0), &mut fences) else {
-        panic!(rt; "stream 0 may be filled");
-    };
-    device.begin_stop();
-    assert_eq!(rt; device.fail_next(frame), Some(ErrorEntry::Request(frame)));
-    assert_failed(
-        rt,
-        device.return_failed(frame, StreamIx(1), &mut fences),
-        BufferId(1),
-    );
-    device.fill_done(job.fill());
-    assert_failed(
-        rt,
-        device.return_failed(frame, StreamIx(0), &mut fences),
-        BufferId(0),
-    );
-    end(rt, device, pools, fences);
-    Ok(())
-}
-
-fn a_stop_before_the_shutter_fails_the_frame_whole(
-    rt: &impl Abort,
-    alloc: Global,
-) -> Result<(), Fail> {
-    let frame = FrameNo(0);
-    let mut fences = Fences::new(alloc);
-    let (mut device, pools) = sent(rt, alloc, Listing::new(alloc))?;
-    device.begin_stop();
-    if let Some(job) = device.shutter(1_000_000_000) {
-        panic!(rt; "frame {} is stopped", job.frame().0);
-    }
-    assert_eq!(rt; device.fail_next(frame), Some(ErrorEntry::Request(frame)));
-    assert_failed(
-        rt,
-        device.return_failed(frame, StreamIx(0), &mut fences),
-        BufferId(0),
-    );
-    assert_failed(
-        rt,
-        device.return_failed(frame, StreamIx(1), &mut fences),
-        BufferId(1),
-    );
-    assert_eq!(rt; device.fail_next(frame), None);
-    end(rt, device, pools, fences);
-    Ok(())
-}
-
 fn a_stop_after_the_first_buffer_names_what_is_missing(
     rt: &impl Abort,
     alloc: Global,
@@ -392,131 +329,10 @@ fn a_stop_after_the_first_buffer_names_what_is_missing(
     Ok(())
 }
 
-fn a_request_fault_fails_the_frame_whole(rt: &impl Abort, alloc: Global) -> Result<(), Fail> {
-    let frame = FrameNo(0);
-    let mut fences = Fences::new(alloc);
-    let faults = one_fault(alloc, Fault::Request(frame))?;
-    let (mut device, pools) = sent(rt, alloc, faults)?;
-    expose(rt, &mut device);
-    if let Some(job) = device.take_fill(frame, StreamIx(0), &mut fences) {
-        panic!(rt; "stream {} isn't filled", job.stream().0);
-    }
-    assert_eq!(rt; device.partial(frame), None);
-    assert_eq!(rt; device.fail_next(frame), Some(ErrorEntry::Request(frame)));
-    assert_failed(
-        rt,
-        device.return_failed(frame, StreamIx(0), &mut fences),
-        BufferId(0),
-    );
-    assert_failed(
-        rt,
-        device.return_failed(frame, StreamIx(1), &mut fences),
-        BufferId(1),
-    );
-    assert_eq!(rt; device.fail_next(frame), None);
-    end(rt, device, pools, fences);
-    Ok(())
-}
-
-fn a_result_fault_takes_the_last_part(rt: &impl Abort, alloc: Global) -> Result<(), Fail> {
-    let frame = FrameNo(0);
-    let mut fences = Fences::new(alloc);
-    let faults = one_fault(alloc, Fault::Result(frame))?;
-    let (mut device, pools) = sent(rt, alloc, faults)?;
-    expose(rt, &mut device);
-    fill_yuv(rt, &mut device, &mut fences);
-    let Some(job) = device.take_fill(frame, StreamIx(0), &mut fences) else {
-        panic!(rt; "stream 0 may be filled");
-    };
-    device.fill_done(job.fill());
-    assert_eq!(rt; device.partial(frame), Some(PARTS[0]));
-    assert_eq!(rt; device.partial(frame), Some(PARTS[1]));
-    assert_eq!(rt; device.partial(frame), None);
-    assert_eq!(rt; device.fail_next(frame), Some(ErrorEntry::Result(frame)));
-    assert_eq!(rt; device.fail_next(frame), None);
-    assert_grey(
-        rt,
-        device.deliver(frame, StreamIx(0)),
-        BufferId(0),
-        GREY_RAW,
-    );
-    assert_grey(
-        rt,
-        device.deliver(frame, StreamIx(1)),
-        BufferId(1),
-        GREY_YUV,
-    );
-    end(rt, device, pools, fences);
-    Ok(())
-}
-
-fn a_buffer_fault_takes_one_buffer(rt: &impl Abort, alloc: Global) -> Result<(), Fail> {
-    let frame = FrameNo(0);
-    let mut fences = Fences::new(alloc);
-    let faults = one_fault(alloc, Fault::Buffer(frame, StreamIx(0)))?;
-    let (mut device, pools) = sent(rt, alloc, faults)?;
-    expose(rt, &mut device);
-    fill_yuv(rt, &mut device, &mut fences);
-    if let Some(job) = device.take_fill(frame, StreamIx(0), &mut fences) {
-        panic!(rt; "stream {} isn't filled", job.stream().0);
-    }
-    assert_eq!(rt;
-        device.fail_next(frame),
-        Some(ErrorEntry::Buffer(frame, StreamIx(0)))
-    );
-    assert_failed(
-        rt,
-        device.return_failed(frame, StreamIx(0), &mut fences),
-        BufferId(0),
-    );
-    assert_eq!(rt; device.fail_next(frame), None);
-    assert_grey(
-        rt,
-        device.deliver(frame, StreamIx(1)),
-        BufferId(1),
-        GREY_YUV,
-    );
-    for (number, part) in PARTS {
-        assert_eq!(rt; device.partial(frame), Some((number, part)));
-    }
-    end(rt, device, pools, fences);
-    Ok(())
-}
-
-fn a_device_fault_stops_all(rt: &impl Abort, alloc: Global) -> Result<(), Fail> {
-    let frame = FrameNo(0);
-    let mut fences = Fences::new(alloc);
-    let faults = one_fault(alloc, Fault::Device(frame))?;
-    let (mut device, pools) = sent(rt, alloc, faults)?;
-    if let Some(job) = device.shutter(1_000_000_000) {
-        panic!(rt; "frame {} has no shutter", job.frame().0);
-    }
-    assert_eq!(rt; device.fail_next(frame), Some(ErrorEntry::Device));
-    assert_eq!(rt; device.fail_next(frame), Some(ErrorEntry::Request(frame)));
-    assert_failed(
-        rt,
-        device.return_failed(frame, StreamIx(0), &mut fences),
-        BufferId(0),
-    );
-    assert_failed(
-        rt,
-        device.return_failed(frame, StreamIx(1), &mut fences),
-        BufferId(1),
-    );
-    end(rt, device, pools, fences);
-    Ok(())
-}
-
 #[test]
 fn frames_of_the_device(rt: HostRuntime) -> Result<(), Fail> {
     one_frame_from_its_request_to_its_end(&rt, rt.alloc())?;
     an_early_buffer_is_finished_once_it_is_filled(&rt, rt.alloc())?;
-    a_stop_while_a_fill_is_out_waits_for_the_fill(&rt, rt.alloc())?;
-    a_stop_before_the_shutter_fails_the_frame_whole(&rt, rt.alloc())?;
     a_stop_after_the_first_buffer_names_what_is_missing(&rt, rt.alloc())?;
-    a_request_fault_fails_the_frame_whole(&rt, rt.alloc())?;
-    a_result_fault_takes_the_last_part(&rt, rt.alloc())?;
-    a_buffer_fault_takes_one_buffer(&rt, rt.alloc())?;
-    a_device_fault_stops_all(&rt, rt.alloc())?;
     Ok(())
 }

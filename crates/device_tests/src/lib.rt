@@ -1,4 +1,4 @@
-//! The device, call by call: a frame on two streams, faults, stops and an early return.
+//! The device, call by call: a frame on two streams, an early return and a stop.
 #![tactic(auto)]
 
 #[cfg(test)]

@@ -445,6 +445,112 @@ const EARLY: [Entry; 14] = [
     },
 ];
 
+/// What is done with a service.
+enum Act {
+    /// These steps are made.
+    Make(&'static [StepName]),
+    /// The exposure that is due begins, and ends.
+    Expose,
+    /// A stage fills the frame's buffer, while these steps are made.
+    Fill(FrameNo, &'static [StepName]),
+}
+
+/// The trace that comes of it, or entries of that; with early returns, the trace.
+#[derive(Clone, Copy)]
+enum Want {
+    Whole(&'static [Entry]),
+    At(Places),
+    Early(&'static [Entry]),
+}
+
+/// A flush while a stage fills the first of four frames.
+const FLUSH: &[Act] = &[
+    Act::Make(SUBMITTED),
+    Act::Make(SENT_AGAIN),
+    Act::Expose,
+    Act::Make(LOOK_TOLD),
+    Act::Fill(FRAME, FLUSH_BEGUN),
+    Act::Make(FLUSH_ENDED),
+];
+
+/// A buffer that fails keeps its fence, and is sent with it once more.
+const FAILED_AND_SENT_AGAIN: &[Act] = &[
+    Act::Make(SUBMITTED),
+    Act::Expose,
+    Act::Make(TOLD_FIRST),
+    Act::Fill(FRAME, &[]),
+    Act::Make(RELEASED_UNSIGNALLED),
+    Act::Make(SENT_WITH_ITS_FENCE),
+    Act::Expose,
+    Act::Make(TOLD_THIRD),
+    Act::Fill(THIRD, &[]),
+    Act::Make(&[
+        StepName::Deliver(THIRD, STREAM),
+        StepName::Release(BufferId(0)),
+        StepName::Signal(FenceNo(1)),
+        StepName::Client,
+    ]),
+];
+
+/// Behind a second configuration the first frame's settings are new.
+const RENEWED: &[Act] = &[
+    Act::Make(SUBMITTED),
+    Act::Make(SUBMITTED_AGAIN),
+    Act::Expose,
+    Act::Expose,
+    Act::Make(TOLD_FIRST),
+    Act::Make(TOLD_SECOND),
+    Act::Fill(FRAME, &[]),
+    Act::Make(&[
+        StepName::Deliver(FRAME, STREAM),
+        StepName::Release(BufferId(0)),
+        StepName::Signal(FenceNo(0)),
+    ]),
+    Act::Fill(SECOND, &[]),
+    Act::Make(&[
+        StepName::Deliver(SECOND, STREAM),
+        StepName::Release(BufferId(1)),
+        StepName::Signal(FenceNo(1)),
+    ]),
+    Act::Make(RECONFIGURED),
+    Act::Expose,
+    Act::Make(TOLD_THIRD),
+    Act::Fill(THIRD, &[]),
+    Act::Make(&[
+        StepName::Deliver(THIRD, STREAM),
+        StepName::Release(BufferId(5)),
+        StepName::Signal(FenceNo(2)),
+        StepName::Client,
+    ]),
+];
+
+/// A buffer comes back early, and a flush stops its frame.
+const RETURNED_EARLY: &[Act] = &[
+    Act::Make(SUBMITTED),
+    Act::Expose,
+    Act::Fill(FRAME, EARLY_THEN_FLUSH),
+    Act::Make(LATE_FILL),
+];
+
+/// The three metadata results of each frame.
+const TOLD_FIRST: &[StepName] = &[
+    StepName::Partial(FRAME),
+    StepName::Partial(FRAME),
+    StepName::Partial(FRAME),
+];
+
+const TOLD_SECOND: &[StepName] = &[
+    StepName::Partial(SECOND),
+    StepName::Partial(SECOND),
+    StepName::Partial(SECOND),
+];
+
+const TOLD_THIRD: &[StepName] = &[
+    StepName::Partial(THIRD),
+    StepName::Partial(THIRD),
+    StepName::Partial(THIRD),
+];
+
 fn add<T: Drop>(list: &mut Listing<T>, entry: T) -> Result<(), NoMemory> {
     if list.len() == u32::MAX {
         return Ok(());
@@ -595,6 +701,14 @@ fn fill_through(service: &mut Service, frame: FrameNo, steps: &[StepName]) {
     }
 }
 
+fn act_on(service: &mut Service, act: &Act) {
+    match act {
+        Act::Make(steps) => make_all(service, steps),
+        Act::Expose => expose(service),
+        Act::Fill(frame, steps) => fill_through(service, *frame, steps),
+    }
+}
+
 /// The entries stand at their places of the trace.
 fn assert_places(rt: &impl Abort, service: &Service, places: Places) {
     for (place, entry) in places {
@@ -626,63 +740,23 @@ fn one_frame(rt: &impl Abort, alloc: Global) -> Result<(), Fail> {
     Ok(())
 }
 
-fn flush_while_a_fill_is_out(rt: &impl Abort, alloc: Global) -> Result<(), Fail> {
-    let mut service = open(alloc, burst_and_flush(alloc)?, false)?;
-    make_all(&mut service, SUBMITTED);
-    make_all(&mut service, SENT_AGAIN);
-    expose(&mut service);
-    make_all(&mut service, LOOK_TOLD);
-    fill_through(&mut service, FRAME, FLUSH_BEGUN);
-    make_all(&mut service, FLUSH_ENDED);
-    assert_eq!(rt; service.trace(), &FLUSHED[..]);
-    end(rt, service);
-    Ok(())
-}
-
-fn failed_buffer_keeps_its_fence(rt: &impl Abort, alloc: Global) -> Result<(), Fail> {
-    let mut service = open(alloc, capture_flush_capture(alloc)?, false)?;
-    make_all(&mut service, SUBMITTED);
-    expose(&mut service);
-    tell_metadata(&mut service, FRAME);
-    fill_through(&mut service, FRAME, &[]);
-    make_all(&mut service, RELEASED_UNSIGNALLED);
-    make_all(&mut service, SENT_WITH_ITS_FENCE);
-    assert_places(rt, &service, FENCE_KEPT);
-    expose(&mut service);
-    tell_metadata(&mut service, THIRD);
-    hand_back(&mut service, THIRD, BufferId(0), FenceNo(1));
-    let _ = service.client();
-    end(rt, service);
-    Ok(())
-}
-
-fn reconfiguration_marks_new(rt: &impl Abort, alloc: Global) -> Result<(), Fail> {
-    let mut service = open(alloc, captures_and_reconfigure(alloc)?, false)?;
-    make_all(&mut service, SUBMITTED);
-    make_all(&mut service, SUBMITTED_AGAIN);
-    expose(&mut service);
-    expose(&mut service);
-    tell_metadata(&mut service, FRAME);
-    tell_metadata(&mut service, SECOND);
-    hand_back(&mut service, FRAME, BufferId(0), FenceNo(0));
-    hand_back(&mut service, SECOND, BufferId(1), FenceNo(1));
-    make_all(&mut service, RECONFIGURED);
-    assert_places(rt, &service, MARKED_NEW);
-    expose(&mut service);
-    tell_metadata(&mut service, THIRD);
-    hand_back(&mut service, THIRD, BufferId(5), FenceNo(2));
-    let _ = service.client();
-    end(rt, service);
-    Ok(())
-}
-
-fn early_return_then_flush(rt: &impl Abort, alloc: Global) -> Result<(), Fail> {
-    let mut service = open(alloc, capture_and_flush(alloc)?, true)?;
-    make_all(&mut service, SUBMITTED);
-    expose(&mut service);
-    fill_through(&mut service, FRAME, EARLY_THEN_FLUSH);
-    make_all(&mut service, LATE_FILL);
-    assert_eq!(rt; service.trace(), &EARLY[..]);
+/// Opens a service of the commands, does this with it, and ends it; its trace is this one, or has these entries.
+fn plays(
+    rt: &impl Abort,
+    alloc: Global,
+    commands: CommandList,
+    acts: &[Act],
+    want: Want,
+) -> Result<(), Fail> {
+    let early = matches!(want, Want::Early(_));
+    let mut service = open(alloc, commands, early)?;
+    for act in acts {
+        act_on(&mut service, act);
+    }
+    match want {
+        Want::Whole(trace) | Want::Early(trace) => assert_eq!(rt; service.trace(), trace),
+        Want::At(places) => assert_places(rt, &service, places),
+    }
     end(rt, service);
     Ok(())
 }
@@ -690,9 +764,26 @@ fn early_return_then_flush(rt: &impl Abort, alloc: Global) -> Result<(), Fail> {
 #[test]
 fn worked_runs_call_by_call(rt: HostRuntime) -> Result<(), Fail> {
     one_frame(&rt, rt.alloc())?;
-    flush_while_a_fill_is_out(&rt, rt.alloc())?;
-    failed_buffer_keeps_its_fence(&rt, rt.alloc())?;
-    reconfiguration_marks_new(&rt, rt.alloc())?;
-    early_return_then_flush(&rt, rt.alloc())?;
+    let alloc = rt.alloc();
+    let flushed = Want::Whole(&FLUSHED);
+    plays(&rt, alloc, burst_and_flush(alloc)?, FLUSH, flushed)?;
+    let fence_kept = Want::At(FENCE_KEPT);
+    plays(
+        &rt,
+        alloc,
+        capture_flush_capture(alloc)?,
+        FAILED_AND_SENT_AGAIN,
+        fence_kept,
+    )?;
+    let marked_new = Want::At(MARKED_NEW);
+    plays(
+        &rt,
+        alloc,
+        captures_and_reconfigure(alloc)?,
+        RENEWED,
+        marked_new,
+    )?;
+    let early = Want::Early(&EARLY);
+    plays(&rt, alloc, capture_and_flush(alloc)?, RETURNED_EARLY, early)?;
     Ok(())
 }

@@ -1,7 +1,7 @@
 //! Worked bytes of settings and results.
 use cam_types::{Part, Settings};
 use meta_rules::*;
-use metadata::{AddRefused, ByteList, Int32List, Packed, PackedRefused, Values};
+use metadata::{Int32List, Packed, Values};
 use std::alloc::Global;
 use std::process::Abort;
 use std::test::*;
@@ -107,6 +107,7 @@ fn settings_and_their_list(rt: &impl Abort, alloc: Global) -> Result<(), Fail> {
     assert_eq!(rt; settings_of(alloc, &packed), Ok(given));
     let tags = [2_147_483_648, 2_147_483_649, 2_147_483_650, 2_147_483_651];
     assert!(rt; packed.entries().iter().map(|e| e.tag).eq(tags));
+    assert_eq!(rt; [PATTERN, LEVEL, EXPOSURE].as_slice(), &tags[..3]);
     let spelled = packed.to_bytes(alloc)?;
     assert_eq!(rt; spelled.len(), 88);
     assert_eq!(rt;
@@ -135,73 +136,10 @@ fn settings_and_their_list(rt: &impl Abort, alloc: Global) -> Result<(), Fail> {
     Ok(())
 }
 
-/// Bytes made of those of part 1: one byte changed, their front, or one byte more.
-#[derive(Clone, Copy)]
-enum Hostile {
-    Changed(usize, u8),
-    Front(usize),
-    Longer,
-}
-
-/// What is read of them.
-const HOSTILE: &[(Hostile, Option<PackedRefused>)] = &[
-    (Hostile::Changed(0, 2), Some(PackedRefused::BadHeader)),
-    (Hostile::Longer, Some(PackedRefused::BadHeader)),
-    (Hostile::Changed(20, 0), Some(PackedRefused::BadCount)),
-    (Hostile::Changed(29, 1), Some(PackedRefused::BadType)),
-    (Hostile::Changed(25, 1), Some(PackedRefused::Overlap)),
-    (Hostile::Changed(20, 5), Some(PackedRefused::Overlap)),
-    (Hostile::Changed(16, 2), Some(PackedRefused::Unsorted)),
-    (Hostile::Changed(32, 0), Some(PackedRefused::Repeated)),
-    (Hostile::Changed(28, 2), Some(PackedRefused::BadType)),
-    (Hostile::Front(15), Some(PackedRefused::Short)),
-    (Hostile::Front(47), Some(PackedRefused::Short)),
-    (Hostile::Front(48), None),
-];
-
-fn hostile_bytes_and_the_list_of_a_part(rt: &impl Abort, alloc: Global) -> Result<(), Fail> {
-    for (bytes, want) in HOSTILE {
-        let mut longer = [0; 49];
-        longer[..48].copy_from_slice(&LOOK);
-        let len = match *bytes {
-            Hostile::Changed(at, value) => {
-                assert!(rt; at < 48);
-                longer[at] = value;
-                48
-            }
-            Hostile::Front(len) => len,
-            Hostile::Longer => 49,
-        };
-        assert!(rt; len <= 49);
-        assert_eq!(rt; Packed::read(alloc, &longer[..len]).err(), *want);
-    }
-
-    let mut list = Packed::new(alloc);
-    let mut level = Int32List::new(alloc);
-    level.push(100)?;
-    let mut pattern = ByteList::new(alloc);
-    pattern.push(0)?;
-    let mut other = ByteList::new(alloc);
-    other.push(1)?;
-    assert_eq!(rt; list.add(LEVEL, Values::Int32(level)), Ok(()));
-    assert_eq!(rt; list.add(PATTERN, Values::Bytes(pattern)), Ok(()));
-    assert_eq!(rt; list.to_bytes(alloc)?.as_slice(), LOOK.as_slice());
-    assert_eq!(rt;
-        list.add(PATTERN, Values::Bytes(other)),
-        Err(AddRefused::Repeated)
-    );
-    assert_eq!(rt;
-        settings_of(alloc, &list),
-        Err(SettingsRefused::BadSetting { tag: EXPOSURE })
-    );
-    Ok(())
-}
-
 #[test]
 fn parts_and_settings_are_packed(rt: HostRuntime) -> Result<(), Fail> {
     parts_and_their_bytes(&rt, rt.alloc())?;
     ranges_and_templates(&rt);
     settings_and_their_list(&rt, rt.alloc())?;
-    hostile_bytes_and_the_list_of_a_part(&rt, rt.alloc())?;
     Ok(())
 }
