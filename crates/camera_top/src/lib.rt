@@ -4,5 +4,5 @@
 mod commands;
 
 pub use call_status::Status;
-pub use camera_workers::{Gate, OpenGate};
 pub use commands::{camera_main, help_call};
+pub use run_calls::{Gate, OpenGate};
