@@ -60,7 +60,7 @@ fn row(frame: u32, first: TargetView, second: TargetView) -> RowView {
 }
 
 /// Admits a row of the streams 1 and 3, with the parcels 10 and 11 for frame 1, 20 and 21 for frame 2, and so on.
-#[tactic(auto, using(crate::proofs::RowsLemmas::below_push))]
+#[tactic(auto, using(inflight_table::proofs::RowsLemmas::below_push))]
 fn admit(table: &mut Table<Parcel>, frame: u32) -> Result<(), Numbers>
     requires later { IsTrue (are_below frame table.old.rows) }
     requires few { frame < 100 }
