@@ -1,24 +1,13 @@
 -- For each rule a short log whose last event breaks it, the newest event first.
-use Rattle.std.specs.Prelude.{ℕ, true, false, List, [], ◌∷◌, Some, None}
-use Rattle.hal_model.specs.declared.event.Direction.{Direction}
+use Rattle.std.specs.Prelude.{true, false, List, [], ◌∷◌, Some, None}
 use Rattle.hal_model.specs.declared.event.Direction.TheVariants.{Input, Output, Bidirectional}
-use Rattle.hal_model.specs.declared.event.HalError.{HalError}
-use Rattle.hal_model.specs.declared.event.HalError.TheVariants.{NoDevice as enodev, Other}
 use Rattle.hal_model.specs.declared.event.HalEvent.{HalEvent}
-use Rattle.hal_model.specs.declared.event.HalEvent.TheVariants.{OpenBegin, OpenOk, InitBegin, InitOk, InitError, TemplateBegin, TemplateOk, TemplateNull, ConfigureBegin, ConfigureOk, ConfigureError, RequestBegin, RequestOk, RequestError, Shutter, ErrorRequest, ErrorResult, ErrorBuffer, ErrorDevice, Results, FlushBegin, FlushOk, FlushError, CloseBegin, CloseEnd}
-use Rattle.hal_model.specs.declared.event.HalFence.TheVariants.{Absent as NoFence, Number}
-use Rattle.hal_model.specs.declared.event.HalFormat.TheVariants.{Yuv}
-use Rattle.hal_model.specs.declared.event.HalStream.{HalStream}
-use Rattle.hal_model.specs.declared.event.HalTarget.{HalTarget}
-use Rattle.hal_model.specs.declared.event.Pack.TheVariants.{Absent, Empty, Entries}
-use Rattle.hal_model.specs.declared.event.Returned.{Returned}
-use Rattle.hal_model.specs.declared.event.Status.{Status}
+use Rattle.hal_model.specs.declared.event.HalEvent.TheVariants.{InitBegin, InitOk, ConfigureBegin, ConfigureOk, RequestBegin, RequestOk, RequestError, Shutter, ErrorRequest, ErrorResult, ErrorBuffer, ErrorDevice, Results, FlushBegin, FlushOk, CloseBegin, CloseEnd}
+use Rattle.hal_model.specs.declared.event.Pack.TheVariants.{Absent}
 use Rattle.hal_model.specs.declared.event.Status.TheVariants.{Filled, Failed, Unknown}
-use Rattle.hal_model.specs.declared.event.StreamMax.{StreamMax}
-use Rattle.hal_model.specs.declared.rule.Breach.{Breach}
 use Rattle.hal_model.specs.declared.rule.Rule.{Rule}
 use Rattle.hal_model.specs.declared.rule.Rule.TheVariants.{InitOrder, InitTwice, NoConfiguration, NoOutput, NoSettings, TwoInputs, ConfigureInFlight, OverlappingCalls, CallAfterClose, FrameNumber, HeldBuffer, RepeatedStream, TooManyBuffers, UnknownStream, AcceptedBeforeInit, AcceptedInitTwice, AcceptedDead, AcceptedNoOutput, AcceptedTwoInputs, AcceptedNoSettings, AcceptedUnknownStream, NoMaxBuffers, RefusedRequest, RefusedAfterCallback, UnknownFrame, CallbackAfterClose, CallbackAfterFailure, FailedWithFrames, ShutterTwice, ShutterAfterRequestError, EmptyResult, PartialNumber, PartialTwice, MetadataAfterRequestError, MetadataOrder, NotAtDevice, BufferStatus, BufferOrder, FailedBufferOrder, GoodAfterError, AcquireFence, ReleaseFence, ErrorTwice, ErrorBesideRequestError, RequestErrorLate, ErrorForGoodBuffer, ErrorUnknownStream, FlushLeft, CloseLeft, FailedWithoutNotice, NoShutter}
-use Rattle.hal_model.specs.Worked.{asks, asks_same, clean, einval, enosys, gives, initialized, metadata, most, one_stream, released, returned, sent, stream, target, two_sent, two_streams, whole, with_acquire, with_fence}
+use Rattle.hal_model.specs.Worked.{asks, asks_same, clean, einval, gives, initialized, metadata, most, one_stream, released, returned, sent, stream, target, two_sent, whole, with_acquire, with_fence}
 
 abbrev pub broken : Rule → List HalEvent
 broken InitOrder = ConfigureBegin None (stream 0 Output ∷ []) ∷ []
