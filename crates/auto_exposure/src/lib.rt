@@ -14,6 +14,3 @@ pub use laws::{
 };
 pub use search::Ae;
 pub use state::AeState;
-
-#[cfg(test)]
-mod tests;

@@ -7,6 +7,3 @@ mod script;
 
 pub use line::{AutoLine, LineList};
 pub use run::{Drawn, draw_up};
-
-#[cfg(test)]
-mod tests;

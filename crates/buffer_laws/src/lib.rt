@@ -10,6 +10,3 @@ pub use laws::{
     fences_are_released_and_signalled_once,
 };
 pub use worked::breaches_are_seen;
-
-#[cfg(test)]
-mod tests;

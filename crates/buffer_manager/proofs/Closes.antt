@@ -16,7 +16,7 @@ use Rattle.buffer_pool.specs.Opened.{is_whole}
 use Rattle.buffer_pool.specs.Parked.{number}
 use Rattle.buffer_pool.specs.declared.parked.Parked.{Parked}
 use Rattle.trace_model.specs.Place.{Place, Pool, is_at}
-use Rattle.pool_bridge.specs.Resting.{Resting, listed, resting}
+use Rattle.buffer_manager.specs.Resting.{Resting, listed, resting}
 use Rattle.buffer_manager.specs.declared.slot.Slot.{Slot}
 use Rattle.buffer_manager.specs.declared.slot.Slot.TheVariants.{Away}
 use Rattle.buffer_manager.specs.declared.stream.Stream.{Stream}

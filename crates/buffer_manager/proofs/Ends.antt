@@ -8,7 +8,7 @@ use Rattle.cam_types.specs.declared.number.FenceNo.{FenceNo}
 use Rattle.buffer_pool.specs.Parked.{has_made_waiter, waits_below}
 use Rattle.buffer_pool.specs.declared.parked.Parked.{Parked}
 use Rattle.trace_model.specs.Place.{Place, Pool, is_at}
-use Rattle.pool_bridge.specs.Resting.{Resting, listed, resting}
+use Rattle.buffer_manager.specs.Resting.{Resting, listed, resting}
 use Rattle.buffer_manager.specs.declared.slot.Slot.{Slot}
 use Rattle.buffer_manager.specs.declared.slot.Slot.TheVariants.{Home, Away, Filled, Early, Late}
 use Rattle.buffer_manager.specs.declared.stream.Stream.{Stream}

@@ -12,3 +12,4 @@ pub mod Closes
 pub mod Opens
 pub mod Accepted
 pub mod Readings
+pub mod Resting

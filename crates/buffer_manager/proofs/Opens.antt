@@ -19,7 +19,7 @@ use Rattle.buffer_pool.specs.Opened.{IsOpened, has_no_waiter, is_whole, shows_pi
 use Rattle.buffer_pool.specs.Parked.{number}
 use Rattle.buffer_pool.specs.declared.parked.Parked.{Parked}
 use Rattle.trace_model.specs.Place.{Place, Pool, is_at}
-use Rattle.pool_bridge.specs.Resting.{Resting, listed, resting}
+use Rattle.buffer_manager.specs.Resting.{Resting, listed, resting}
 use Rattle.buffer_manager.specs.declared.slot.Slot.{Slot}
 use Rattle.buffer_manager.specs.declared.slot.Slot.TheVariants.{Home, Away}
 use Rattle.buffer_manager.specs.declared.stream.Stream.{Stream}

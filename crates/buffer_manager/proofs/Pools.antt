@@ -10,8 +10,8 @@ use Rattle.buffer_pool.specs.Home.{is_home, is_of, with_parked}
 use Rattle.buffer_pool.specs.Parked.{number}
 use Rattle.buffer_pool.specs.declared.parked.Parked.{Parked}
 use Rattle.trace_model.specs.Place.{Place, Pool, is_at}
-use Rattle.pool_bridge.specs.Resting.{ButAt, Resting, listed, resting}
-use Rattle.pool_bridge.proofs.Resting.{give_is}
+use Rattle.buffer_manager.specs.Resting.{ButAt, Resting, listed, resting}
+use Rattle.buffer_manager.proofs.Resting.{give_is}
 use Rattle.buffer_manager.specs.declared.stream.Stream.{Stream}
 use Rattle.buffer_manager.specs.declared.slot.Slot.{Slot}
 use Rattle.buffer_manager.specs.declared.slot.Slot.TheVariants.{Home}

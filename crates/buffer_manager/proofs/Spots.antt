@@ -5,7 +5,7 @@ use Rattle.std.proofs.lemmas.Bool.{cases_Bool, cases_eq, false≢true}
 use Rattle.std.proofs.lemmas.Bool.Decides.{nat_tests}
 use Rattle.std.proofs.lemmas.List.{get_or-set_same, get_or-set_other}
 use Rattle.trace_model.specs.Place.{Place, Pool, Device, Client, is_at}
-use Rattle.pool_bridge.specs.Resting.{listed}
+use Rattle.buffer_manager.specs.Resting.{listed}
 use Rattle.buffer_manager.specs.declared.slot.Slot.{Slot}
 use Rattle.buffer_manager.specs.declared.slot.Slot.TheVariants.{Home, Away, Filled, Early, Late}
 use Rattle.buffer_manager.specs.Slots.{awaited_of, is_timely, place_of, slot_at}

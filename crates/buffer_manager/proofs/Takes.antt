@@ -16,8 +16,8 @@ use Rattle.buffer_pool.specs.declared.parked.Parked.{Parked}
 use Rattle.trace_model.specs.declared.entry.Sent.{Sent}
 use Rattle.trace_model.specs.Place.{Place, Pool, is_at}
 use Rattle.buffer_facts.specs.Homes.{Homes, fence_in, least_in, place_in}
-use Rattle.pool_bridge.specs.Resting.{Resting, listed, resting}
-use Rattle.pool_bridge.proofs.Resting.{take_is}
+use Rattle.buffer_manager.specs.Resting.{Resting, listed, resting}
+use Rattle.buffer_manager.proofs.Resting.{take_is}
 use Rattle.buffer_manager.specs.declared.slot.Slot.{Slot}
 use Rattle.buffer_manager.specs.declared.slot.Slot.TheVariants.{Away}
 use Rattle.buffer_manager.specs.declared.stream.Stream.{Stream}

@@ -10,7 +10,7 @@ use Rattle.buffer_pool.specs.Blocks.{Stock}
 use Rattle.buffer_pool.specs.Parked.{number}
 use Rattle.buffer_pool.specs.declared.parked.Parked.{Parked}
 use Rattle.cam_types.specs.declared.stream.StreamSpec.{StreamSpec}
-use Rattle.pool_bridge.specs.Resting.{listed, resting}
+use Rattle.buffer_manager.specs.Resting.{listed, resting}
 use Rattle.buffer_manager.specs.declared.stream.Stream.{Stream}
 use Rattle.buffer_manager.specs.declared.slot.Slot.{Slot}
 use Rattle.buffer_manager.specs.declared.slot.Slot.TheVariants.{Away}

@@ -4,3 +4,4 @@ pub mod Kept
 pub mod Streams
 pub mod Taking
 pub mod Closing
+pub mod Resting

@@ -19,6 +19,3 @@ mod take;
 
 pub use manager::BufferManager;
 pub use take::asks;
-
-#[cfg(test)]
-mod tests;

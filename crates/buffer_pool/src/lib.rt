@@ -10,6 +10,3 @@ mod slots;
 pub use blocks::Blocks;
 pub use parked::Parked;
 pub use pool::{POOL_LIMIT, Pool};
-
-#[cfg(test)]
-mod tests;

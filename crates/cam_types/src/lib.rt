@@ -50,6 +50,3 @@ pub use row::{RowFaults, RowVerdict, RowView, SensorPlace, TargetState, TargetVi
 pub use script::{Command, CommandList, Fault, FaultList, PickList, Script, Word};
 pub use stream::{Format, SpecList, StreamSpec, frame_bytes};
 pub use worked::{worked_colours, worked_sensor_values};
-
-#[cfg(test)]
-mod tests;

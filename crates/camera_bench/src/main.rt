@@ -3,8 +3,6 @@
 
 mod measure;
 mod report;
-#[cfg(test)]
-mod tests;
 
 use std::{env, io};
 

@@ -2,9 +2,7 @@
 #![tactic(auto)]
 
 mod commands;
-#[cfg(test)]
-mod tests;
 
 pub use call_status::Status;
-pub use camera_workers::{Gate, OpenGate};
 pub use commands::{camera_main, help_call};
+pub use run_calls::{Gate, OpenGate};

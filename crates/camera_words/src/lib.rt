@@ -4,6 +4,3 @@
 mod form;
 
 pub use form::{Form, form_of};
-
-#[cfg(test)]
-mod tests;

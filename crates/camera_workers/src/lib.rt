@@ -10,8 +10,6 @@ mod gate;
 mod idle;
 mod loops;
 mod part;
-#[cfg(test)]
-mod tests;
 mod turns;
 mod workers;
 

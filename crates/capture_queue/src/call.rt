@@ -8,7 +8,7 @@ ghost use Rattle.trace_model.specs.Calls.{command_at, is_repeat, word_of};
 ghost use Rattle.trace_model.specs.Queue.{is_clearing_word};
 ghost use Rattle.request_queue.specs.Requests.{named};
 ghost use Rattle.queue_facts.specs.Turns.{noted};
-ghost use Rattle.queue_bridge.specs.Views.{turns_of};
+ghost use Rattle.capture_queue.specs.Views.{turns_of};
 ghost use Rattle.capture_queue.specs.Captures.{HasPlace};
 
 use cam_types::{Command, Item, ItemList, RequestId};

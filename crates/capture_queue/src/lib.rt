@@ -10,6 +10,3 @@ mod call;
 mod queue;
 
 pub use queue::CaptureQueue;
-
-#[cfg(test)]
-mod tests;

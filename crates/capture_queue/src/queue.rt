@@ -33,7 +33,7 @@ pub struct CaptureQueue {
 
 impl Model for CaptureQueue {
     ghost use Rattle.std.specs.Prelude.{length, vec_capacity};
-    ghost use Rattle.queue_bridge.specs.Views.{turns_of};
+    ghost use Rattle.capture_queue.specs.Views.{turns_of};
     ghost use Rattle.capture_queue.specs.Captures.{Captures};
     ghost use Rattle.capture_queue.specs.Room.{IsKept};
 

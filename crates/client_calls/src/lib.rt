@@ -13,6 +13,3 @@ mod streams;
 
 pub use around::Around;
 pub use calls::ClientCalls;
-
-#[cfg(test)]
-mod tests;

@@ -11,6 +11,3 @@ mod metadata;
 mod retire;
 
 pub use device::Device;
-
-#[cfg(test)]
-mod tests;

@@ -20,6 +20,3 @@ pub use buffers::{FilledBuf, Held, WaitingBuf};
 pub use plan::spec_at;
 pub use readouts::{HomeReadout, Scratch, Slot};
 pub use store::Store;
-
-#[cfg(test)]
-mod tests;

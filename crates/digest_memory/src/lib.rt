@@ -12,6 +12,3 @@ mod memory;
 pub use key::PictureKey;
 pub use laws::a_picture_is_that_of_its_key;
 pub use memory::{DigestMemory, REMEMBERED_LIMIT};
-
-#[cfg(test)]
-mod tests;

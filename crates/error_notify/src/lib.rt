@@ -6,6 +6,3 @@ mod next;
 
 pub use entry::ErrorEntry;
 pub use next::next_error;
-
-#[cfg(test)]
-mod tests;

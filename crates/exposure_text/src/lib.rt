@@ -12,6 +12,3 @@ mod text;
 pub use reading::read;
 pub use refusal::refused_text;
 pub use text::{AutoText, Scene, SceneList};
-
-#[cfg(test)]
-mod tests;

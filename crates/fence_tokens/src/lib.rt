@@ -6,6 +6,3 @@ mod token;
 
 pub use fences::Fences;
 pub use token::{Signaller, Waiter};
-
-#[cfg(test)]
-mod tests;

@@ -6,6 +6,3 @@ mod laws;
 
 pub use due::verdict;
 pub use laws::{a_stop_leaves_nothing_out, no_error_without_a_cause};
-
-#[cfg(test)]
-mod tests;

@@ -7,6 +7,3 @@ mod laws;
 pub use laws::{
     items_end_once, metadata_ends_in_order, metadata_ends_once, partials_count_up, shutters_rise,
 };
-
-#[cfg(test)]
-mod tests;

@@ -12,6 +12,3 @@ pub use laws::{
     script_of_one_word,
 };
 pub use script::generate;
-
-#[cfg(test)]
-mod tests;

@@ -11,6 +11,3 @@ pub use laws::what_is_parked_is_in_reach;
 pub use mark::Mark;
 pub use row::Row;
 pub use table::Table;
-
-#[cfg(test)]
-mod tests;

@@ -27,6 +27,3 @@ pub use writing::write_all;
 
 /// Want of memory.
 pub type NoMemory = AllocError;
-
-#[cfg(test)]
-mod tests;

@@ -4,6 +4,3 @@
 mod item;
 
 pub use item::{item_refusal, items_refusal, list_refusal};
-
-#[cfg(test)]
-mod tests;

@@ -14,6 +14,3 @@ pub use laws::{
     there_is_one_job_more,
 };
 pub use name::JobName;
-
-#[cfg(test)]
-mod tests;

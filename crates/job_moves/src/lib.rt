@@ -13,6 +13,3 @@ pub use laws::{
     jobs_that_end_are_out, no_job_is_out_at_first, no_job_is_out_at_rest,
     other_moves_leave_the_jobs, some_job_is_taken,
 };
-
-#[cfg(test)]
-mod tests;

@@ -5,5 +5,3 @@
 pub mod answer;
 pub mod over;
 pub mod since;
-#[cfg(test)]
-mod tests;

@@ -8,5 +8,3 @@ pub mod entry;
 pub mod fault;
 pub mod number;
 pub mod target;
-#[cfg(test)]
-mod tests;

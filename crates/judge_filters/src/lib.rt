@@ -7,12 +7,8 @@ pub mod configuration;
 pub mod fence;
 pub mod frame;
 pub mod next;
-#[cfg(test)]
-mod next_tests;
 pub mod open;
 pub mod order;
 pub mod place;
 pub mod queue;
 pub mod stopping;
-#[cfg(test)]
-mod tests;

@@ -4,5 +4,3 @@
 
 pub mod pool;
 pub mod room;
-#[cfg(test)]
-mod tests;

@@ -7,5 +7,3 @@ pub mod acceptance;
 pub mod queue;
 pub mod refusal;
 pub mod reply;
-#[cfg(test)]
-mod tests;

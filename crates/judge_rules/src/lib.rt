@@ -11,5 +11,3 @@ pub mod queued;
 pub mod rule;
 pub mod same;
 pub mod sensor;
-#[cfg(test)]
-mod tests;

@@ -7,5 +7,3 @@ pub mod mark;
 pub mod rule;
 pub mod stream;
 pub mod target;
-#[cfg(test)]
-mod tests;

@@ -5,8 +5,6 @@
 mod line;
 mod part;
 mod profile;
-#[cfg(test)]
-mod tests;
 
 pub use line::{refused_script_text, refused_trace_text, verdict_text};
 pub use part::{Parts, parts_of};

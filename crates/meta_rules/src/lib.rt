@@ -13,6 +13,3 @@ pub use part::{PART_BYTES, PartBytes, part_bytes, part_of};
 pub use preset::template;
 pub use rule::{EXPOSURE, LEVEL, PATTERN, SENSITIVITY, TIMESTAMP, Template, range_fault};
 pub use settings::{SettingsRefused, packed_of, settings_of};
-
-#[cfg(test)]
-mod tests;

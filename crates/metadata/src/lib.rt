@@ -19,6 +19,3 @@ pub use limit::{AREA_LIMIT, COUNT_LIMIT, ENTRY_LIMIT};
 pub use packed::Packed;
 pub use refused::{AddRefused, PackedRefused};
 pub use values::{ByteList, Int32List, Int64List, Ratio, RationalList, Values};
-
-#[cfg(test)]
-mod tests;

@@ -28,9 +28,16 @@ fn put_int32s(out: &mut Vec<u8>, numbers: &[i32]) -> Result<(), NoMemory>
     ensures fit { OnOk result (AllByRecursion (FitsSigned w32) numbers.now) }
 {
     for n in numbers {
-        out.extend_from_slice(&n.to_le_bytes())?;
+        put_int32(out, *n)?;
     }
     Ok(())
+}
+
+fn put_int32(out: &mut Vec<u8>, value: i32) -> Result<(), NoMemory>
+    ensures bytes { OnOk result (out.new.items ≡ out.old.items ++ int32_bytes value) }
+    ensures fit { FitsSigned w32 value }
+{
+    out.extend_from_slice(&value.to_le_bytes())
 }
 
 fn put_int64s(out: &mut Vec<u8>, numbers: &[i64]) -> Result<(), NoMemory>
@@ -64,8 +71,8 @@ fn put_ratio(out: &mut Vec<u8>, ratio: Ratio) -> Result<(), NoMemory>
     ensures bytes { OnOk result (out.new.items ≡ out.old.items ++ ratio_bytes ratio) }
     ensures fit { RatioFits ratio }
 {
-    out.extend_from_slice(&ratio.numerator.to_le_bytes())?;
-    out.extend_from_slice(&ratio.denominator.to_le_bytes())
+    put_int32(out, ratio.numerator)?;
+    put_int32(out, ratio.denominator)
 }
 
 fn put_payload(out: &mut Vec<u8>, values: &Values) -> Result<(), NoMemory>

@@ -7,6 +7,3 @@ mod row;
 
 pub use book::OrderBook;
 pub use laws::{a_buffer_comes_after_all_below, metadata_ends_after_all_below};
-
-#[cfg(test)]
-mod tests;

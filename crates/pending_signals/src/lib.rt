@@ -4,6 +4,3 @@
 mod pending;
 
 pub use pending::PendingSignals;
-
-#[cfg(test)]
-mod tests;

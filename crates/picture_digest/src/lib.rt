@@ -2,7 +2,5 @@
 #![tactic(auto)]
 
 mod canvas;
-#[cfg(test)]
-mod tests;
 
 pub use canvas::Canvas;

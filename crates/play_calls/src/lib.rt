@@ -6,3 +6,4 @@ mod prepared;
 
 pub use player::{gen_call, play_call};
 pub use prepared::{Prepared, play_behind, play_prepared, prepare};
+pub use run_output::Output;

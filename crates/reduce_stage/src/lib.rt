@@ -4,7 +4,5 @@
 
 mod plane;
 mod smaller;
-#[cfg(test)]
-mod tests;
 
 pub use smaller::reduce;

@@ -5,6 +5,3 @@ mod call;
 mod player;
 
 pub use call::reprocess_call;
-
-#[cfg(test)]
-mod tests;

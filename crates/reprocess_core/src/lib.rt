@@ -8,8 +8,6 @@ mod input;
 mod output;
 mod picture;
 mod steps;
-#[cfg(test)]
-mod tests;
 mod ticket;
 
 pub use device::{ReStep, Reprocess};

@@ -7,6 +7,3 @@ mod run;
 
 pub use refusal::refused_text;
 pub use run::run_text;
-
-#[cfg(test)]
-mod tests;

@@ -6,6 +6,3 @@ mod reading;
 mod word;
 
 pub use reading::read;
-
-#[cfg(test)]
-mod tests;

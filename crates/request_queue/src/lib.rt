@@ -7,6 +7,3 @@ mod queue;
 pub use cam_types::Queued;
 pub use item::QueueFull;
 pub use queue::Queue;
-
-#[cfg(test)]
-mod tests;

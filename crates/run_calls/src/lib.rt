@@ -7,8 +7,7 @@
 
 mod finish;
 mod runner;
-#[cfg(test)]
-mod tests;
 
+pub use camera_workers::{Gate, OpenGate};
 pub use finish::finish_run;
 pub use runner::{PreparedRun, prepare_run, run_call, run_prepared};

@@ -2,8 +2,6 @@
 #![tactic(auto)]
 
 mod laws;
-#[cfg(test)]
-mod tests;
 mod worked;
 
 pub use laws::a_complete_run_keeps_the_laws;

@@ -20,6 +20,3 @@ pub use rows::{
     rows_are_as_they_were_sent, sensor_jobs_are_read, sent_rows_are_fresh,
 };
 pub use steps::each_move_changes_the_rows;
-
-#[cfg(test)]
-mod tests;

@@ -4,6 +4,3 @@
 mod bounds;
 
 pub use bounds::{early_bound, fence_bound, frame_bound, move_bound};
-
-#[cfg(test)]
-mod tests;

@@ -6,6 +6,3 @@ mod spelling;
 mod value;
 
 pub use spelling::print;
-
-#[cfg(test)]
-mod tests;

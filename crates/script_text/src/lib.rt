@@ -12,6 +12,3 @@ mod stream;
 
 pub use printing::print;
 pub use reading::read;
-
-#[cfg(test)]
-mod tests;

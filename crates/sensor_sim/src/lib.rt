@@ -5,8 +5,6 @@ mod job;
 mod laws;
 mod rows;
 mod scene;
-#[cfg(test)]
-mod tests;
 
 pub use job::{ExposedJob, SensorJob};
 pub use laws::a_readout_lies_between_dark_and_full;

@@ -16,7 +16,7 @@ use Rattle.run_model.specs.declared.step.Kind.{Kind}
 use Rattle.run_model.specs.declared.step.Kind.TheVariants as kind
 use Rattle.run_model.specs.declared.step.StepName.{StepName}
 use Rattle.run_model.specs.declared.step.StepName.TheVariants.{Release, Signal, Fail, ReturnFailed, SensorDone, Partial, TakeFill, FillDone, Deliver, Early, Finish}
-use Rattle.ready_steps.specs.Candidates.{all_kinds, is_ready_by, ready_in, row_steps, steps_of_kind, target_steps}
+use Rattle.service_choice.specs.Candidates.{all_kinds, is_ready_by, ready_in, row_steps, steps_of_kind, target_steps}
 use Rattle.service_parts.specs.Parts.{Parts}
 use Rattle.service_choice.specs.Kinds.{first_of, is_of, kind_of, place_of}
 

@@ -1,3 +1,10 @@
 pub mod FirstOfKind
 pub mod Listed
 pub mod Reading
+pub mod Lists
+pub mod Unready
+pub mod Candidates
+pub mod ByKind
+pub mod Walking
+pub mod Fences
+pub mod Most

@@ -1,7 +1,7 @@
 -- The candidates of a service, read from its parts.
 use Rattle.std.proofs.Common.{◌≡◌, ap, sym, ◌∙◌}
 use Rattle.run_model.specs.Played.{candidates}
-use Rattle.ready_steps.specs.Candidates.{candidates_by}
+use Rattle.service_choice.specs.Candidates.{candidates_by}
 use Rattle.room_log.specs.State.{State}
 use Rattle.service_core.specs.Answers.{serving}
 use Rattle.service_parts.specs.Parts.{parts}

@@ -1,1 +1,4 @@
 pub mod Kinds
+pub mod Candidates
+pub mod Finding
+pub mod Walks

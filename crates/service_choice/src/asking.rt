@@ -4,13 +4,13 @@ ghost use Rattle.run_model.specs.Played.{candidates as candidates_of};
 ghost use Rattle.run_model.specs.Ready.{is_ready as is_ready_after};
 ghost use Rattle.service_choice.specs.Kinds.{first_of};
 
+use crate::choice::{candidate_at, candidate_count, first_ready};
+use crate::laws::{candidates_are_read_from_the_parts, kinds_of_candidates};
 use cam_types::NoMemory;
-use ready_steps::{candidates_are_read_from_the_parts, kinds_of_candidates};
 use run_model::{Kind, StepName};
 use service_core::Service;
 use service_parts::each_step_is_read_from_the_parts;
 use std::alloc::Global;
-use step_choice::{candidate_at, candidate_count, first_ready};
 
 /// Whether the step is ready.
 pub fn is_ready(service: &Service, step: StepName) -> bool

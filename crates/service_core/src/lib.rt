@@ -12,8 +12,6 @@ mod sensor;
 mod service;
 mod step;
 mod steps;
-#[cfg(test)]
-mod tests;
 
 pub use sensor::Shuttered;
 pub use service::Service;

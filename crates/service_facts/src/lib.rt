@@ -8,6 +8,3 @@ pub use laws::{
     calls_can_be_taken, configurations_come_at_rest, fences_are_given, targets_are_placed,
     there_is_room,
 };
-
-#[cfg(test)]
-mod tests;

@@ -13,6 +13,3 @@ mod laws;
 pub use laws::{
     each_move_changes_the_parts, each_step_is_read_from_the_parts, the_end_is_read_from_the_parts,
 };
-
-#[cfg(test)]
-mod tests;

@@ -15,6 +15,3 @@ mod steps;
 pub use laws::{sends_go_first, the_picks_make_one_run};
 pub use runs::{close, finish, play, settle};
 pub use stepping::{Stepped, pick_step, step_at};
-
-#[cfg(test)]
-mod tests;

@@ -11,8 +11,6 @@ mod job_turns;
 mod laws;
 mod moves;
 mod shared;
-#[cfg(test)]
-mod tests;
 mod turns;
 
 pub use camera::{CamSeat, Camera};

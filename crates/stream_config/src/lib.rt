@@ -8,6 +8,3 @@ mod refusal;
 pub use configure::check;
 pub use plan::{Plan, PlanStream};
 pub use refusal::ConfigRefused;
-
-#[cfg(test)]
-mod tests;

@@ -22,6 +22,3 @@ pub use word::{
     first_strict_word, next_loose_word, next_strict_word, one_strict_word, three_strict_words,
     two_strict_words,
 };
-
-#[cfg(test)]
-mod tests;

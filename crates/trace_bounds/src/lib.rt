@@ -13,6 +13,3 @@ pub use laws::{
 };
 pub use typed::{every_script_is_typed, legal_traces_print};
 pub use worked::worked_bounds;
-
-#[cfg(test)]
-mod tests;

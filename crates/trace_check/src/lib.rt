@@ -12,8 +12,6 @@ mod laws;
 mod missing;
 mod passing;
 mod rule;
-#[cfg(test)]
-mod tests;
 mod verdict;
 
 pub use judge::{check, check_plain};

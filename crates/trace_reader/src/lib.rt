@@ -16,6 +16,3 @@ mod word;
 pub use cause::{Cause, TraceRefused};
 pub use laws::{read_is_spelled, spelled_is_read};
 pub use reading::{TRACE_BYTES, read};
-
-#[cfg(test)]
-mod tests;

@@ -10,6 +10,3 @@ mod summary;
 mod word;
 
 pub use printer::Printer;
-
-#[cfg(test)]
-mod tests;

@@ -6,6 +6,3 @@ mod writer;
 
 pub use pieces::PIECE;
 pub use writer::TraceWriter;
-
-#[cfg(test)]
-mod tests;

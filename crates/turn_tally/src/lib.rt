@@ -3,8 +3,6 @@
 
 mod share;
 mod tally;
-#[cfg(test)]
-mod tests;
 mod turns;
 
 pub use share::{add_both, add_by_many};

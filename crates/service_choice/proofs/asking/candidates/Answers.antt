@@ -1,5 +1,5 @@
 use Rattle.std.proofs.Common.{sym, ◌∙◌}
-use Rattle.ready_steps.specs.Candidates.{candidates_by}
+use Rattle.service_choice.specs.Candidates.{candidates_by}
 use Rattle.service_choice.proofs.Listed.{one_more}
 use Rattle.service_choice.proofs.asking.candidates.Goals as goal
 

@@ -1,5 +1,5 @@
 use Rattle.std.proofs.Common.{◌≡◌, take}
-use Rattle.ready_steps.specs.Candidates.{candidates_by}
+use Rattle.service_choice.specs.Candidates.{candidates_by}
 use Rattle.service_choice.proofs.asking.candidates.Given as goal
 
 -- the candidates below the number are listed

@@ -1,4 +1,0 @@
-pub mod Lists
-pub mod Unready
-pub mod Candidates
-pub mod ByKind
