@@ -27,6 +27,14 @@ const SECOND: Session = Session {
     shots: 2,
 };
 
+/// Client 0 at camera 1.
+const APART: Session = Session {
+    client: ClientId(0),
+    camera: CameraId(1),
+    priority: 10,
+    shots: 1,
+};
+
 #[test]
 fn a_camera_goes_from_client_to_client(rt: HostRuntime) -> Result<(), Fail> {
     let mut arbiter = Arbiter::new(rt.alloc(), 2)?;
@@ -102,17 +110,13 @@ fn side_by_side<R: Threads + Wait + Sync>(
     ensures first { IsDone cameras_of turnstile.now (view first.old) first.new }
     ensures second { IsDone cameras_of turnstile.now (view second.old) second.new }
 {
-    let mine = Session {
-        camera: CameraId(1),
-        ..FIRST
-    };
     join_mut(
         rt,
         &mut || -> u32
-            requires { IsIdle cameras_of turnstile.now first.now }
-        { ask_often(rt, turnstile, first, mine) },
+            requires { IsIdle cameras_of turnstile.now first.now × (fixed_of cameras_of turnstile.now ≡ 2) }
+        { ask_often(rt, turnstile, first, APART) },
         &mut || -> u32
-            requires { IsIdle cameras_of turnstile.now second.now }
+            requires { IsIdle cameras_of turnstile.now second.now × (fixed_of cameras_of turnstile.now ≡ 2) }
         { ask_often(rt, turnstile, second, SECOND) },
     )
 }
