@@ -1,9 +1,10 @@
 -- The script of a session is valid.
-use Rattle.std.proofs.Common.{◌≡◌, ℕ, ◌≤◌, true, ◌&&◌, refl, arith, nat_le, nat_lt}
-use Rattle.std.proofs.lemmas.Bool.{and_from, and_parts}
+use Rattle.std.proofs.Common.{◌≡◌, ℕ, ◌≤◌, true, ◌&&◌, List, [], ◌∷◌, ◌++◌, refl, arith, nat_le, nat_lt}
+use Rattle.std.proofs.lemmas.Bool.{and_parts, false≢true}
 use Rattle.std.proofs.lemmas.Bool.Decides.{nat_tests}
 use Rattle.cam_types.specs.Script.{command_fits, is_closing_command, is_valid}
 use Rattle.cam_types.specs.declared.script.Command.{Command}
+use Rattle.cam_types.specs.declared.script.Command.TheVariants.{Configure, Once, Burst, Repeat, Stop, Wait, Await, Flush, Close, Disconnect}
 use Rattle.camera_arbiter.specs.Ranges.{is_client, is_logged, is_session}
 use Rattle.camera_arbiter.specs.declared.answer.LogLine.{LogLine}
 use Rattle.camera_arbiter.specs.declared.answer.LogLine.TheVariants.{Grant, Evict, Leave, Refused}
@@ -19,7 +20,13 @@ shots-of cameras s h =
 
 pub session-valid : (shots : ℕ) (last : Command) → 1 ≤ shots → shots ≤ 100 → command_fits last ≡ true → is_closing_command last ≡ true → is_valid (session_script shots last) ≡ true
 unfolding session_script
-session-valid shots last least most fits closes = ?
+session-valid shots Close least most fits closes = grind (arith, nat_tests)
+session-valid shots Disconnect least most fits closes = grind (arith, nat_tests)
+session-valid shots _ least most fits closes = absurd (false≢true closes)
+
+-- four commands, one behind the other
+pub four : (none one two three all : List Command) (a b c d : Command) → none ≡ [] → one ≡ none ++ a ∷ [] → two ≡ one ++ b ∷ [] → three ≡ two ++ c ∷ [] → all ≡ three ++ d ∷ [] → all ≡ a ∷ b ∷ c ∷ d ∷ []
+four none one two three all a b c d e0 e1 e2 e3 e4 = rw (e4, e3, e2, e1, e0) refl
 
 -- a session of a log has frames to wait for
 pub fits-logged : (cameras : ℕ) (line : LogLine) → is_logged cameras line ≡ true → shots_fit line ≡ true

@@ -24,6 +24,9 @@ preview = record {
 }
 
 -- `configure yuv:40x30`, `repeat preview@0`, `await N` and the last command
+abbrev pub session_commands : ℕ → Command → List Command
+session_commands shots last = Configure small_stream ∷ Repeat (preview ∷ []) ∷ Await shots ∷ last ∷ []
+
 unfoldable pub session_script : ℕ → Command → Script
 session_script shots last = record {
   version = 1;
@@ -31,7 +34,7 @@ session_script shots last = record {
   early = false;
   faults = [];
   picks = [];
-  commands = Configure small_stream ∷ Repeat (preview ∷ []) ∷ Await shots ∷ last ∷ [];
+  commands = session_commands shots last;
 }
 
 -- the script of the session that a line ends, if it ends one

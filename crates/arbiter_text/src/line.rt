@@ -4,7 +4,7 @@ ghost use Rattle.line_reading.specs.Words.{good, one};
 ghost use Rattle.text_parts.specs.Numbers.{number_within};
 ghost use Rattle.text_parts.specs.Words.{loose_words};
 ghost use Rattle.camera_arbiter.specs.Ranges.{is_client, is_count, is_line, is_session};
-ghost use Rattle.arbiter_text.specs.Lines.{cameras_line, client_line, is_version, priority_and_shots, session_of};
+ghost use Rattle.arbiter_text.specs.Lines.{camera_of, cameras_line, client_line, is_version, priority_and_shots, session_of};
 
 use camera_arbiter::{ArbiterLine, CameraId, ClientId, Session};
 use line_reading::{Cause, is_end};
@@ -73,6 +73,25 @@ fn priority_and_shots(words: &[u8]) -> Result<(u32, u32), Cause>
     Ok((priority, shots))
 }
 
+/// `C P N`, of a client, where there are so many cameras.
+#[tactic(auto, unfolding(crate::specs::Lines::camera_of))]
+fn camera_of(cameras: u32, client: u32, words: &[u8]) -> Result<Session, Cause>
+    requires count { IsTrue (is_count cameras) }
+    requires client { client ≤ 15 }
+    ensures value { result ≡ camera_of cameras client (loose_words words.now) }
+    ensures valid { IfOk result (λ session. IsTrue (is_session cameras session)) }
+{
+    let (word, rest) = next_loose_word(words).ok_or(Cause::Missing)?;
+    let camera = number(word, 0, u64::from(cameras - 1))?;
+    let (priority, shots) = priority_and_shots(rest)?;
+    Ok(Session {
+        client: ClientId(client),
+        camera: CameraId(camera),
+        priority,
+        shots,
+    })
+}
+
 /// `K C P N`, where there are so many cameras.
 #[tactic(auto, unfolding(crate::specs::Lines::session_of))]
 fn session_of(cameras: u32, words: &[u8]) -> Result<Session, Cause>
@@ -82,15 +101,7 @@ fn session_of(cameras: u32, words: &[u8]) -> Result<Session, Cause>
 {
     let (word, rest) = next_loose_word(words).ok_or(Cause::Missing)?;
     let client = number(word, 0, 15)?;
-    let (word, rest) = next_loose_word(rest).ok_or(Cause::Missing)?;
-    let camera = number(word, 0, u64::from(cameras - 1))?;
-    let (priority, shots) = priority_and_shots(rest)?;
-    Ok(Session {
-        client: ClientId(client),
-        camera: CameraId(camera),
-        priority,
-        shots,
-    })
+    camera_of(cameras, client, rest)
 }
 
 /// What a line asks that is `connect K C P N` or `leave K`.

@@ -1,7 +1,7 @@
 //! What the client of a session does at its camera.
 ghost use Rattle.std.specs.Prelude.{◌≡◌, ◌∷◌, ◌≤◌, [], IfOk, IfSome, IsTrue, true};
 ghost use Rattle.cam_types.specs.Script.{command_fits, is_closing_command, is_valid};
-ghost use Rattle.arbiter_text.specs.Scripts.{preview, script_behind, session_script, shots_fit, small_stream};
+ghost use Rattle.arbiter_text.specs.Scripts.{preview, script_behind, session_commands, session_script, shots_fit, small_stream};
 
 use cam_types::{
     Command, CommandList, FaultList, Format, Item, ItemList, NoMemory, PickList, Profile, Script,
@@ -40,7 +40,20 @@ fn previews(alloc: Global) -> Result<ItemList, NoMemory>
     Ok(items)
 }
 
-/// The script of a session: it previews until it has seen so many frames, and ends by a command.
+/// The commands of a session: it previews until it has seen so many frames, and ends by a command.
+fn session_commands(alloc: Global, shots: u32, last: Command) -> Result<CommandList, NoMemory>
+    ensures { IfOk result (λ commands. commands ≡ session_commands shots last) }
+{
+    let mut commands = CommandList::new(alloc);
+    commands.push(Command::Configure(small_stream(alloc)?))?;
+    commands.push(Command::Repeat(previews(alloc)?))?;
+    commands.push(Command::Await(shots))?;
+    commands.push(last)?;
+    Ok(commands)
+}
+
+/// The script of a session.
+#[tactic(auto, unfolding(crate::specs::Scripts::session_script))]
 fn session_script(alloc: Global, shots: u32, last: Command) -> Result<Script, NoMemory>
     requires least { 1 ≤ shots }
     requires most { shots ≤ 100 }
@@ -49,11 +62,7 @@ fn session_script(alloc: Global, shots: u32, last: Command) -> Result<Script, No
     ensures script { IfOk result (λ script. script ≡ session_script shots last) }
     ensures valid { IfOk result (λ script. IsTrue (is_valid script)) }
 {
-    let mut commands = CommandList::new(alloc);
-    commands.push(Command::Configure(small_stream(alloc)?))?;
-    commands.push(Command::Repeat(previews(alloc)?))?;
-    commands.push(Command::Await(shots))?;
-    commands.push(last)?;
+    let commands = session_commands(alloc, shots, last)?;
     Ok(Script {
         version: 1,
         profile: Profile::PLAIN,
