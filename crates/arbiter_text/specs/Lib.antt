@@ -1,0 +1,5 @@
+pub mod Lines
+pub mod Valid
+pub mod Grammar
+pub mod Spelling
+pub mod Scripts

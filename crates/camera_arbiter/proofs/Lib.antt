@@ -1,0 +1,4 @@
+pub mod Finding
+pub mod Sessions
+pub mod Fair
+pub mod Closing
