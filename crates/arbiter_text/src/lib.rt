@@ -14,6 +14,3 @@ pub use reading::read;
 pub use refusal::refused_text;
 pub use script::script_behind;
 pub use text::{ArbiterText, LineList};
-
-#[cfg(test)]
-mod tests;

@@ -1,5 +1,5 @@
 //! A camera goes from client to client; an arbiter that two threads share.
-ghost use Rattle.std.specs.Prelude.{◌≡◌, ◌≤◌, ◌<◌, IsTrue, true};
+ghost use Rattle.std.specs.Prelude.{◌≡◌, IsTrue};
 ghost use Rattle.camera_arbiter.specs.Ranges.{is_session};
 ghost use Rattle.camera_arbiter.specs.Turns.{cameras_of};
 ghost use Rattle.turn_lock.specs.Lending.{IsDone, IsIdle};
@@ -7,6 +7,7 @@ ghost use Rattle.turn_lock.specs.Seats.{fixed_of, view};
 
 use super::*;
 use std::alloc::Global;
+use std::process::Abort;
 use std::sync::Wait;
 use std::test::Fail;
 use std::thread::{Threads, join_mut};
@@ -35,9 +36,8 @@ const APART: Session = Session {
     shots: 1,
 };
 
-#[test]
-fn a_camera_goes_from_client_to_client(rt: HostRuntime) -> Result<(), Fail> {
-    let mut arbiter = Arbiter::new(rt.alloc(), 2)?;
+fn a_camera_goes_from_client_to_client(rt: &impl Abort, alloc: Global) -> Result<(), Fail> {
+    let mut arbiter = Arbiter::new(alloc, 2)?;
     assert_eq!(rt; arbiter.holder(CameraId(0)), None);
     let first = arbiter.try_answer(ArbiterLine::Connect(FIRST));
     assert_eq!(rt; first, Some(Answer::Granted));
@@ -61,10 +61,11 @@ fn a_camera_goes_from_client_to_client(rt: HostRuntime) -> Result<(), Fail> {
 /// How often each thread asks for its camera and leaves it.
 const ROUNDS: u32 = 60;
 
-#[test]
-fn two_threads_share_an_arbiter(rt: HostRuntime) -> Result<(), Fail> {
-    let alloc: Global = rt.alloc();
-    let (arbiter, served) = two_ask(&rt, alloc, Arbiter::new(alloc, 2)?);
+fn two_threads_share_an_arbiter(
+    rt: &(impl Abort + Threads + Wait + Sync),
+    alloc: Global,
+) -> Result<(), Fail> {
+    let (arbiter, served) = two_ask(rt, alloc, Arbiter::new(alloc, 2)?);
     // Each client has a camera of its own, so that all are served; and no line of the log is lost.
     assert_eq!(rt; served, (2 * ROUNDS, 2 * ROUNDS));
     assert_eq!(rt; arbiter.log().len() as u32, 4 * ROUNDS);
@@ -154,4 +155,11 @@ fn ask_once<R: Wait>(
     let left = answer_turn(rt, turnstile, seat, ArbiterLine::Leave(session.client));
     u32::from(granted == Some(Answer::Granted))
         + u32::from(left == Some(Answer::Left(session.camera)))
+}
+
+#[test]
+fn arbiters_are_shared(rt: HostRuntime) -> Result<(), Fail> {
+    a_camera_goes_from_client_to_client(&rt, rt.alloc())?;
+    two_threads_share_an_arbiter(&rt, rt.alloc())?;
+    Ok(())
 }

@@ -1,8 +1,9 @@
 //! Texts that are read and what is answered, and texts that are refused, with line and cause.
-use super::*;
+use arbiter_text::{line_text, read};
 use camera_arbiter::arbitrate;
 use line_reading::TextRefused;
 use std::alloc::Global;
+use std::process::Abort;
 use std::test::Fail;
 
 /// Texts, with the line and the number of the cause for which each is refused.
@@ -72,10 +73,9 @@ fn refusal(alloc: Global, text: &str) -> Option<(u32, u8)> {
     }
 }
 
-#[test]
-fn refuses_by_the_first_line_with_a_cause(rt: HostRuntime) -> Result<(), Fail> {
+fn refuses_by_the_first_line_with_a_cause(rt: &impl Abort, alloc: Global) -> Result<(), Fail> {
     for &(text, line, cause) in REFUSED {
-        assert_eq!(rt; refusal(rt.alloc(), text), Some((line, cause)), "{text:?}");
+        assert_eq!(rt; refusal(alloc, text), Some((line, cause)), "{text:?}");
     }
     // 128 lines are read, and one more isn't; a bad number in it is told first.
     for (last, refused) in [
@@ -83,20 +83,18 @@ fn refuses_by_the_first_line_with_a_cause(rt: HostRuntime) -> Result<(), Fail> {
         ("leave 0", Some((131, 37))),
         ("leave 16", Some((131, 34))),
     ] {
-        let mut long = String::new(rt.alloc());
+        let mut long = String::new(alloc);
         long.push_str("arbiter 1\ncameras 1\n")?;
         for _ in 0..128 {
             long.push_str("leave 0\n")?;
         }
         long.push_str(last)?;
-        assert_eq!(rt; refusal(rt.alloc(), long.as_str()), refused, "{last:?}");
+        assert_eq!(rt; refusal(alloc, long.as_str()), refused, "{last:?}");
     }
     Ok(())
 }
 
-#[test]
-fn texts_have_their_logs(rt: HostRuntime) -> Result<(), Fail> {
-    let alloc: Global = rt.alloc();
+fn texts_have_their_logs(rt: &impl Abort, alloc: Global) -> Result<(), Fail> {
     for &(text, wanted) in LOGS {
         let Ok(read) = read(alloc, text.as_bytes()) else {
             return Err("refused".into());
@@ -108,5 +106,12 @@ fn texts_have_their_logs(rt: HostRuntime) -> Result<(), Fail> {
         }
         assert_eq!(rt; log.as_slice(), wanted.as_bytes(), "{text:?}");
     }
+    Ok(())
+}
+
+#[test]
+fn clients_are_read_and_answered(rt: HostRuntime) -> Result<(), Fail> {
+    refuses_by_the_first_line_with_a_cause(&rt, rt.alloc())?;
+    texts_have_their_logs(&rt, rt.alloc())?;
     Ok(())
 }
