@@ -3,7 +3,7 @@ pub mod Listed
 pub mod Reading
 pub mod Lists
 pub mod Unready
-pub mod Candidates
+pub mod CandidatesRead
 pub mod ByKind
 pub mod Walking
 pub mod Fences

@@ -12,7 +12,7 @@ ghost use Rattle.service_choice.specs.Candidates.{all_kinds, candidates_by, is_r
 use run_model::{Kind, StepName};
 
 /// The candidates after a run are those that the parts give, in the same order.
-#[tactic(auto, using(crate::proofs::Candidates::candidates_read))]
+#[tactic(auto, using(crate::proofs::CandidatesRead::candidates_read))]
 pub fn candidates_are_read_from_the_parts()
     ensures { (script : SomeScript) (h : List SomeMove) →
         IsRun script h → candidates script h ≡ candidates_by script (parts script h) }

@@ -1,20 +1,12 @@
-//! Texts and their spellings: scripts, traces, metadata, scenes, plans and the words of a command line.
+//! Texts and their spellings: scripts, scenes, plans, what clients ask, and the words of a command line.
 #![tactic(auto)]
 
 #[cfg(test)]
 mod clients;
 #[cfg(test)]
-mod ends;
-#[cfg(test)]
 mod exposures;
 #[cfg(test)]
 mod generated;
-#[cfg(test)]
-mod lines;
-#[cfg(test)]
-mod packed_lists;
-#[cfg(test)]
-mod packed_parts;
 #[cfg(test)]
 mod pieces;
 #[cfg(test)]
@@ -28,8 +20,4 @@ mod scripts;
 #[cfg(test)]
 mod spelling;
 #[cfg(test)]
-mod traces;
-#[cfg(test)]
 mod words;
-#[cfg(test)]
-mod written;
