@@ -37,10 +37,10 @@ const NO_COMMANDS: &[u8] =
 const TOO_LONG: &[u8] = b"refused script 0 37\n";
 
 const USAGE: &[u8] =
-    b"usage: camera play | run --workers N | check | gen SEED COUNT | convert | arbiter | auto | reprocess | help\n";
+    b"usage: camera play | run --workers N | check | gen SEED COUNT | convert | auto | reprocess | help\n";
 
 const HELP: &[u8] =
-    b"camera: plays, runs and judges HAL3 camera scripts\nusage: camera play | run --workers N | check | gen SEED COUNT | convert | arbiter | auto | reprocess | help\n";
+    b"camera: plays, runs and judges HAL3 camera scripts\nusage: camera play | run --workers N | check | gen SEED COUNT | convert | auto | reprocess | help\n";
 
 /// A plan that only flushes, its run, and the refusal of a script as a plan.
 const PLAN: &[u8] = b"reprocess 1\ninput yuv:40x30\noutput yuv:40x30\nflush\n";
@@ -89,16 +89,6 @@ const WITHOUT_SCENES: &[u8] =
     b"auto 1\ntrace 1\nbegin configure\ncall 0 configure = ok 0:b0+6\nbegin close\ncall 1 close = ok\nend\n";
 
 const NO_RAMP: &[u8] = b"refused auto 4 34\n";
-
-/// Clients that get, lose and leave a camera, what is written of them and their sessions, and the refusal of a camera that
-/// isn't there.
-const CLIENTS: &[u8] =
-    b"arbiter 1\ncameras 2\nconnect 0 0 10 1\nconnect 1 0 10 1\nconnect 1 0 20 1\nconnect 1 1 99 1\nleave 2\n";
-
-const CLIENTS_ANSWERED: &[u8] =
-    b"arbiter 1\ngrant 0 0\nrefused 51 0\nevict 0 0\ncommands 4 frames 5 dropped 0 results 4 request-errors 1 result-errors 0 buffers-ok 1 buffers-error 4 entries 39\ngrant 1 0\nrefused 52\nrefused 53\nleave 1 0\ncommands 4 frames 5 dropped 0 results 5 request-errors 0 result-errors 0 buffers-ok 5 buffers-error 0 entries 47\nend\n";
-
-const NO_CAMERA: &[u8] = b"refused arbiter 3 34\n";
 
 /// What row one_frame writes, in parts: up to the metadata, the metadata and the picture's digest, the rest.
 const OPENING: &[u8] =
@@ -883,54 +873,6 @@ const CASES: &[Case] = &[
         status: 4,
         text: Text::Line(NO_RAMP),
         written: 0,
-    },
-    Case {
-        words: &["arbiter"],
-        input: CLIENTS,
-        source_piece: 7,
-        source_failing: &[],
-        room: 9000,
-        sink_piece: 64,
-        sink_failing: &[],
-        status: 0,
-        text: Text::Line(CLIENTS_ANSWERED),
-        written: 315,
-    },
-    Case {
-        words: &["arbiter"],
-        input: CLIENTS,
-        source_piece: 7,
-        source_failing: &[3],
-        room: 9000,
-        sink_piece: 64,
-        sink_failing: &[],
-        status: 3,
-        text: Text::Line(CLIENTS_ANSWERED),
-        written: 0,
-    },
-    Case {
-        words: &["arbiter"],
-        input: CLIENTS,
-        source_piece: 1,
-        source_failing: &[],
-        room: 200,
-        sink_piece: 7,
-        sink_failing: &[],
-        status: 4,
-        text: Text::Line(CLIENTS_ANSWERED),
-        written: 200,
-    },
-    Case {
-        words: &["arbiter"],
-        input: b"arbiter 1\ncameras 1\nconnect 0 1 5 1\n",
-        source_piece: 7,
-        source_failing: &[],
-        room: 9000,
-        sink_piece: 64,
-        sink_failing: &[],
-        status: 1,
-        text: Text::Line(NO_CAMERA),
-        written: 21,
     },
     Case {
         words: &["play", ""],
