@@ -3,6 +3,7 @@
 over that past. It is slow, and independent of the program, whose judge is held against it.
 
 usage: plain_judge.py [--plain] [--strict] < LOG
+       plain_judge.py [--strict] LOG ..              the same of each, its name before each line
 
 Writes a line `LINE RULE framework|device FRAME STREAM` for each breach, `-` where an entry has none or the device named
 a stream that the framework doesn't know; then `open N ..` where requests are outstanding at the end, and
@@ -112,6 +113,8 @@ def configure_in_flight(event, past):
 
 @framework("overlapping-calls")
 def overlapping_calls(event, past):
+    if not event.is_begin:
+        return []
     asking = past.in_call(past.end) or past.is_within("configure", past.end)
     other = any(past.is_within(kind, past.end) for kind in ("open", "init", "template", "flush", "close"))
     return where((begins(event, "request", "configure", "close") and asking) or (begins(event, "close") and other))
@@ -558,18 +561,39 @@ def report_lines(report, left):
     return lines
 
 
+def said_of(data, is_strict):
+    """The lines that are written of a log, and the status."""
+    try:
+        report, left = judge(*read(data), is_strict=is_strict)
+    except Refused as refused:
+        return [str(refused)], 1
+    return report_lines(report, left), 1 if report else 0
+
+
+def judge_files(names, is_strict):
+    worst = 0
+    for name in names:
+        with open(name, "rb") as file:
+            lines, status = said_of(file.read(), is_strict)
+        worst = max(worst, status)
+        for line in lines:
+            print(f"{name}: {line}")
+    return worst
+
+
 def main(words):
-    if any(word not in ("--plain", "--strict") for word in words):
+    options = [word for word in words if word.startswith("-")]
+    names = [word for word in words if word not in options]
+    if any(option not in ("--plain", "--strict") for option in options):
         print(__doc__, file=sys.stderr)
         return 2
-    try:
-        report, left = judge(*read(sys.stdin.buffer.read()), is_strict="--strict" in words)
-    except Refused as refused:
-        print(refused)
-        return 1
-    for line in report_lines(report, left):
+    is_strict = "--strict" in options
+    if names:
+        return judge_files(names, is_strict)
+    lines, status = said_of(sys.stdin.buffer.read(), is_strict)
+    for line in lines:
         print(line)
-    return 1 if report else 0
+    return status
 
 
 if __name__ == "__main__":

@@ -9,6 +9,8 @@
 #include <time.h>
 #include <unistd.h>
 
+#define IDLE_MS 30
+
 bool fake_breaks(const struct fake_camera *camera, enum fake_rule rule)
 {
     return camera->options.broken == rule;
@@ -54,7 +56,7 @@ static int initialize(const struct camera3_device *device, const camera3_callbac
     int answer = 0;
 
     pthread_mutex_lock(&camera->lock);
-    if (camera->closed || camera->dead)
+    if (camera->closed || camera->dying)
         answer = -ENODEV;
     else if (camera->initialized && !fake_breaks(camera, FAKE_ACCEPTED_INIT_TWICE)) {
         camera->dying = camera->dead = true;
@@ -70,7 +72,7 @@ static int initialize(const struct camera3_device *device, const camera3_callbac
 /* 0 where the camera does what it is asked: initialized and neither dead nor closed. With the lock taken. */
 static int working(const struct fake_camera *camera)
 {
-    if (camera->closed || (camera->dead && !fake_breaks(camera, FAKE_ACCEPTED_DEAD)))
+    if (camera->closed || (camera->dying && !fake_breaks(camera, FAKE_ACCEPTED_DEAD)))
         return -ENODEV;
     return camera->initialized || fake_breaks(camera, FAKE_ACCEPTED_BEFORE_INIT) ? 0 : -EINVAL;
 }
@@ -126,6 +128,21 @@ static bool is_valid(const struct fake_camera *camera, const camera3_stream_conf
         && (inputs <= 1 || fake_breaks(camera, FAKE_ACCEPTED_TWO_INPUTS));
 }
 
+/* Waits a little for the frames that are open: what was told of one may be all, and its worker not at the end of it yet. */
+static bool is_idle(struct fake_camera *camera)
+{
+    struct timespec end;
+
+    clock_gettime(CLOCK_MONOTONIC, &end);
+    end.tv_nsec += IDLE_MS * 1000000;
+    end.tv_sec += end.tv_nsec / 1000000000;
+    end.tv_nsec %= 1000000000;
+    while (camera->open != 0)
+        if (pthread_cond_timedwait(&camera->changed, &camera->lock, &end) == ETIMEDOUT)
+            break;
+    return camera->open == 0;
+}
+
 /* What isn't valid, or comes while frames are open, leaves the configuration as it is. */
 static int configure_streams(const struct camera3_device *device, camera3_stream_configuration_t *asked)
 {
@@ -134,7 +151,7 @@ static int configure_streams(const struct camera3_device *device, camera3_stream
 
     pthread_mutex_lock(&camera->lock);
     answer = working(camera);
-    if (answer == 0 && (asked == NULL || camera->open != 0 || !is_valid(camera, asked)))
+    if (answer == 0 && (asked == NULL || !is_idle(camera) || !is_valid(camera, asked)))
         answer = -EINVAL;
     if (answer == 0) {
         camera->stream_count = asked->num_streams;
@@ -320,7 +337,7 @@ static int flush(const struct camera3_device *device)
 
     pthread_mutex_lock(&camera->lock);
     answer = working(camera);
-    if (answer == 0 && !fake_breaks(camera, FAKE_FLUSH_LEFT) && !camera->dead) {
+    if (answer == 0 && !fake_breaks(camera, FAKE_FLUSH_LEFT) && !camera->dying) {
         hand_back(camera);
         answer = camera->dead ? -ENODEV : 0;
     }

@@ -181,6 +181,7 @@ static void pause_frame(struct fake_camera *camera)
     pthread_mutex_unlock(&camera->lock);
 }
 
+/* Where buffers go back early, a frame that fails whole isn't overtaken by the next: it goes back at its exposure too. */
 static void expose(struct fake_camera *camera, struct fake_frame *frame)
 {
     struct fake_frame *before = camera->exposing;
@@ -189,7 +190,10 @@ static void expose(struct fake_camera *camera, struct fake_frame *frame)
     fake_expose(camera, frame);
     if (before != NULL)
         finish(camera, before);
-    camera->exposing = frame;
+    if (camera->options.early && frame->fate == FAKE_NO_REQUEST)
+        finish(camera, frame);
+    else
+        camera->exposing = frame;
 }
 
 /* The frame's fences weren't signalled in time: in a flush it goes back as all others, else it fails alone. */
