@@ -529,14 +529,26 @@ def order(fault):
     return tuple(-1 if number is None else number for number in fault)
 
 
+def ends_again(event, past):
+    """A call returns once: a second end of a request breaks nothing, and stands for nothing."""
+    if event.kind != "request" or not event.is_end:
+        return False
+    request = past.last(event.frame)
+    return request is None or not request.is_in_call(past.end)
+
+
 def breaches_of(event, past, is_strict):
+    if ends_again(event, past):
+        return []
     return [(event.line, name, side, *fault) for name, side, strict, function in RULES if is_strict or not strict
             for fault in sorted(set(function(event, past)), key=order)]
 
 
 def is_heard(event, past):
-    """A callback that names a request that isn't live stands for nothing."""
-    return not event.is_callback or event.frame is None or past.live(event.frame) is not None
+    """A callback that names a request that isn't live stands for nothing, nor does a second end of a request."""
+    if not event.is_callback:
+        return not ends_again(event, past)
+    return event.frame is None or past.live(event.frame) is not None
 
 
 def judge(count, events, is_strict=False):
