@@ -1,4 +1,7 @@
-/* Measures what the tap adds to a callback and to a call: a device that does nothing, with the tap and without it. */
+/*
+ * Measures what the tap adds to a callback and to a call: a device that does nothing, with the tap and without it. Ends with 1
+ * where the median of a callback is 20 microseconds or more.
+ */
 #include "hal_tap.h"
 
 #include <hardware/camera3.h>
@@ -10,6 +13,7 @@
 #include <unistd.h>
 
 #define ROUNDS 20000
+#define MOST_MICROSECONDS 20 /* what a callback may cost */
 
 /* A device and a framework that do nothing. */
 struct idle {
@@ -61,51 +65,70 @@ static double microseconds(void)
     return (double)time.tv_sec * 1e6 + (double)time.tv_nsec / 1e3;
 }
 
-struct cost { double shutter, result, request; };
+enum { SHUTTER, RESULT, REQUEST, KINDS };
+
+/* Of each kind of call, how long each took. */
+struct times { double of[KINDS][ROUNDS]; };
+
+static double since(double start)
+{
+    return microseconds() - start;
+}
 
 /* One buffer with an acquire fence that comes back as its release fence: the dearest case, in which fences are compared. */
-static struct cost run(struct idle *idle, camera3_device_t *device, struct idle_framework *framework)
+static void run(struct idle *idle, camera3_device_t *device, struct idle_framework *framework, struct times *times)
 {
-    static buffer_handle_t handle;
-    static native_handle_t native = { .version = sizeof(native), .numFds = 0, .numInts = 0 };
+    native_handle_t native = { .version = sizeof(native), .numFds = 0, .numInts = 0 };
+    buffer_handle_t handle = &native;
     camera3_stream_t stream = { .width = 640, .height = 480 };
     camera3_stream_buffer_t buffer = { .stream = &stream, .buffer = &handle };
-    struct cost cost = { 0, 0, 0 };
     int fence = eventfd(0, EFD_CLOEXEC);
 
-    handle = &native;
     device->ops->initialize(device, &framework->callbacks);
     for (uint32_t i = 0; i < ROUNDS; i++) {
         camera3_capture_request_t request = { .frame_number = i, .num_output_buffers = 1, .output_buffers = &buffer };
         camera3_notify_msg_t shutter = { .type = CAMERA3_MSG_SHUTTER };
         camera3_capture_result_t result = { .frame_number = i, .num_output_buffers = 1, .output_buffers = &buffer };
-        double start;
+        double start = microseconds();
 
         buffer.acquire_fence = fence;
         buffer.release_fence = -1;
-        start = microseconds();
         device->ops->process_capture_request(device, &request);
-        cost.request += microseconds() - start;
+        times->of[REQUEST][i] = since(start);
         shutter.message.shutter.frame_number = i;
         start = microseconds();
         idle->callbacks->notify(idle->callbacks, &shutter);
-        cost.shutter += microseconds() - start;
+        times->of[SHUTTER][i] = since(start);
         buffer.acquire_fence = -1;
         buffer.release_fence = fence;
-        buffer.status = CAMERA3_BUFFER_STATUS_ERROR;
         start = microseconds();
         idle->callbacks->process_capture_result(idle->callbacks, &result);
-        cost.result += microseconds() - start;
+        times->of[RESULT][i] = since(start);
     }
     close(fence);
-    return (struct cost){ cost.shutter / ROUNDS, cost.result / ROUNDS, cost.request / ROUNDS };
+}
+
+static int compare(const void *one, const void *other)
+{
+    double first = *(const double *)one, second = *(const double *)other;
+
+    return (first > second) - (first < second);
+}
+
+/* The median, and what 99 of 100 stay below. */
+static void print_cost(const char *name, double *plain, double *tapped)
+{
+    qsort(plain, ROUNDS, sizeof(*plain), compare);
+    qsort(tapped, ROUNDS, sizeof(*tapped), compare);
+    printf("  %-34s %8.2f %8.2f\n", name, tapped[ROUNDS / 2] - plain[ROUNDS / 2],
+           tapped[ROUNDS / 100 * 99] - plain[ROUNDS / 100 * 99]);
 }
 
 int main(int count, char **words)
 {
     struct idle idle = { .device = { .common = { .tag = HARDWARE_DEVICE_TAG, .close = close_idle }, .ops = &ops } };
     struct idle_framework framework = { .callbacks = { .process_capture_result = on_result, .notify = on_notify } };
-    struct cost plain, tapped;
+    static struct times plain, tapped;
     hal_tap *tap;
     struct hw_device_t *device;
 
@@ -119,12 +142,12 @@ int main(int count, char **words)
         perror(words[1]);
         return 1;
     }
-    plain = run(&idle, &idle.device, &framework);
-    tapped = run(&idle, (camera3_device_t *)device, &framework);
-    printf("microseconds that the tap adds, the mean of %d:\n", ROUNDS);
-    printf("  a shutter                         %.2f\n", tapped.shutter - plain.shutter);
-    printf("  a result with a buffer and fence  %.2f\n", tapped.result - plain.result);
-    printf("  a request, both lines             %.2f\n", tapped.request - plain.request);
+    run(&idle, &idle.device, &framework, &plain);
+    run(&idle, (camera3_device_t *)device, &framework, &tapped);
+    printf("microseconds that the tap adds, of %d each:           median  99 of 100\n", ROUNDS);
+    print_cost("a shutter", plain.of[SHUTTER], tapped.of[SHUTTER]);
+    print_cost("a result with a buffer and a fence", plain.of[RESULT], tapped.of[RESULT]);
+    print_cost("a request, both lines", plain.of[REQUEST], tapped.of[REQUEST]);
     hal_tap_free(tap);
-    return 0;
+    return tapped.of[RESULT][ROUNDS / 2] - plain.of[RESULT][ROUNDS / 2] < MOST_MICROSECONDS ? 0 : 1;
 }
