@@ -12,7 +12,7 @@ from typing import Optional, Tuple, Union
 LONGEST_INPUT = 134_217_728
 MOST_PARTS = 16  # streams of a configuration, targets of a request, buffers of a result, partial results
 LONGEST_NUMBER = 20  # digits of 2**64 - 1
-BAD_NUMBER, BAD_LINE, TOO_LONG = 42, 43, 45
+TRUNCATED, BAD_NUMBER, BAD_LINE, TOO_LONG = 41, 42, 43, 45
 
 NUMBER = re.compile(r"0|[1-9][0-9]*")
 HEXADECIMAL = re.compile(r"0|[1-9A-F][0-9A-F]*")
@@ -137,7 +137,7 @@ def read_stream(word, numbers):
     rest = fields[2:]
     rotation, direction = 0, "out"
     if rest and rest[0].startswith("r"):
-        rotation = numbers.read(rest.pop(0)[1:])
+        rotation = numbers.read(rest.pop(0)[1:], least=1)
     if rest and rest[0] in ("in", "bidi"):
         direction = rest.pop(0)
     matches(not rest)
@@ -206,7 +206,8 @@ def read_configure(line, words, numbers):
     matches(len(words) >= 2)
     if words[1] == "begin":
         rest = words[2:]
-        mode = numbers.read(rest.pop(0)[len("mode:"):]) if rest and rest[0].startswith("mode:") else None
+        is_mode = bool(rest) and rest[0].split(":")[0] == "mode" and rest[0].count(":") == 1
+        mode = numbers.read(rest.pop(0).split(":")[1]) if is_mode else None
         return Event(line, "configure", "begin", mode=mode, streams=read_list(rest, read_stream, numbers))
     matches(words[1] == "end" and len(words) >= 3)
     if words[2] == "ok":
@@ -235,9 +236,9 @@ def read_error(line, words, numbers):
     if words[1:] == ["device"]:
         return Event(line, "error-device")
     matches(len(words) == 3)
-    if words[2].startswith("buffer:"):
-        return Event(line, "error-buffer", frame=numbers.read(words[1]),
-                     stream=numbers.read_or(UNKNOWN, words[2][len("buffer:"):]))
+    parts = words[2].split(":")
+    if len(parts) == 2 and parts[0] == "buffer":
+        return Event(line, "error-buffer", frame=numbers.read(words[1]), stream=numbers.read_or(UNKNOWN, parts[1]))
     matches(words[2] in ("request", "result"))
     return Event(line, "error-" + words[2], frame=numbers.read(words[1]))
 
@@ -289,7 +290,7 @@ def lines_of(data):
 
 
 class Begins:
-    """Which calls have a begin since the last `open end ok`: an end without one is refused."""
+    """Which calls have a begin: an end without one is refused."""
 
     def __init__(self):
         self.known = set()
@@ -300,8 +301,6 @@ class Begins:
             self.known.add(name)
         elif event.is_end and name not in self.known:
             raise Refused(event.line, BAD_LINE)
-        if event.kind == "open" and event.stage == "ok":
-            self.known.clear()
 
 
 def read(data):
@@ -323,5 +322,5 @@ def read(data):
         begins.take(event)
         events.append(event)
     if count is None:
-        raise Refused(len(lines) + 1, BAD_LINE)
+        raise Refused(len(lines) + 1, TRUNCATED)
     return count, events

@@ -1,7 +1,8 @@
 """The words of the rules, each recomputed over the past of an event.
 
-The past is what was heard since the last `open end ok`, that included; where there is none, since the beginning. A callback
-that names a request that isn't live stands for nothing, so it is never put into the past.
+The past is what was heard since the last `open end ok`, that included; where there is none, since the beginning. A
+callback that names a request that isn't live stands for nothing, nor does a second end of a request: they are never put
+into the past.
 """
 
 
@@ -181,9 +182,10 @@ class Past:
     # ---- calls
 
     def begin_of(self, event, before):
-        """The place of the begin of the call that the event ends."""
-        return max(place for place, e in enumerate(self.events[:before])
-                   if e.is_begin and e.kind == event.kind and e.frame == event.frame)
+        """The place of the begin of the call that the event ends. Where the device was opened anew since, no begin stands,
+        and nothing before it: 0."""
+        return max((place for place, e in enumerate(self.events[:before])
+                    if e.is_begin and e.kind == event.kind and e.frame == event.frame), default=0)
 
     def is_within(self, kind, before):
         """A call of the kind, not request, has begun and not ended."""
