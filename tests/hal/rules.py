@@ -1,7 +1,9 @@
 #!/usr/bin/env python3
-"""Holds a judge against the worked logs in rules/: of each rule RULE.log, which breaks it, and RULE.kept.log, the nearest
-one that doesn't, each with its report beside it; both were worked out by hand. No line of RULE.log can be left out: without
-it the log doesn't break the rule, or breaks another besides.
+"""Holds a judge against worked and recorded logs, each with its report beside it.
+
+rules/RULE.log breaks the rule, and rules/RULE.kept.log is the nearest one that doesn't; both were worked out by hand. No
+line of RULE.log can be left out: without it the log doesn't break the rule, or breaks another besides. recorded/RULE.log
+was recorded of tools/hal's small camera HAL, which was told to break the rule, or of a script that does.
 
 usage: rules.py [JUDGE WORD ..]      the judge's command, as ./camera hal --plain; plain_judge.py where none is named
 """
@@ -12,7 +14,8 @@ from pathlib import Path
 from hal_text import Refused, read
 from plain_judge import RULES, judge, report_lines
 
-FOLDER = Path(__file__).resolve().parent / "rules"
+WORKED = Path(__file__).resolve().parent / "rules"
+RECORDED = Path(__file__).resolve().parent / "recorded"
 # A breach that can't be alone: what the device accepts against a rule, the framework asked for against another one.
 COMPANIONS = {
     "no-configuration": {"unknown-stream"},
@@ -51,19 +54,25 @@ def unneeded_lines(data, name, is_strict):
     return found
 
 
+def compare(log, is_strict, command):
+    """What the judge says of a log, where that isn't the report beside it."""
+    said = report_of(log.read_bytes(), is_strict, command)
+    expected = log.with_suffix(".report").read_text(encoding="ascii")
+    return [] if said == expected else [f"{log.name}: said\n{said}and not\n{expected}"]
+
+
 def faults_of(name, is_strict, command):
-    """What is wrong with the two logs of a rule."""
-    faults = []
+    """What is wrong with the logs of a rule."""
+    faults = compare(RECORDED / f"{name}.log", True, command)
+    if rules_in((RECORDED / f"{name}.report").read_text(encoding="ascii")) != {name} | COMPANIONS.get(name, set()):
+        faults.append(f"recorded/{name}.report: tells of other rules")
     for kind in ("", ".kept"):
-        data = (FOLDER / f"{name}{kind}.log").read_bytes()
-        expected = (FOLDER / f"{name}{kind}.report").read_text(encoding="ascii")
-        said = report_of(data, is_strict, command)
-        if said != expected:
-            faults.append(f"{name}{kind}.log: said\n{said}and not\n{expected}")
+        faults += compare(WORKED / f"{name}{kind}.log", is_strict, command)
+        expected = (WORKED / f"{name}{kind}.report").read_text(encoding="ascii")
         allowed = {name} | COMPANIONS.get(name, set()) if not kind else COMPANIONS.get(name, set())
         if not rules_in(expected) <= allowed or (name in rules_in(expected)) != (not kind):
             faults.append(f"{name}{kind}.report: tells of other rules")
-    data = (FOLDER / f"{name}.log").read_bytes()
+    data = (WORKED / f"{name}.log").read_bytes()
     faults += [f"{name}.log: line {line} can be left out" for line in unneeded_lines(data, name, is_strict)]
     return faults
 
@@ -76,10 +85,10 @@ def main(command):
         failed += bool(faults)
         for fault in faults:
             print(fault)
-    files = {path.name.split(".")[0] for path in FOLDER.glob("*.log")}
-    if files != {name for name, _ in names}:
-        failed += 1
-        print("the logs aren't those of the rules")
+    for folder in (WORKED, RECORDED):
+        if {path.name.split(".")[0] for path in folder.glob("*.log")} != {name for name, _ in names}:
+            failed += 1
+            print(f"{folder.name}: the logs aren't those of the rules")
     print(f"{len(names) - failed} passed, {failed} failed")
     return 1 if failed else 0
 

@@ -31,7 +31,8 @@ bool drive_is_busy(const struct drive *drive)
     return drive->requests != NULL;
 }
 
-struct drive_request *drive_book(struct drive *drive, const camera3_capture_request_t *request, struct drive_buffer **buffers)
+struct drive_request *drive_book(struct drive *drive, const camera3_capture_request_t *request,
+                                 struct drive_buffer **buffers)
 {
     struct drive_request *made = calloc(1, sizeof(*made));
 
@@ -133,7 +134,7 @@ static bool ends_metadata(const struct drive *drive, const camera3_capture_resul
     uint32_t partial = result->partial_result;
 
     return result->result != NULL && get_camera_metadata_entry_count(result->result) != 0
-        && (partial == 0 || partial >= (uint32_t)drive->partials);
+           && (partial == 0 || partial >= (uint32_t)drive->partials);
 }
 
 static void on_result(const struct camera3_callback_ops *callbacks, const camera3_capture_result_t *result)

@@ -1,6 +1,6 @@
 /*
- * Buffers, and a stand-in for gralloc: shared memory behind a native handle. A HAL gets it by the module that it is opened
- * with (GRALLOC_HARDWARE_GPU0), or by hw_get_module, which this program exports.
+ * Buffers, and a stand-in for gralloc: shared memory behind a native handle. A HAL gets it by the module that it is
+ * opened with (GRALLOC_HARDWARE_GPU0), or by hw_get_module, which this program exports.
  */
 #include "drive.h"
 
@@ -44,8 +44,8 @@ void drive_handle_free(buffer_handle_t handle)
 
 /* ---- the device that allocates */
 
-static int allocate(struct alloc_device_t *device, int width, int height, int format, int usage, buffer_handle_t *handle,
-                    int *stride)
+static int allocate(struct alloc_device_t *device, int width, int height, int format, int usage,
+                    buffer_handle_t *handle, int *stride)
 {
     (void)device, (void)format, (void)usage;
     *handle = drive_handle_new((size_t)width * (size_t)height * 2);

@@ -47,7 +47,7 @@ void drive_template(struct drive *drive, int template)
         return;
     settings = drive->device->ops->construct_default_request_settings(drive->device, template);
     pthread_mutex_lock(&drive->lock);
-    if (template >= 0 && template < DRIVE_TEMPLATES)
+    if (template >= 0 && template <DRIVE_TEMPLATES)
         drive->settings[template] = settings;
     pthread_mutex_unlock(&drive->lock);
 }
@@ -66,7 +66,8 @@ static void note_configured(struct drive *drive, const struct drive_asked *asked
 int drive_configure(struct drive *drive, const struct drive_asked *asked, uint32_t mode, bool anyway)
 {
     camera3_stream_t *streams[DRIVE_MOST_STREAMS];
-    camera3_stream_configuration_t configuration = { .num_streams = (uint32_t)asked->count, .streams = streams,
+    camera3_stream_configuration_t configuration = { .num_streams = (uint32_t)asked->count,
+                                                     .streams = streams,
                                                      .operation_mode = mode };
     int answer;
 

@@ -1,4 +1,5 @@
-/* The driver's program: loads a HAL, plays a script against it, and ends the log, whatever happens. drive.h tells more. */
+/* The driver's program: loads a HAL, plays a script against it, and ends the log, whatever happens. drive.h tells more.
+ */
 #include "drive.h"
 
 #include <dlfcn.h>

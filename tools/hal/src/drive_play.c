@@ -150,6 +150,7 @@ bool drive_play(struct drive *drive, const struct drive_command *script)
 
 void drive_set_environment(const struct drive_command *script)
 {
-    for (const struct drive_command *command = script; command != NULL && command->kind == DRIVE_ENV; command = command->next)
+    for (const struct drive_command *command = script; command != NULL && command->kind == DRIVE_ENV;
+         command = command->next)
         setenv(command->name, command->text, 1);
 }

@@ -1,14 +1,16 @@
 /*
- * Writes a random script: what a correct framework may do, with what the small camera HAL may lack. It opens a camera once or
- * twice, configures it a few times, sends bursts with fences, flushes now and then, also while requests are sent, and closes
- * it, also while the camera has requests.
+ * Writes a random script: what a correct framework may do, with what the small camera HAL may lack. It opens a camera
+ * once or twice, configures it a few times, sends bursts with fences, flushes now and then, also while requests are
+ * sent, and closes it, also while the camera has requests.
  */
 #include "drive.h"
 
 #include <inttypes.h>
 #include <stdio.h>
 
-struct dice { uint64_t state; };
+struct dice {
+    uint64_t state;
+};
 
 /* A number from 0 to below the count. */
 static unsigned int roll(struct dice *dice, unsigned int count)
@@ -94,7 +96,11 @@ static void write_step(struct dice *dice, unsigned int streams)
 {
     switch (roll(dice, 12)) {
     case 0: printf("flush\n"); break;
-    case 1: printf("later %u flush\n", roll(dice, 12)); write_burst(dice, streams); printf("join\n"); break;
+    case 1:
+        printf("later %u flush\n", roll(dice, 12));
+        write_burst(dice, streams);
+        printf("join\n");
+        break;
     case 2: printf("sleep %u\n", roll(dice, 15)); break;
     case 3: printf("drain\n"); break;
     case 4: printf("template %u\n", 1 + roll(dice, 6)); break;

@@ -91,7 +91,8 @@ static struct drive_buffer *held_buffer(struct drive *drive, int stream)
 }
 
 /* Takes a buffer for the frame; waits until there is one. NULL: there is none for too long. */
-static struct drive_buffer *take_buffer(struct drive *drive, const struct drive_asked *asked, int stream, uint32_t frame)
+static struct drive_buffer *take_buffer(struct drive *drive, const struct drive_asked *asked, int stream,
+                                        uint32_t frame)
 {
     uint64_t until = drive_clock() + DRIVE_PATIENCE_MS * 1000;
     struct drive_buffer *buffer;
@@ -202,7 +203,8 @@ static void take_back_fences(struct drive *drive, const struct made *made)
         if (syscall(SYS_kcmp, getpid(), getpid(), COMPARE_FILES, fence, made->buffers[i]->signaller) == 0)
             close(fence);
         else
-            hal_tap_note(drive->tap, "request %u was refused, but its acquire fence is closed", made->request.frame_number);
+            hal_tap_note(drive->tap, "request %u was refused, but its acquire fence is closed",
+                         made->request.frame_number);
     }
 }
 

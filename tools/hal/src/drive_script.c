@@ -53,9 +53,14 @@ static bool take_number(struct words *words, long most, int *number)
 /* S FORMAT WxH [rotate D] [input|bidirectional] */
 static bool read_stream(struct words *words, struct drive_command *command)
 {
-    static const struct { const char *name; int format; } formats[] = {
-        { "YUV", HAL_PIXEL_FORMAT_YCbCr_420_888 }, { "IMPL", HAL_PIXEL_FORMAT_IMPLEMENTATION_DEFINED },
-        { "BLOB", HAL_PIXEL_FORMAT_BLOB },         { "RAW16", HAL_PIXEL_FORMAT_RAW16 },
+    static const struct {
+        const char *name;
+        int format;
+    } formats[] = {
+        { "YUV", HAL_PIXEL_FORMAT_YCbCr_420_888 },
+        { "IMPL", HAL_PIXEL_FORMAT_IMPLEMENTATION_DEFINED },
+        { "BLOB", HAL_PIXEL_FORMAT_BLOB },
+        { "RAW16", HAL_PIXEL_FORMAT_RAW16 },
     };
     camera3_stream_t *stream = &command->stream;
     const char *format, *size;
@@ -88,7 +93,8 @@ static bool read_streams(struct words *words, struct drive_asked *asked)
     if (takes(words, "none"))
         return true;
     asked->null = takes(words, "null");
-    while (asked->count < DRIVE_MOST_TARGETS && take_number(words, DRIVE_MOST_STREAMS - 1, &asked->streams[asked->count]))
+    while (asked->count < DRIVE_MOST_TARGETS
+           && take_number(words, DRIVE_MOST_STREAMS - 1, &asked->streams[asked->count]))
         asked->count++;
     return asked->null != (asked->count != 0);
 }
@@ -138,7 +144,7 @@ static bool read_request(struct words *words, struct drive_command *command)
 static bool read_burst(struct words *words, struct drive_command *command)
 {
     return take_number(words, 100000, &command->number) && read_streams(words, &command->asked)
-        && read_request_words(words, command);
+           && read_request_words(words, command);
 }
 
 static bool read_configure(struct words *words, struct drive_command *command)
@@ -196,21 +202,25 @@ static bool read_note(struct words *words, struct drive_command *command)
     size_t length = 0;
 
     while (peek(words) != NULL && length < sizeof(command->text))
-        length += (size_t)snprintf(command->text + length, sizeof(command->text) - length, "%s%s", length == 0 ? "" : " ",
-                                   words->word[words->next++]);
+        length += (size_t)snprintf(command->text + length, sizeof(command->text) - length, "%s%s",
+                                   length == 0 ? "" : " ", words->word[words->next++]);
     return length != 0;
 }
 
 /* ---- lines */
 
-static const struct { const char *name; enum drive_kind kind; bool (*read)(struct words *, struct drive_command *); } forms[] = {
-    { "env", DRIVE_ENV, read_environment },       { "note", DRIVE_NOTE, read_note },
-    { "stream", DRIVE_STREAM, read_stream },      { "open", DRIVE_OPEN, read_nothing },
-    { "init", DRIVE_INIT, read_nothing },         { "template", DRIVE_TEMPLATE, read_template },
-    { "use", DRIVE_USE, read_template },          { "configure", DRIVE_CONFIGURE, read_configure },
-    { "request", DRIVE_REQUEST, read_request },   { "burst", DRIVE_REQUEST, read_burst },
-    { "sleep", DRIVE_SLEEP, read_number },        { "drain", DRIVE_DRAIN, read_drain },
-    { "flush", DRIVE_FLUSH, read_nothing },       { "join", DRIVE_JOIN, read_nothing },
+static const struct {
+    const char *name;
+    enum drive_kind kind;
+    bool (*read)(struct words *, struct drive_command *);
+} forms[] = {
+    { "env", DRIVE_ENV, read_environment },     { "note", DRIVE_NOTE, read_note },
+    { "stream", DRIVE_STREAM, read_stream },    { "open", DRIVE_OPEN, read_nothing },
+    { "init", DRIVE_INIT, read_nothing },       { "template", DRIVE_TEMPLATE, read_template },
+    { "use", DRIVE_USE, read_template },        { "configure", DRIVE_CONFIGURE, read_configure },
+    { "request", DRIVE_REQUEST, read_request }, { "burst", DRIVE_REQUEST, read_burst },
+    { "sleep", DRIVE_SLEEP, read_number },      { "drain", DRIVE_DRAIN, read_drain },
+    { "flush", DRIVE_FLUSH, read_nothing },     { "join", DRIVE_JOIN, read_nothing },
     { "close", DRIVE_CLOSE, read_close },
 };
 

@@ -1,4 +1,5 @@
-/* The calls of the small camera HAL: what it accepts and refuses, and the flush and the close, which wait for the worker. */
+/* The calls of the small camera HAL: what it accepts and refuses, and the flush and the close, which wait for the
+ * worker. */
 #include "fake_camera.h"
 
 #include <errno.h>
@@ -83,7 +84,7 @@ static const camera_metadata_t *construct_default_request_settings(const struct 
     const camera_metadata_t *settings = NULL;
 
     pthread_mutex_lock(&camera->lock);
-    if (working(camera) == 0 && template > 0 && template < FAKE_TEMPLATES) {
+    if (working(camera) == 0 && template > 0 && template <FAKE_TEMPLATES) {
         if (camera->settings[template] == NULL)
             camera->settings[template] = fake_metadata(true);
         settings = camera->settings[template];
@@ -107,7 +108,7 @@ static bool takes_input(const camera3_stream_t *stream)
 static bool is_known_format(int format)
 {
     return format == HAL_PIXEL_FORMAT_YCbCr_420_888 || format == HAL_PIXEL_FORMAT_IMPLEMENTATION_DEFINED
-        || format == HAL_PIXEL_FORMAT_BLOB || format == HAL_PIXEL_FORMAT_RAW16;
+           || format == HAL_PIXEL_FORMAT_BLOB || format == HAL_PIXEL_FORMAT_RAW16;
 }
 
 static bool is_valid(const struct fake_camera *camera, const camera3_stream_configuration_t *asked)
@@ -125,10 +126,11 @@ static bool is_valid(const struct fake_camera *camera, const camera3_stream_conf
         inputs += takes_input(stream);
     }
     return (outputs != 0 || fake_breaks(camera, FAKE_ACCEPTED_NO_OUTPUT))
-        && (inputs <= 1 || fake_breaks(camera, FAKE_ACCEPTED_TWO_INPUTS));
+           && (inputs <= 1 || fake_breaks(camera, FAKE_ACCEPTED_TWO_INPUTS));
 }
 
-/* Waits a little for the frames that are open: what was told of one may be all, and its worker not at the end of it yet. */
+/* Waits a little for the frames that are open: what was told of one may be all, and its worker not at the end of it
+ * yet. */
 static bool is_idle(struct fake_camera *camera)
 {
     struct timespec end;
@@ -190,7 +192,7 @@ static bool is_valid_target(const struct fake_camera *camera, const camera3_stre
     if (target->buffer == NULL || *target->buffer == NULL || target->stream == NULL)
         return false;
     return (is_configured(camera, target->stream) || fake_breaks(camera, FAKE_ACCEPTED_UNKNOWN_STREAM))
-        && !is_held(camera, target->buffer);
+           && !is_held(camera, target->buffer);
 }
 
 static bool stands_twice(const camera3_capture_request_t *request, uint32_t place)
@@ -208,7 +210,7 @@ static bool has_bad_settings(const camera_metadata_t *settings)
     camera_metadata_ro_entry_t entry;
 
     return settings != NULL && find_camera_metadata_ro_entry(settings, ANDROID_SENSOR_TEST_PATTERN_MODE, &entry) == 0
-        && entry.data.i32[0] > ANDROID_SENSOR_TEST_PATTERN_MODE_PN9;
+           && entry.data.i32[0] > ANDROID_SENSOR_TEST_PATTERN_MODE_PN9;
 }
 
 static bool is_good_request(const struct fake_camera *camera, const camera3_capture_request_t *request)
@@ -238,7 +240,8 @@ static struct fake_frame *new_frame(const camera3_capture_request_t *request)
     for (uint32_t i = 0; i < frame->count; i++) {
         const camera3_stream_buffer_t *target = &request->output_buffers[i];
 
-        frame->targets[i] = (struct fake_target){ target->stream, target->buffer, target->acquire_fence, -1, false, false };
+        frame->targets[i] =
+            (struct fake_target){ target->stream, target->buffer, target->acquire_fence, -1, false, false };
     }
     return frame;
 }
@@ -299,20 +302,41 @@ static int accept_frame(struct fake_camera *camera, const camera3_capture_reques
     return 0;
 }
 
+/* Requests are taken in the order in which they enter, also from a framework that makes several calls at once. */
+static void take_turn_of_call(struct fake_camera *camera)
+{
+    struct timespec pause = { 0, (long)camera->options.call_us * 1000 };
+    unsigned int ticket;
+
+    pthread_mutex_lock(&camera->lock);
+    ticket = camera->next_ticket++;
+    pthread_mutex_unlock(&camera->lock);
+    nanosleep(&pause, NULL);
+    pthread_mutex_lock(&camera->lock);
+    while (camera->served_ticket != ticket)
+        pthread_cond_wait(&camera->changed, &camera->lock);
+}
+
+static void end_turn_of_call(struct fake_camera *camera)
+{
+    camera->served_ticket++;
+    pthread_cond_broadcast(&camera->changed);
+    pthread_mutex_unlock(&camera->lock);
+}
+
 static int process_capture_request(const struct camera3_device *device, camera3_capture_request_t *request)
 {
     struct fake_camera *camera = camera_of(device);
-    struct timespec pause = { 0, (long)camera->options.call_us * 1000 };
     int answer;
 
-    nanosleep(&pause, NULL);
-    pthread_mutex_lock(&camera->lock);
+    take_turn_of_call(camera);
     wait_for_room(camera);
     answer = camera->dying ? -ENODEV : working(camera);
     if (answer == 0)
         answer = is_good_request(camera, request) ? accept_frame(camera, request) : -EINVAL;
-    pthread_mutex_unlock(&camera->lock);
-    if (answer == -EINVAL && request != NULL && fake_breaks(camera, FAKE_REFUSED_AFTER_CALLBACK) && camera->callbacks != NULL)
+    end_turn_of_call(camera);
+    if (answer == -EINVAL && request != NULL && fake_breaks(camera, FAKE_REFUSED_AFTER_CALLBACK)
+        && camera->callbacks != NULL)
         fake_tell_shutter(camera, request->frame_number);
     return answer;
 }

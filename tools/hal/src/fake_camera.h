@@ -4,9 +4,8 @@
  * What it reads from the environment where a camera is opened:
  *
  *   FAKE_BREAK=RULE      break this rule of the device
- *   FAKE_DROP=KIND:N,..  each N-th frame lacks something: `request` fails whole, `result` has no last metadata, `buffer`
- *                        has a buffer that fails
- *   FAKE_EARLY=1         buffers go back at the shutter, with a release fence
+ *   FAKE_DROP=KIND:N,..  each N-th frame lacks something: `request` fails whole, `result` has no last metadata,
+ * `buffer` has a buffer that fails FAKE_EARLY=1         buffers go back at the shutter, with a release fence
  *   FAKE_DIE_AFTER=N     the device fails when it has finished N frames
  *   FAKE_FRAME_US=N      the time from frame to frame, 1,000 if unset
  *   FAKE_CALL_US=N       how long a request is in call at least, 0 if unset
@@ -62,7 +61,8 @@ struct fake_frame {
     struct fake_frame *next;
 };
 
-/* A part of a frame that is kept back until a later frame has overtaken it: a buffer, or without one the last metadata. */
+/* A part of a frame that is kept back until a later frame has overtaken it: a buffer, or without one the last metadata.
+ */
 struct fake_late {
     struct fake_frame *frame;
     struct fake_target *target;
@@ -83,6 +83,7 @@ struct fake_camera {
     struct fake_frame *first; /* the frames that are accepted and not finished, in their order */
     unsigned int open;        /* how many they are */
     unsigned int begun;
+    unsigned int next_ticket, served_ticket; /* of requests in call */
     bool has_number;
     uint32_t last_number;
 
