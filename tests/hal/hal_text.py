@@ -2,8 +2,9 @@
 
 The text is lines that end by LF or CR LF; words are separated by spaces; a line of spaces alone and a line whose first
 word begins with `#` are ignored, and count where lines are numbered, from 1 on. The first line that isn't ignored is
-`hal 1 K`. Causes: 43, the line has none of the shapes, or ends what was never begun; 42, a word in the place of a number
-isn't one, or is out of its range; 45, of line 0, the input is too long. In one line 43 comes before 42.
+`hal 1 K`. Causes: 43, the line has none of the shapes, or ends what was never begun; 42, a word in the place of a
+number isn't one, or is out of its range; 41, there is no line that counts, told of the line behind the last; 45, of
+line 0, the input is too long. In one line 43 comes before 42.
 """
 import re
 from dataclasses import dataclass

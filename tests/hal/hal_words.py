@@ -182,8 +182,8 @@ class Past:
     # ---- calls
 
     def begin_of(self, event, before):
-        """The place of the begin of the call that the event ends. Where the device was opened anew since, no begin stands,
-        and nothing before it: 0."""
+        """The place of the begin of the call that the event ends. Where the device was opened anew since, no begin
+        stands, and nothing before it: 0."""
         return max((place for place, e in enumerate(self.events[:before])
                     if e.is_begin and e.kind == event.kind and e.frame == event.frame), default=0)
 

@@ -1,6 +1,6 @@
 #!/usr/bin/env python3
-"""A judge of hal logs, by the definitions: each rule is a condition on an event and its past, and each word is recomputed
-over that past. It is slow, and independent of the program, whose judge is held against it.
+"""A judge of hal logs, by the definitions: each rule is a condition on an event and its past, and each word is
+recomputed over that past. It is slow, and independent of the program, whose judge is held against it.
 
 usage: plain_judge.py [--plain] [--strict] < LOG
        plain_judge.py [--strict] LOG ..              the same of each, its name before each line

@@ -3,9 +3,9 @@
 
 usage: random_log.py SEED
 
-A seed settles how wild both are: from none at all to where each choice is a wrong one as often as not. Calls and callbacks
-interleave, several may be in call, numbers may lie at the ends of their ranges, numbers are begun again, devices are opened
-anew; the log stops anywhere, and now and then a line is damaged, so that the log is refused.
+A seed settles how wild both are: from none at all to where each choice is a wrong one as often as not. Calls and
+callbacks interleave, several may be in call, numbers may lie at the ends of their ranges, numbers are begun again,
+devices are opened anew; the log stops anywhere, and now and then a line is damaged, so that the log is refused.
 """
 import random
 import sys
@@ -249,7 +249,8 @@ class Play:
         buffers = [self.returned(target, "error") for target in request.left]
         request.left, request.parts = [], []
         if buffers:
-            self.say("result", request.number, "partial", *self.dice.choice([(0, "none"), (self.count, "empty")]), *buffers)
+            pack = self.dice.choice([(0, "none"), (self.count, "empty")])
+            self.say("result", request.number, "partial", *pack, *buffers)
 
     def returned(self, target, status):
         stream, buffer, fence = target

@@ -1,9 +1,10 @@
 #!/usr/bin/env python3
 """Holds a judge against worked and recorded logs, each with its report beside it.
 
-rules/RULE.log breaks the rule, and rules/RULE.kept.log is the nearest one that doesn't; both were worked out by hand. No
-line of RULE.log can be left out: without it the log doesn't break the rule, or breaks another besides. recorded/RULE.log
-was recorded of tools/hal's small camera HAL, which was told to break the rule, or of a script that does.
+rules/RULE.log breaks the rule, and rules/RULE.kept.log is the nearest one that doesn't; both were worked out by hand.
+No line of RULE.log can be left out: without it the log doesn't break the rule, or breaks another besides.
+recorded/RULE.log was recorded of tools/hal's small camera HAL, which was told to break the rule, or of a script that
+does.
 
 usage: rules.py [JUDGE WORD ..]      the judge's command, as ./camera hal --plain; plain_judge.py where none is named
 """

@@ -1,7 +1,7 @@
 /*
- * hal_drive: plays a camera service against the shared object of a camera HAL, through the tap. A script says which calls it
- * makes (README.md has its lines). It owns streams, buffers, fences and settings, and is a correct framework: it waits where
- * the header asks for it, unless a word of the script says that a rule is to be broken.
+ * hal_drive: plays a camera service against the shared object of a camera HAL, through the tap. A script says which
+ * calls it makes (README.md has its lines). It owns streams, buffers, fences and settings, and is a correct framework:
+ * it waits where the header asks for it, unless a word of the script says that a rule is to be broken.
  */
 #ifndef DRIVE_H
 #define DRIVE_H
@@ -25,12 +25,12 @@
 struct drive_buffer {
     buffer_handle_t handle; /* &handle is what the camera is given */
     int stream;
-    bool held;         /* by the request */
+    bool held; /* by the request */
     uint32_t frame;
-    int release;       /* it may be used again when this is signalled, -1 at once */
-    int signaller;     /* the right to signal its acquire fence, -1 none */
-    uint64_t signal_at;/* microseconds of the clock, 0: not by itself */
-    uint64_t used;     /* the later the greater */
+    int release;        /* it may be used again when this is signalled, -1 at once */
+    int signaller;      /* the right to signal its acquire fence, -1 none */
+    uint64_t signal_at; /* microseconds of the clock, 0: not by itself */
+    uint64_t used;      /* the later the greater */
 };
 
 /* The stand-in for a gralloc module: the handle of a buffer of so many bytes, and its end. NULL: no memory. */
@@ -86,7 +86,7 @@ struct drive {
     struct drive_request *requests;
     uint32_t next_frame;
     unsigned int since_settings; /* requests since the last settings; 0: settings are due */
-    int template;
+    int template_id;
     const camera_metadata_t *settings[DRIVE_TEMPLATES];
 
     pthread_t signaller;
@@ -111,8 +111,20 @@ struct drive_asked {
 
 /* A line of a script. */
 enum drive_kind {
-    DRIVE_ENV, DRIVE_NOTE, DRIVE_STREAM, DRIVE_OPEN, DRIVE_INIT, DRIVE_TEMPLATE, DRIVE_USE, DRIVE_CONFIGURE, DRIVE_REQUEST,
-    DRIVE_SLEEP, DRIVE_DRAIN, DRIVE_FLUSH, DRIVE_JOIN, DRIVE_CLOSE
+    DRIVE_ENV,
+    DRIVE_NOTE,
+    DRIVE_STREAM,
+    DRIVE_OPEN,
+    DRIVE_INIT,
+    DRIVE_TEMPLATE,
+    DRIVE_USE,
+    DRIVE_CONFIGURE,
+    DRIVE_REQUEST,
+    DRIVE_SLEEP,
+    DRIVE_DRAIN,
+    DRIVE_FLUSH,
+    DRIVE_JOIN,
+    DRIVE_CLOSE
 };
 
 struct drive_command {
@@ -141,7 +153,7 @@ void drive_end(struct drive *drive);
 /* The calls; what the camera answered, -1 where the call wasn't made (drive_calls.c). */
 int drive_open(struct drive *drive);
 int drive_init(struct drive *drive);
-void drive_template(struct drive *drive, int template);
+void drive_template(struct drive *drive, int template_id);
 int drive_configure(struct drive *drive, const struct drive_asked *asked, uint32_t mode, bool anyway);
 int drive_flush(struct drive *drive);
 void drive_close(struct drive *drive);
@@ -157,7 +169,8 @@ void drive_give_up(struct drive *drive, const char *why);
 
 /* The camera has a request; with the lock taken (drive_book.c). */
 bool drive_is_busy(const struct drive *drive);
-struct drive_request *drive_book(struct drive *drive, const camera3_capture_request_t *request, struct drive_buffer **buffers);
+struct drive_request *drive_book(struct drive *drive, const camera3_capture_request_t *request,
+                                 struct drive_buffer **buffers);
 void drive_book_accepted(struct drive *drive, struct drive_request *request);
 void drive_book_refused(struct drive *drive, struct drive_request *request);
 void drive_forget_requests(struct drive *drive);
@@ -166,7 +179,7 @@ void drive_fill_callbacks(struct drive *drive);
 /* Waits on `changed`, at most until the time. False: the time is over. With the lock taken. */
 bool drive_wait(struct drive *drive, uint64_t until);
 
-/* Fences (drive_fences.c). A new acquire fence of the buffer: the descriptor for the camera, or -1. With the lock taken. */
+/* Fences (drive_fences.c); with the lock taken. A new acquire fence of the buffer: the camera's descriptor, or -1. */
 int drive_fence_new(struct drive *drive, struct drive_buffer *buffer, int after_ms);
 void drive_fence_drop(struct drive_buffer *buffer);
 bool drive_is_signalled(int fence);

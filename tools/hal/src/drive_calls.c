@@ -39,16 +39,16 @@ int drive_init(struct drive *drive)
     return note_answer(drive, drive->device->ops->initialize(drive->device, &drive->callbacks));
 }
 
-void drive_template(struct drive *drive, int template)
+void drive_template(struct drive *drive, int template_id)
 {
     const camera_metadata_t *settings;
 
     if (drive->device == NULL)
         return;
-    settings = drive->device->ops->construct_default_request_settings(drive->device, template);
+    settings = drive->device->ops->construct_default_request_settings(drive->device, template_id);
     pthread_mutex_lock(&drive->lock);
-    if (template >= 0 && template <DRIVE_TEMPLATES)
-        drive->settings[template] = settings;
+    if (template_id >= 0 && template_id < DRIVE_TEMPLATES)
+        drive->settings[template_id] = settings;
     pthread_mutex_unlock(&drive->lock);
 }
 

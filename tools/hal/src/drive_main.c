@@ -1,5 +1,4 @@
-/* The driver's program: loads a HAL, plays a script against it, and ends the log, whatever happens. drive.h tells more.
- */
+/* The driver's program: loads a HAL, plays a script against it, and ends the log, whatever happens. */
 #include "drive.h"
 
 #include <dlfcn.h>
@@ -133,7 +132,7 @@ int drive_start(struct drive *drive, const char *library, const char *log)
     pthread_condattr_setclock(&clock, CLOCK_MONOTONIC);
     pthread_cond_init(&drive->changed, &clock);
     pthread_condattr_destroy(&clock);
-    drive->template = CAMERA3_TEMPLATE_PREVIEW;
+    drive->template_id = CAMERA3_TEMPLATE_PREVIEW;
     drive->own_settings = allocate_camera_metadata(4, 64);
     if (drive->own_settings == NULL)
         return -1;

@@ -72,7 +72,7 @@ static void play_command(struct drive *drive, const struct drive_command *comman
     case DRIVE_OPEN: drive_open(drive); break;
     case DRIVE_INIT: drive_init(drive); break;
     case DRIVE_TEMPLATE: drive_template(drive, command->number); break;
-    case DRIVE_USE: drive->template = command->number; break;
+    case DRIVE_USE: drive->template_id = command->number; break;
     case DRIVE_CONFIGURE: drive_configure(drive, &command->asked, command->mode, command->anyway); break;
     case DRIVE_REQUEST: play_requests(drive, command); break;
     case DRIVE_SLEEP: drive_sleep((unsigned int)command->number); break;

@@ -162,7 +162,7 @@ static camera_metadata_t *worse(const camera_metadata_t *settings)
 
 static const camera_metadata_t *settings_of(struct drive *drive, const struct drive_asked *asked, struct made *made)
 {
-    const camera_metadata_t *settings = drive->settings[drive->template];
+    const camera_metadata_t *settings = drive->settings[drive->template_id];
     bool due = drive->since_settings % SETTINGS_EACH == 0;
 
     if (asked->settings == DRIVE_SAME || (asked->settings == DRIVE_AS_DUE && !due && !asked->bad_settings))

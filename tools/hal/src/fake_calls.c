@@ -1,5 +1,4 @@
-/* The calls of the small camera HAL: what it accepts and refuses, and the flush and the close, which wait for the
- * worker. */
+/* The calls of the small camera HAL: what it accepts and refuses; flush and close, which wait for the worker. */
 #include "fake_camera.h"
 
 #include <errno.h>
@@ -78,16 +77,16 @@ static int working(const struct fake_camera *camera)
     return camera->initialized || fake_breaks(camera, FAKE_ACCEPTED_BEFORE_INIT) ? 0 : -EINVAL;
 }
 
-static const camera_metadata_t *construct_default_request_settings(const struct camera3_device *device, int template)
+static const camera_metadata_t *construct_default_request_settings(const struct camera3_device *device, int template_id)
 {
     struct fake_camera *camera = camera_of(device);
     const camera_metadata_t *settings = NULL;
 
     pthread_mutex_lock(&camera->lock);
-    if (working(camera) == 0 && template > 0 && template <FAKE_TEMPLATES) {
-        if (camera->settings[template] == NULL)
-            camera->settings[template] = fake_metadata(true);
-        settings = camera->settings[template];
+    if (working(camera) == 0 && template_id > 0 && template_id < FAKE_TEMPLATES) {
+        if (camera->settings[template_id] == NULL)
+            camera->settings[template_id] = fake_metadata(true);
+        settings = camera->settings[template_id];
     }
     pthread_mutex_unlock(&camera->lock);
     return settings;
@@ -129,8 +128,7 @@ static bool is_valid(const struct fake_camera *camera, const camera3_stream_conf
            && (inputs <= 1 || fake_breaks(camera, FAKE_ACCEPTED_TWO_INPUTS));
 }
 
-/* Waits a little for the frames that are open: what was told of one may be all, and its worker not at the end of it
- * yet. */
+/* Waits a little for the frames that are open: all of one may be told, and its worker not at the end of it yet. */
 static bool is_idle(struct fake_camera *camera)
 {
     struct timespec end;

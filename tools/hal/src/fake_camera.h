@@ -61,8 +61,7 @@ struct fake_frame {
     struct fake_frame *next;
 };
 
-/* A part of a frame that is kept back until a later frame has overtaken it: a buffer, or without one the last metadata.
- */
+/* A part of a frame that is kept back until a later frame has overtaken it: a buffer, or else the last metadata. */
 struct fake_late {
     struct fake_frame *frame;
     struct fake_target *target;

@@ -1,6 +1,7 @@
 /*
- * What the small camera HAL tells of its frames: shutters, metadata, buffers and errors; and how each rule is broken where
- * that is asked for. A frame that is whole has its shutter and first part at its exposure, and the rest when it is finished.
+ * What the small camera HAL tells of its frames: shutters, metadata, buffers and errors; and how each rule is broken
+ * where that is asked for. A frame that is whole has its shutter and first part at its exposure, and the rest when it
+ * is finished.
  */
 #include "fake_camera.h"
 
@@ -86,8 +87,9 @@ static int release_of(const struct fake_camera *camera, const struct fake_frame 
 static camera3_stream_buffer_t returned_of(struct fake_camera *camera, const struct fake_frame *frame,
                                            struct fake_target *target, bool failed)
 {
-    camera3_stream_buffer_t buffer = { .stream = target->stream, .buffer = target->buffer, .acquire_fence = -1,
-                                       .release_fence = -1 };
+    camera3_stream_buffer_t buffer = {
+        .stream = target->stream, .buffer = target->buffer, .acquire_fence = -1, .release_fence = -1
+    };
 
     buffer.status = failed ? CAMERA3_BUFFER_STATUS_ERROR : CAMERA3_BUFFER_STATUS_OK;
     if (failed)
@@ -100,7 +102,8 @@ static camera3_stream_buffer_t returned_of(struct fake_camera *camera, const str
     return buffer;
 }
 
-static void tell_buffer_error(struct fake_camera *camera, const struct fake_frame *frame, const struct fake_target *target)
+static void tell_buffer_error(struct fake_camera *camera, const struct fake_frame *frame,
+                              const struct fake_target *target)
 {
     if (!fake_breaks_with(camera, frame, FAKE_FAILED_WITHOUT_NOTICE))
         fake_tell_error(camera, frame->number, target->stream, CAMERA3_MSG_ERROR_BUFFER);
@@ -111,14 +114,15 @@ static void tell_buffer_error(struct fake_camera *camera, const struct fake_fram
 }
 
 /* One result with the buffer, and with the pack of the number where there is one. */
-static void tell_buffer(struct fake_camera *camera, struct fake_frame *frame, struct fake_target *target, uint32_t partial,
-                        const camera_metadata_t *pack)
+static void tell_buffer(struct fake_camera *camera, struct fake_frame *frame, struct fake_target *target,
+                        uint32_t partial, const camera_metadata_t *pack)
 {
     bool failed = target->failed && !fake_breaks_with(camera, frame, FAKE_GOOD_AFTER_ERROR);
     camera3_stream_buffer_t buffers[2];
 
     buffers[0] = buffers[1] = returned_of(camera, frame, target, failed);
-    tell_result(camera, frame->number, partial, pack, fake_breaks_with(camera, frame, FAKE_NOT_AT_DEVICE) ? 2 : 1, buffers);
+    tell_result(camera, frame->number, partial, pack, fake_breaks_with(camera, frame, FAKE_NOT_AT_DEVICE) ? 2 : 1,
+                buffers);
     if (fake_breaks_with(camera, frame, FAKE_ERROR_FOR_GOOD_BUFFER))
         fake_tell_error(camera, frame->number, target->stream, CAMERA3_MSG_ERROR_BUFFER);
 }
@@ -247,7 +251,8 @@ static void tell_first_parts(struct fake_camera *camera, struct fake_frame *fram
 }
 
 /* The buffers that aren't back, the first one with the pack where `together`. */
-static void tell_buffers(struct fake_camera *camera, struct fake_frame *frame, const camera_metadata_t *pack, bool *together)
+static void tell_buffers(struct fake_camera *camera, struct fake_frame *frame, const camera_metadata_t *pack,
+                         bool *together)
 {
     for (uint32_t i = 0; i < frame->count; i++) {
         struct fake_target *target = &frame->targets[i];

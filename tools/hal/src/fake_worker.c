@@ -1,6 +1,7 @@
 /*
- * The thread of the small camera HAL that makes the frames, one at each tick: it exposes the next frame whose acquire fences
- * are signalled, and finishes the one before. In a flush it finishes the frame that is exposed and fails all others.
+ * The thread of the small camera HAL that makes the frames, one at each tick: it exposes the next frame whose acquire
+ * fences are signalled, and finishes the one before. In a flush it finishes the frame that is exposed and fails all
+ * others.
  */
 #include "fake_camera.h"
 
@@ -181,7 +182,7 @@ static void pause_frame(struct fake_camera *camera)
     pthread_mutex_unlock(&camera->lock);
 }
 
-/* Where buffers go back early, a frame that fails whole isn't overtaken by the next: it goes back at its exposure too. */
+/* Where buffers go back early, a frame that fails whole goes back at its exposure too: the next mustn't overtake it. */
 static void expose(struct fake_camera *camera, struct fake_frame *frame)
 {
     struct fake_frame *before = camera->exposing;

@@ -36,15 +36,17 @@ void tap_say(struct hal_tap *tap, const char *format, ...)
 
 struct tap_error_name tap_name_of_error(int error)
 {
-    static const struct { int error; const char *name; } known[] = {
-        { EPERM, "EPERM" },         { ENOENT, "ENOENT" },       { EINTR, "EINTR" },     { EIO, "EIO" },
-        { ENXIO, "ENXIO" },         { EAGAIN, "EAGAIN" },       { ENOMEM, "ENOMEM" },   { EACCES, "EACCES" },
-        { EFAULT, "EFAULT" },       { EBUSY, "EBUSY" },         { EEXIST, "EEXIST" },   { ENODEV, "ENODEV" },
-        { EINVAL, "EINVAL" },       { EMFILE, "EMFILE" },       { ENOSPC, "ENOSPC" },   { EPIPE, "EPIPE" },
-        { EDOM, "EDOM" },           { ERANGE, "ERANGE" },       { ENOSYS, "ENOSYS" },   { ENODATA, "ENODATA" },
-        { EPROTO, "EPROTO" },       { EUSERS, "EUSERS" },       { ENOTCONN, "ENOTCONN" },
-        { ETIMEDOUT, "ETIMEDOUT" }, { EALREADY, "EALREADY" },   { ECANCELED, "ECANCELED" },
-        { EOPNOTSUPP, "EOPNOTSUPP" }, { EOVERFLOW, "EOVERFLOW" },
+    static const struct {
+        int error;
+        const char *name;
+    } known[] = {
+        { EPERM, "EPERM" },       { ENOENT, "ENOENT" },       { EINTR, "EINTR" },           { EIO, "EIO" },
+        { ENXIO, "ENXIO" },       { EAGAIN, "EAGAIN" },       { ENOMEM, "ENOMEM" },         { EACCES, "EACCES" },
+        { EFAULT, "EFAULT" },     { EBUSY, "EBUSY" },         { EEXIST, "EEXIST" },         { ENODEV, "ENODEV" },
+        { EINVAL, "EINVAL" },     { EMFILE, "EMFILE" },       { ENOSPC, "ENOSPC" },         { EPIPE, "EPIPE" },
+        { EDOM, "EDOM" },         { ERANGE, "ERANGE" },       { ENOSYS, "ENOSYS" },         { ENODATA, "ENODATA" },
+        { EPROTO, "EPROTO" },     { EUSERS, "EUSERS" },       { ENOTCONN, "ENOTCONN" },     { ETIMEDOUT, "ETIMEDOUT" },
+        { EALREADY, "EALREADY" }, { ECANCELED, "ECANCELED" }, { EOPNOTSUPP, "EOPNOTSUPP" }, { EOVERFLOW, "EOVERFLOW" },
     };
     unsigned int number = error < 0 ? 0u - (unsigned int)error : (unsigned int)error;
     struct tap_error_name name;

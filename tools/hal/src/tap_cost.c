@@ -1,6 +1,6 @@
 /*
- * Measures what the tap adds to a callback and to a call: a device that does nothing, with the tap and without it. Ends with 1
- * where the median of a callback is 20 microseconds or more.
+ * Measures what the tap adds to a callback and to a call: a device that does nothing, with the tap and without it. Ends
+ * with 1 where the median of a callback is 20 microseconds or more.
  */
 #include "hal_tap.h"
 
@@ -68,14 +68,17 @@ static double microseconds(void)
 enum { SHUTTER, RESULT, REQUEST, KINDS };
 
 /* Of each kind of call, how long each took. */
-struct times { double of[KINDS][ROUNDS]; };
+struct times {
+    double of[KINDS][ROUNDS];
+};
 
 static double since(double start)
 {
     return microseconds() - start;
 }
 
-/* One buffer with an acquire fence that comes back as its release fence: the dearest case, in which fences are compared. */
+/* One buffer with an acquire fence that comes back as its release fence: the dearest case, since fences are compared.
+ */
 static void run(struct idle *idle, camera3_device_t *device, struct idle_framework *framework, struct times *times)
 {
     native_handle_t native = { .version = sizeof(native), .numFds = 0, .numInts = 0 };

@@ -19,7 +19,7 @@ int tap_file_open(struct tap_file *file, const char *path);
 /* Writes the line and its end. Where that fails (a full disk) the log stops behind the last whole line. */
 void tap_file_write(struct tap_file *file, struct tap_line *line);
 
-/* Says in a comment why nothing more is written, and stops. A log may stop anywhere; one with a gap would accuse wrongly. */
+/* Says in a comment why nothing more is written, and stops: a log may stop anywhere, one with a gap accuses wrongly. */
 void tap_file_stop(struct tap_file *file, const char *cause);
 
 void tap_file_close(struct tap_file *file);

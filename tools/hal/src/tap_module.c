@@ -57,7 +57,8 @@ static int partial_results(const char *id)
     memset(&info, 0, sizeof(info));
     if (state.module->get_camera_info(atoi(id), &info) != 0 || info.static_camera_characteristics == NULL)
         return 1;
-    if (find_camera_metadata_ro_entry(info.static_camera_characteristics, ANDROID_REQUEST_PARTIAL_RESULT_COUNT, &entry) != 0
+    if (find_camera_metadata_ro_entry(info.static_camera_characteristics, ANDROID_REQUEST_PARTIAL_RESULT_COUNT, &entry)
+            != 0
         || entry.count == 0)
         return 1;
     return entry.data.i32[0];

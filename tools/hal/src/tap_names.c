@@ -49,7 +49,7 @@ bool tap_names_known_stream(const struct tap_names *names, const camera3_stream_
     return tap_map_find(&names->streams, stream, number);
 }
 
-/* The handle at a place that a device named, which needn't be one: asks the system to read it, so that nothing can fail. */
+/* The handle at a place that a device named, which needn't be one: the system reads it, so that nothing can fail. */
 static buffer_handle_t handle_at(buffer_handle_t *place)
 {
     buffer_handle_t handle = NULL;
@@ -80,7 +80,7 @@ static bool is_same_inode(int one, int other)
     struct stat first, second;
 
     return fstat(one, &first) == 0 && fstat(other, &second) == 0 && (first.st_mode & S_IFMT) != 0
-        && first.st_dev == second.st_dev && first.st_ino == second.st_ino;
+           && first.st_dev == second.st_dev && first.st_ino == second.st_ino;
 }
 
 /* The descriptor is of the same open file as the fence, and so of the same sync object. */

@@ -77,14 +77,14 @@ static int register_stream_buffers(const struct camera3_device *device, const ca
     return self->camera->ops->register_stream_buffers(self->camera, buffers);
 }
 
-static const camera_metadata_t *construct_default_request_settings(const struct camera3_device *device, int template)
+static const camera_metadata_t *construct_default_request_settings(const struct camera3_device *device, int template_id)
 {
     struct tap_device *self = device_of(device);
     const camera_metadata_t *settings;
 
-    tap_say(self->tap, "template %u begin", (unsigned int)template);
-    settings = self->camera->ops->construct_default_request_settings(self->camera, template);
-    tap_say(self->tap, "template %u end %s", (unsigned int)template, settings == NULL ? "null" : "ok");
+    tap_say(self->tap, "template %u begin", (unsigned int)template_id);
+    settings = self->camera->ops->construct_default_request_settings(self->camera, template_id);
+    tap_say(self->tap, "template %u end %s", (unsigned int)template_id, settings == NULL ? "null" : "ok");
     return settings;
 }
 

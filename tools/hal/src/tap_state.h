@@ -21,7 +21,8 @@ struct hal_tap {
     struct tap_device *devices;
 };
 
-/* A device of the tap, in the place of the camera's own. It stays until the tap ends: a camera may call back after a close. */
+/* A device of the tap, in the place of the camera's own. It stays until the tap ends: callbacks may come after a close.
+ */
 struct tap_device {
     camera3_device_t device; /* what the framework is given */
     camera3_device_ops_t ops;
@@ -43,7 +44,9 @@ void tap_say(struct hal_tap *tap, const char *format, ...) __attribute__((format
 void tap_say_end(struct hal_tap *tap, const char *what, int answer);
 
 /* The name of an error as the log has it: EINVAL, E123. */
-struct tap_error_name { char text[16]; };
+struct tap_error_name {
+    char text[16];
+};
 struct tap_error_name tap_name_of_error(int error);
 
 /* The lines of the calls and callbacks with lists (tap_words.c). Each takes the lock. */

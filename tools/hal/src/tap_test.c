@@ -1,6 +1,6 @@
 /*
- * Tests the tap alone, against a camera that does nothing: what it writes of each call and callback, numbers of streams,
- * buffers and fences, what stops a log, several logs at once, and that no line is lost where the process dies.
+ * Tests the tap alone, against a camera that does nothing: what it writes of each call and callback, numbers of
+ * streams, buffers and fences, what stops a log, several logs at once, and that no line is lost where the process dies.
  */
 #include "hal_tap.h"
 
@@ -49,9 +49,9 @@ static int configure_streams(const struct camera3_device *device, camera3_stream
     return camera_of(device)->answer;
 }
 
-static const camera_metadata_t *construct_default_request_settings(const struct camera3_device *device, int template)
+static const camera_metadata_t *construct_default_request_settings(const struct camera3_device *device, int template_id)
 {
-    (void)template;
+    (void)template_id;
     return camera_of(device)->settings;
 }
 
@@ -114,7 +114,8 @@ static void start(struct bench *bench, const char *name)
     bench->camera.device.common.close = close_camera;
     bench->camera.device.ops = &ops;
     bench->tap = hal_tap_new(bench->path, 2);
-    bench->device = bench->tap == NULL ? NULL : (camera3_device_t *)hal_tap_wrap(bench->tap, &bench->camera.device.common);
+    bench->device =
+        bench->tap == NULL ? NULL : (camera3_device_t *)hal_tap_wrap(bench->tap, &bench->camera.device.common);
     if (bench->device == NULL) {
         perror(bench->path);
         exit(2);
@@ -172,8 +173,10 @@ static void result(struct bench *bench, uint32_t frame, uint32_t count, const ca
 
 static camera3_stream_buffer_t buffer_of(struct bench *bench, int stream, int handle, int acquire, int release)
 {
-    return (camera3_stream_buffer_t){ .stream = &bench->streams[stream], .buffer = &bench->handles[handle],
-                                      .acquire_fence = acquire, .release_fence = release };
+    return (camera3_stream_buffer_t){ .stream = &bench->streams[stream],
+                                      .buffer = &bench->handles[handle],
+                                      .acquire_fence = acquire,
+                                      .release_fence = release };
 }
 
 /* ---- calls */

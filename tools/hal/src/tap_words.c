@@ -94,7 +94,8 @@ void tap_say_configured(struct hal_tap *tap, const camera3_stream_configuration_
 /* ---- requests */
 
 /* S:bB:F; false: no memory. */
-static bool add_target(struct hal_tap *tap, struct tap_line *line, uint32_t frame, const camera3_stream_buffer_t *target)
+static bool add_target(struct hal_tap *tap, struct tap_line *line, uint32_t frame,
+                       const camera3_stream_buffer_t *target)
 {
     uint32_t stream, buffer;
     int64_t fence;
@@ -171,7 +172,8 @@ static const char *status_of(int status)
 }
 
 /* S:bB:ok|error|?:F[:acquire] */
-static void add_returned(struct hal_tap *tap, struct tap_line *line, uint32_t frame, const camera3_stream_buffer_t *returned)
+static void add_returned(struct hal_tap *tap, struct tap_line *line, uint32_t frame,
+                         const camera3_stream_buffer_t *returned)
 {
     int64_t fence = tap_names_release(&tap->names, frame, returned->release_fence);
     uint32_t stream, buffer;
