@@ -4,7 +4,7 @@
 rules/RULE.log breaks the rule, and rules/RULE.kept.log is the nearest one that doesn't; both were worked out by hand.
 No line of RULE.log can be left out: without it the log doesn't break the rule, or breaks another besides.
 recorded/RULE.log was recorded of tools/hal's small camera HAL, which was told to break the rule, or of a script that
-does.
+does; libcamera/*.log of the HAL of docs/LIBCAMERA.md.
 
 usage: rules.py [JUDGE WORD ..]      the judge's command, as ./camera hal --plain; plain_judge.py where none is named
 """
@@ -17,6 +17,7 @@ from plain_judge import RULES, judge, report_lines
 
 WORKED = Path(__file__).resolve().parent / "rules"
 RECORDED = Path(__file__).resolve().parent / "recorded"
+LIBCAMERA = Path(__file__).resolve().parent / "libcamera"
 # A breach that can't be alone: what the device accepts against a rule, the framework asked for against another one.
 COMPANIONS = {
     "no-configuration": {"unknown-stream"},
@@ -80,9 +81,10 @@ def faults_of(name, is_strict, command):
 
 def main(command):
     names = [(name, is_strict) for name, _, is_strict, _ in RULES]
+    logs = sorted(LIBCAMERA.glob("*.log"))
     failed = 0
-    for name, is_strict in names:
-        faults = faults_of(name, is_strict, command)
+    for faults in [faults_of(name, is_strict, command) for name, is_strict in names] \
+            + [compare(log, True, command) for log in logs]:
         failed += bool(faults)
         for fault in faults:
             print(fault)
@@ -90,7 +92,7 @@ def main(command):
         if {path.name.split(".")[0] for path in folder.glob("*.log")} != {name for name, _ in names}:
             failed += 1
             print(f"{folder.name}: the logs aren't those of the rules")
-    print(f"{len(names) - failed} passed, {failed} failed")
+    print(f"{len(names) + len(logs) - failed} passed, {failed} failed")
     return 1 if failed else 0
 
 

@@ -72,6 +72,7 @@ struct drive {
     struct drive_module stand_in;
     int partials;
     int32_t jpeg_size;
+    const camera_metadata_t *characteristics;
     camera_metadata_t *own_settings; /* where no template is known */
     buffer_handle_t null_handle;
 
@@ -106,7 +107,7 @@ struct drive_asked {
     int fence_ms; /* signalled after so long; DRIVE_NO_FENCE, DRIVE_NEVER */
     bool has_frame;
     uint32_t frame;
-    bool over, held, no_handle, bad_settings, null;
+    bool over, held, no_handle, bad_settings, null, anyway;
 };
 
 /* A line of a script. */
@@ -135,6 +136,7 @@ struct drive_command {
     int gap_ms;
     uint32_t mode;
     bool anyway;
+    bool largest; /* a stream's size: the largest that the camera has for its format */
     struct drive_asked asked;
     camera3_stream_t stream;
     char name[64], text[256];

@@ -110,6 +110,7 @@ static int begin_log(struct drive *drive, const char *library, const char *log)
         fprintf(stderr, "hal_drive: %s: no camera\n", library);
         return -1;
     }
+    drive->characteristics = info.static_camera_characteristics;
     drive->partials = number_in(info.static_camera_characteristics, ANDROID_REQUEST_PARTIAL_RESULT_COUNT, 1);
     drive->jpeg_size = number_in(info.static_camera_characteristics, ANDROID_JPEG_MAX_SIZE, 8 << 20);
     drive->tap = hal_tap_new(log, drive->partials);

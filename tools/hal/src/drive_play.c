@@ -3,6 +3,7 @@
 
 #include <hardware/gralloc.h>
 #include <stdlib.h>
+#include <system/camera_metadata.h>
 
 struct drive_later {
     pthread_t thread;
@@ -28,6 +29,29 @@ static bool is_lost(struct drive *drive)
 
 /* ---- single commands */
 
+/* The largest size that the camera has for outputs of the format; 640x480 where it names none. */
+static void take_largest(const struct drive *drive, camera3_stream_t *stream)
+{
+    camera_metadata_ro_entry_t entry = { .count = 0 };
+
+    stream->width = 640;
+    stream->height = 480;
+    if (drive->characteristics == NULL
+        || find_camera_metadata_ro_entry(drive->characteristics, ANDROID_SCALER_AVAILABLE_STREAM_CONFIGURATIONS, &entry)
+               != 0)
+        return;
+    for (size_t i = 0; i + 3 < entry.count; i += 4) {
+        const int32_t *size = &entry.data.i32[i];
+
+        if (size[0] != stream->format || size[3] != ANDROID_SCALER_AVAILABLE_STREAM_CONFIGURATIONS_OUTPUT)
+            continue;
+        if ((int64_t)size[1] * size[2] > (int64_t)stream->width * stream->height) {
+            stream->width = (uint32_t)size[1];
+            stream->height = (uint32_t)size[2];
+        }
+    }
+}
+
 static void define_stream(struct drive *drive, const struct drive_command *command)
 {
     struct drive_stream *stream = &drive->streams[command->number];
@@ -36,6 +60,8 @@ static void define_stream(struct drive *drive, const struct drive_command *comma
     stream->defined = true;
     stream->stream = command->stream;
     stream->stream.usage = GRALLOC_USAGE_SW_READ_OFTEN;
+    if (command->largest)
+        take_largest(drive, &stream->stream);
     pthread_mutex_unlock(&drive->lock);
 }
 

@@ -224,6 +224,18 @@ static void note_request(struct drive *drive, const struct made *made, int answe
     pthread_mutex_unlock(&drive->lock);
 }
 
+/* Each stream is in the configuration, which the camera may have refused. */
+static bool are_configured(struct drive *drive, const struct drive_asked *asked)
+{
+    bool all = true;
+
+    pthread_mutex_lock(&drive->lock);
+    for (int i = 0; i < asked->count; i++)
+        all = all && drive->streams[asked->streams[i]].configured;
+    pthread_mutex_unlock(&drive->lock);
+    return all;
+}
+
 bool drive_request(struct drive *drive, const struct drive_asked *asked)
 {
     struct made made = { .bad_settings = NULL };
@@ -233,6 +245,10 @@ bool drive_request(struct drive *drive, const struct drive_asked *asked)
         return true;
     if (asked->null) {
         drive->device->ops->process_capture_request(drive->device, NULL);
+        return true;
+    }
+    if (!asked->anyway && !are_configured(drive, asked)) {
+        hal_tap_note(drive->tap, "a request is left out: the camera didn't configure its streams");
         return true;
     }
     pthread_mutex_lock(&drive->lock);

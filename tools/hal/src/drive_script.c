@@ -50,7 +50,7 @@ static bool take_number(struct words *words, long most, int *number)
 
 /* ---- the words of one command each */
 
-/* S FORMAT WxH [rotate D] [input|bidirectional] */
+/* S FORMAT WxH|largest [rotate D] [input|bidirectional] */
 static bool read_stream(struct words *words, struct drive_command *command)
 {
     static const struct {
@@ -74,7 +74,8 @@ static bool read_stream(struct words *words, struct drive_command *command)
     for (size_t i = 0; i < sizeof(formats) / sizeof(formats[0]); i++)
         if (strcmp(format, formats[i].name) == 0)
             stream->format = formats[i].format;
-    if (stream->format == -1 || sscanf(size, "%ux%u", &stream->width, &stream->height) != 2)
+    command->largest = strcmp(size, "largest") == 0;
+    if (stream->format == -1 || (!command->largest && sscanf(size, "%ux%u", &stream->width, &stream->height) != 2))
         return false;
     if (takes(words, "rotate") && !take_number(words, 270, &degrees))
         return false;
@@ -118,6 +119,8 @@ static bool read_request_words(struct words *words, struct drive_command *comman
             asked->settings = DRIVE_SAME;
         else if (takes(words, "over"))
             asked->over = true;
+        else if (takes(words, "anyway"))
+            asked->anyway = true;
         else if (takes(words, "held"))
             asked->held = true;
         else if (takes(words, "nohandle"))
