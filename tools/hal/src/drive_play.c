@@ -1,0 +1,182 @@
+/* Plays the commands of a script, some of them on threads of their own. */
+#include "drive.h"
+
+#include <hardware/gralloc.h>
+#include <stdlib.h>
+#include <system/camera_metadata.h>
+
+struct drive_later {
+    pthread_t thread;
+    struct drive *drive;
+    const struct drive_command *command;
+    struct drive_later *next;
+};
+
+static bool is_set(struct drive *drive, const bool *flag)
+{
+    bool set;
+
+    pthread_mutex_lock(&drive->lock);
+    set = *flag;
+    pthread_mutex_unlock(&drive->lock);
+    return set;
+}
+
+static bool is_lost(struct drive *drive)
+{
+    return is_set(drive, &drive->lost);
+}
+
+/* ---- single commands */
+
+/* The largest size that the camera has for outputs of the format; 640x480 where it names none. */
+static void take_largest(const struct drive *drive, camera3_stream_t *stream)
+{
+    camera_metadata_ro_entry_t entry = { .count = 0 };
+
+    stream->width = 640;
+    stream->height = 480;
+    if (drive->characteristics == NULL
+        || find_camera_metadata_ro_entry(drive->characteristics, ANDROID_SCALER_AVAILABLE_STREAM_CONFIGURATIONS, &entry)
+               != 0)
+        return;
+    for (size_t i = 0; i + 3 < entry.count; i += 4) {
+        const int32_t *size = &entry.data.i32[i];
+
+        if (size[0] != stream->format || size[3] != ANDROID_SCALER_AVAILABLE_STREAM_CONFIGURATIONS_OUTPUT)
+            continue;
+        if ((int64_t)size[1] * size[2] > (int64_t)stream->width * stream->height) {
+            stream->width = (uint32_t)size[1];
+            stream->height = (uint32_t)size[2];
+        }
+    }
+}
+
+static void define_stream(struct drive *drive, const struct drive_command *command)
+{
+    struct drive_stream *stream = &drive->streams[command->number];
+
+    pthread_mutex_lock(&drive->lock);
+    stream->defined = true;
+    stream->stream = command->stream;
+    stream->stream.usage = GRALLOC_USAGE_SW_READ_OFTEN;
+    if (command->largest)
+        take_largest(drive, &stream->stream);
+    pthread_mutex_unlock(&drive->lock);
+}
+
+static void play_requests(struct drive *drive, const struct drive_command *command)
+{
+    for (int i = 0; i < command->number && !is_lost(drive) && !is_set(drive, &drive->dead); i++) {
+        if (!drive_request(drive, &command->asked))
+            drive_give_up(drive, "no buffer is free: the camera keeps them, or has none that the script asks for");
+        if (command->gap_ms != 0)
+            drive_sleep((unsigned int)command->gap_ms);
+    }
+}
+
+static void set_environment(struct drive *drive, const struct drive_command *command)
+{
+    setenv(command->name, command->text, 1);
+    hal_tap_note(drive->tap, "env %s %s", command->name, command->text);
+}
+
+/* A framework that was told of the device's failure sends and configures nothing any more. */
+static bool is_pointless(struct drive *drive, const struct drive_command *command)
+{
+    return (command->kind == DRIVE_REQUEST || command->kind == DRIVE_CONFIGURE) && is_set(drive, &drive->dead);
+}
+
+static void play_command(struct drive *drive, const struct drive_command *command)
+{
+    if (is_pointless(drive, command))
+        return;
+    switch (command->kind) {
+    case DRIVE_ENV: set_environment(drive, command); break;
+    case DRIVE_NOTE: hal_tap_note(drive->tap, "%s", command->text); break;
+    case DRIVE_STREAM: define_stream(drive, command); break;
+    case DRIVE_OPEN: drive_open(drive); break;
+    case DRIVE_INIT: drive_init(drive); break;
+    case DRIVE_TEMPLATE: drive_template(drive, command->number); break;
+    case DRIVE_USE: drive->template_id = command->number; break;
+    case DRIVE_CONFIGURE: drive_configure(drive, &command->asked, command->mode, command->anyway); break;
+    case DRIVE_REQUEST: play_requests(drive, command); break;
+    case DRIVE_SLEEP: drive_sleep((unsigned int)command->number); break;
+    case DRIVE_DRAIN: drive_drain(drive, (unsigned int)command->number); break;
+    case DRIVE_FLUSH: drive_flush(drive); break;
+    case DRIVE_CLOSE: drive_close(drive); break;
+    case DRIVE_JOIN: break;
+    }
+}
+
+/* ---- threads */
+
+static void *play_later(void *argument)
+{
+    struct drive_later *later = argument;
+
+    drive_sleep((unsigned int)later->command->later_ms);
+    play_command(later->drive, later->command);
+    return NULL;
+}
+
+static void start_later(struct drive *drive, const struct drive_command *command)
+{
+    struct drive_later *later = calloc(1, sizeof(*later));
+
+    if (later == NULL)
+        return;
+    later->drive = drive;
+    later->command = command;
+    if (pthread_create(&later->thread, NULL, play_later, later) != 0) {
+        free(later);
+        return;
+    }
+    later->next = drive->laters;
+    drive->laters = later;
+}
+
+static void join(struct drive *drive)
+{
+    while (drive->laters != NULL) {
+        struct drive_later *later = drive->laters;
+
+        drive->laters = later->next;
+        pthread_join(later->thread, NULL);
+        free(later);
+    }
+}
+
+/* ---- a script */
+
+/* A correct framework makes no other call while it closes. */
+static bool joins_before(const struct drive_command *command)
+{
+    return command->kind == DRIVE_JOIN || (command->kind == DRIVE_CLOSE && !command->anyway);
+}
+
+bool drive_play(struct drive *drive, const struct drive_command *script)
+{
+    bool whole;
+
+    for (const struct drive_command *command = script; command != NULL && !is_lost(drive); command = command->next) {
+        if (joins_before(command))
+            join(drive);
+        if (command->later_ms >= 0)
+            start_later(drive, command);
+        else
+            play_command(drive, command);
+    }
+    join(drive);
+    whole = !is_lost(drive);
+    if (!whole && drive->opened)
+        drive_close(drive);
+    return whole;
+}
+
+void drive_set_environment(const struct drive_command *script)
+{
+    for (const struct drive_command *command = script; command != NULL && command->kind == DRIVE_ENV;
+         command = command->next)
+        setenv(command->name, command->text, 1);
+}
