@@ -207,14 +207,18 @@ class Play:
     def end_close(self):
         self.say("close end")
         self.start_device()
-        self.in_call = []
+        self.forget_calls()
         if not self.is_wild():
             self.say("open begin")
             self.say("open end ok")
 
     def ended_open(self, _):
         self.start_device()
-        self.in_call = []
+        self.forget_calls()
+
+    def forget_calls(self):
+        """What was in call at the device before; seldom one of them returns all the same."""
+        self.in_call = [call for call in self.in_call if self.is_wild()]
 
     def ended_init(self, _):
         self.is_initialized = True
