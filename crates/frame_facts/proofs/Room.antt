@@ -84,7 +84,7 @@ buffer_out script past s b legal own = two_ways (is_at (place b past) Device) (l
     from any = one-of-all (is_at (place b past) Device ≡ true) (λ n. true) (λ n. is_at_device_by n s b past) (frames past) (λ n _ out. rw (at-device n s b past out) refl) (all-always (λ n. true) (frames past) (λ n. refl)) any
 
 -- a frame has one of the stream's buffers out where its row says so
-row-out : (script : Script) (past : List Entry) (n s : ℕ) → is_out_for s (row_of script past n) ≡ (has_target n s past && not (is_returned n s past))
+pub row-out : (script : Script) (past : List Entry) (n s : ℕ) → is_out_for s (row_of script past n) ≡ (has_target n s past && not (is_returned n s past))
 row-out script past n s = any-mapped (λ t. (t.sent.stream.0 == s) && not t.returned) (target_at n past) (targets_of n past) ∙ of_stream (targets_of n past)
   where
     again : (a b : Bool) → (a || (b && a)) ≡ a
@@ -124,7 +124,7 @@ frame_out script past n s legal = row-out script past n s ∙ two_ways (has_targ
         (λ b _ out. rw (any-found (λ t. t.stream.0 == s) (targets_of n past), held_some b (target_of n s past) (out-target script past n s b legal out), out-not-returned script past n s b legal out) refl)
         (all-always (λ b. true) (buffers_of past s) (λ b. refl)) any
 
-done_not_out : (script : Script) (past : List Entry) (n s : ℕ) → IsDone past n → is_out_for s (row_of script past n) ≡ false
+pub done_not_out : (script : Script) (past : List Entry) (n s : ℕ) → IsDone past n → is_out_for s (row_of script past n) ≡ false
 done_not_out script past n s done = row-out script past n s ∙ came (has_target n s past) (is_returned n s past) (done-returned past n s done)
   where
     came : (a b : Bool) → (not a || b) ≡ true → (a && not b) ≡ false
