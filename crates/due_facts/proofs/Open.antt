@@ -17,7 +17,8 @@ use Rattle.trace_model.specs.Shutter.{is_next_for_sensor, may_expose}
 use Rattle.trace_model.specs.Stopping.{is_stopped, is_stopping}
 use Rattle.frame_facts.specs.Row.{is_ended, row_of}
 use Rattle.frame_facts.proofs.Errors.{done-returned}
-use Rattle.frame_facts.proofs.OpenRows.{IsDone, row-ended, timed-shutter}
+use Rattle.past_facts.proofs.Times.{timed-shutter}
+use Rattle.frame_facts.proofs.OpenRows.{IsDone, row-ended}
 use Rattle.past_facts.proofs.Out.{not-returned-out}
 use Rattle.due_facts.proofs.Caused.{caused, ended-something, error-something}
 use Rattle.due_facts.proofs.Least.{IsAwaited, IsLeast, IsOwed, each-done, owed}

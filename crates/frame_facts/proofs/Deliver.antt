@@ -19,7 +19,8 @@ use Rattle.frame_facts.specs.Row.{open_rows, row_of, target_at}
 use Rattle.frame_facts.specs.Readings.{EarlyReads, FailedReads, FilledReads, early_from, early_row, each_below, failed_from, failed_row, filled_from, filled_row, lets_pass_row}
 use Rattle.frame_facts.proofs.Errors.{done-returned, target-reads, target-stream}
 use Rattle.frame_facts.proofs.Last.{any-found}
-use Rattle.frame_facts.proofs.OpenRows.{IsDone, by-row, each-reads, timed-shutter}
+use Rattle.past_facts.proofs.Times.{timed-shutter}
+use Rattle.frame_facts.proofs.OpenRows.{IsDone, by-row, each-reads}
 use Rattle.past_facts.proofs.Out.{out-reads}
 use Rattle.basic_lemmas.proofs.Lists.{all-mapped}
 

@@ -15,7 +15,8 @@ use Rattle.frame_facts.specs.Row.{open_rows, row_of, target_at}
 use Rattle.frame_facts.specs.Readings.{BufferReads, RequestReads, ResultReads, buffer_from, buffer_row, request_row, result_row, target_in}
 use Rattle.frame_facts.proofs.Last.{any-found}
 use Rattle.frame_facts.proofs.Metadata.{ended-reads}
-use Rattle.frame_facts.proofs.OpenRows.{IsDone, by-row, row-ended, row-open, timed-shutter}
+use Rattle.past_facts.proofs.Times.{timed-shutter}
+use Rattle.frame_facts.proofs.OpenRows.{IsDone, by-row, row-ended, row-open}
 use Rattle.frame_facts.proofs.Settled.{settled-returned}
 use Rattle.frame_facts.proofs.Something.{something-reads}
 use Rattle.frame_facts.proofs.Unsent.{unsent}

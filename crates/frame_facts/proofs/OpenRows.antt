@@ -1,11 +1,11 @@
 -- What the rows of the open frames say: which frames are open, the row of a frame, and what holds of each earlier frame.
-use Rattle.std.proofs.Common.{◌≡◌, ℕ, ◌==◌, Bool, true, false, ◌&&◌, ◌||◌, not, List, [], ◌∷◌, Option, Some, None, refl, sym, ◌∙◌, inl, inr, filter, find, is_some, map, nat_lt, if◌then◌else◌}
+use Rattle.std.proofs.Common.{◌≡◌, ℕ, ◌==◌, Bool, true, false, ◌&&◌, ◌||◌, not, List, [], ◌∷◌, Option, Some, None, refl, sym, ◌∙◌, inl, inr, filter, find, map, nat_lt, if◌then◌else◌}
 use Rattle.std.specs.List.{list_any, list_all}
 use Rattle.std.proofs.lemmas.Bool.{cases_Bool, eq-eqb, eqb-true, false≢true}
 use Rattle.cam_types.specs.declared.script.Script.{Script}
 use Rattle.trace_model.specs.declared.entry.Entry.{Entry}
-use Rattle.trace_model.specs.declared.entry.Entry.TheVariants.{Send, Shutter}
-use Rattle.trace_model.specs.Frames.{each_earlier, frames, has_shutter, is_sent, shutter_time, targets_of}
+use Rattle.trace_model.specs.declared.entry.Entry.TheVariants.{Send}
+use Rattle.trace_model.specs.Frames.{each_earlier, frames, is_sent, targets_of}
 use Rattle.trace_model.specs.Legal.{IsLegal}
 use Rattle.trace_model.specs.Open.{all_settled, is_metadata_ended, is_open}
 use Rattle.frame_laws.proofs.Parts.{part-within}
@@ -118,10 +118,3 @@ by-row script past n o f legal unsent done open' =
       ]
       | inr none ↦ rw none (unsent none)
     ])
-
--- ---- times
-
-pub timed-shutter : (n : ℕ) (past : List Entry) → has_shutter n past ≡ is_some (shutter_time n past)
-timed-shutter n [] = refl
-timed-shutter n (Shutter m time ∷ past) = elim (cases_Bool (m.0 == n)) [ inl here ↦ rw here refl | inr other ↦ rw other (timed-shutter n past) ]
-timed-shutter n (e ∷ past) = timed-shutter n past

@@ -9,16 +9,16 @@ use Rattle.cam_types.specs.declared.number.FrameNo.{FrameNo}
 use Rattle.cam_types.specs.declared.number.RequestId.{RequestId}
 use Rattle.cam_types.specs.declared.script.Script.{Script}
 use Rattle.trace_model.specs.declared.entry.Entry.{Entry}
-use Rattle.trace_model.specs.declared.entry.Entry.TheVariants.{Send, Shutter}
+use Rattle.trace_model.specs.declared.entry.Entry.TheVariants.{Send}
 use Rattle.trace_model.specs.declared.entry.Sent.{Sent}
 use Rattle.trace_model.specs.Entry.{is_error_request, is_error_result, is_partial, is_stop, sends}
-use Rattle.trace_model.specs.Frames.{is_sent, settings_of, shutter_time, targets_of}
+use Rattle.trace_model.specs.Frames.{is_sent, settings_of, targets_of}
 use Rattle.trace_model.specs.Legal.{IsLegal}
 use Rattle.trace_model.specs.Partial.{part_count}
 use Rattle.trace_model.specs.Numbers.{next_number}
 use Rattle.buffer_laws.proofs.Early.{not-brought, not-given}
 use Rattle.buffer_laws.proofs.Sends.{not-the-next, send-number}
-use Rattle.frame_facts.specs.Row.{Row, RowsFollow, in_order, Target, fresh_target, is_back, is_ended, is_open_row, noted_row, noted_target, open_rows, row_of, sent_row, shutter_by, target_at}
+use Rattle.frame_facts.specs.Row.{Row, RowsFollow, in_order, Target, fresh_target, is_back, is_ended, is_open_row, noted_row, noted_target, open_rows, row_of, sent_row, target_at}
 use Rattle.past_facts.specs.Settled.{settles}
 use Rattle.frame_facts.proofs.Accepted.{settings-kept}
 use Rattle.frame_facts.proofs.Order.{order-sent}
@@ -26,10 +26,7 @@ use Rattle.frame_facts.proofs.Unsent.{IsNew, unsent}
 use Rattle.basic_lemmas.proofs.Counts.{count-one, count-over}
 use Rattle.basic_lemmas.proofs.Lists.{map-map, map-where, filter-early, filter-more}
 use Rattle.past_facts.proofs.Settled.{given-noted, settled-noted}
-
-shutter_step : (n : ℕ) (e : Entry) (past : List Entry) → shutter_time n (e ∷ past) ≡ shutter_by n e (shutter_time n past)
-shutter_step n (Shutter m time) past = refl
-shutter_step n _ past = refl
+use Rattle.past_facts.proofs.Times.{time-noted}
 
 part_step : (n : ℕ) (e : Entry) (past : List Entry) → part_count n (e ∷ past) ≡ (if is_partial n e then part_count n past + 1 else part_count n past)
 part_step n e past =
@@ -54,7 +51,7 @@ targets_step script past e n (t ∷ ts) legal =
 -- what an entry does to the row of a frame that it doesn't send
 pub row-step : (script : Script) (past : List Entry) (e : Entry) (n : ℕ) → IsLegal script (e ∷ past) → is_sent n past ≡ true → sends n e ≡ false → settings_of script (e ∷ past) n ≡ settings_of script past n → row_of script (e ∷ past) n ≡ noted_row e (row_of script past n)
 row-step script past e n legal sent other settings =
-    rw (settings, other, shutter_step n e past, part_step n e past, and_sent (is_stop e) _ sent, targets_step script past e n (targets_of n past) legal) refl
+    rw (settings, other, time-noted e past n, part_step n e past, and_sent (is_stop e) _ sent, targets_step script past e n (targets_of n past) legal) refl
 
 -- ---- closed rows stay closed
 

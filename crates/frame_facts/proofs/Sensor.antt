@@ -22,7 +22,8 @@ use Rattle.frame_facts.specs.Row.{in_order, is_open_row, open_rows, row_of}
 use Rattle.frame_facts.specs.Readings.{DeviceReads, ShutterReads, TimeReads, device_fails, is_unexposed, next_exposed, shutter_from}
 use Rattle.frame_facts.proofs.Last.{IsLast, any-found, find-none-all, find-one, first-kept, last-is, last-none, last_where}
 use Rattle.frame_facts.proofs.Order.{first-order, order-sent}
-use Rattle.frame_facts.proofs.OpenRows.{IsDone, closed-done, frame-among, row-found, timed-shutter}
+use Rattle.past_facts.proofs.Times.{timed-shutter}
+use Rattle.frame_facts.proofs.OpenRows.{IsDone, closed-done, frame-among, row-found}
 use Rattle.frame_facts.proofs.Unsent.{buffer_exposed}
 use Rattle.basic_lemmas.proofs.Lists.{all-where}
 use Rattle.basic_lemmas.proofs.Tests.{passed-where}

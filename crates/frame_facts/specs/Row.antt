@@ -1,5 +1,6 @@
 use Rattle.past_facts.specs.Settled.{gives, settles}
-use Rattle.std.specs.Prelude.{◌≡◌, ℕ, ◌==◌, ◌+◌, Bool, false, ◌&&◌, ◌||◌, not, List, [], ◌∷◌, ◌++◌, Option, Some, None, filter, map, nat_le, if◌then◌else◌}
+use Rattle.past_facts.specs.Times.{note_time}
+use Rattle.std.specs.Prelude.{◌≡◌, ℕ, ◌+◌, Bool, false, ◌&&◌, ◌||◌, not, List, [], ◌∷◌, ◌++◌, Option, Some, None, filter, map, nat_le, if◌then◌else◌}
 use Rattle.std.specs.List.{list_all}
 use Rattle.cam_types.specs.Four.{four_list}
 use Rattle.cam_types.specs.declared.four.Four.{Four}
@@ -8,7 +9,7 @@ use Rattle.cam_types.specs.declared.number.FrameNo.{FrameNo}
 use Rattle.cam_types.specs.declared.number.RequestId.{RequestId}
 use Rattle.cam_types.specs.declared.script.Script.{Script}
 use Rattle.trace_model.specs.declared.entry.Entry.{Entry}
-use Rattle.trace_model.specs.declared.entry.Entry.TheVariants.{Send, Shutter}
+use Rattle.trace_model.specs.declared.entry.Entry.TheVariants.{Send}
 use Rattle.trace_model.specs.declared.entry.Sent.{Sent}
 use Rattle.trace_model.specs.Calls.{item_at}
 use Rattle.trace_model.specs.Entry.{is_error_buffer, is_error_request, is_error_result, is_partial, is_stop, returns_target}
@@ -98,10 +99,6 @@ noted_target n e t = record {
   settled = settles n t.sent.stream.0 e t.given || t.settled;
 }
 
-abbrev pub shutter_by : ℕ → Entry → Option ℕ → Option ℕ
-shutter_by n (Shutter m time) o = if m.0 == n then Some time else o
-shutter_by n _ o = o
-
 -- what an entry does to a row, field by field
 abbrev pub noted_row : Entry → Row → Row
 noted_row e r = record {
@@ -109,7 +106,7 @@ noted_row e r = record {
   request = r.request;
   settings = r.settings;
   targets = map (noted_target r.number e) r.targets;
-  shutter = shutter_by r.number e r.shutter;
+  shutter = note_time e r.number r.shutter;
   parts = if is_partial r.number e then r.parts + 1 else r.parts;
   request_error = is_error_request r.number e || r.request_error;
   result_error = is_error_result r.number e || r.result_error;

@@ -1,7 +1,7 @@
 -- No more jobs are out than frames are open.
-use Rattle.std.proofs.Common.{◌≡◌, ◌≤◌, ◌<◌, ℕ, ◌==◌, ◌+◌, Bool, true, false, ◌&&◌, not, List, [], ◌∷◌, Option, Some, None, refl, sym, ap, ◌∙◌, arith, inl, inr, filter, length, nat_le, nat_lt, sum_by}
+use Rattle.std.proofs.Common.{◌≡◌, ◌≤◌, ◌<◌, ℕ, ◌==◌, Bool, true, ◌&&◌, not, List, [], ◌∷◌, Option, Some, None, refl, sym, ap, ◌∙◌, arith, inl, inr, filter, length, nat_le, nat_lt, sum_by}
 use Rattle.std.specs.List.{list_all, list_any}
-use Rattle.std.proofs.lemmas.Bool.{and_parts, cases_Bool, eq-eqb, eqb-true, false≢true, not-true}
+use Rattle.std.proofs.lemmas.Bool.{and_parts, cases_Bool, eqb-true, false≢true, not-true}
 use Rattle.cam_types.specs.Profile.{is_profile_number, profile_fits}
 use Rattle.cam_types.specs.Limits.{awaited_limit, command_limit, fault_limit, pick_limit}
 use Rattle.cam_types.specs.Script.{awaited_by, command_fits, is_closing_command, is_valid}
@@ -11,10 +11,10 @@ use Rattle.cam_types.specs.declared.profile.Profile.{Profile}
 use Rattle.cam_types.specs.declared.script.Script.{Script}
 use Rattle.trace_model.specs.Complete.{IsComplete}
 use Rattle.trace_model.specs.Frames.{frames}
-use Rattle.trace_model.specs.Open.{is_open, is_quiet, open_count}
+use Rattle.trace_model.specs.Open.{is_open, is_quiet}
 use Rattle.run_model.specs.declared.step.Move.{Move}
 use Rattle.run_model.specs.History.{trace_of}
-use Rattle.run_model.specs.Jobs.{IsJobOut, IsOutWith, is_sensor_out}
+use Rattle.run_model.specs.Jobs.{IsJobOut, IsOutWith}
 use Rattle.run_model.specs.Rows.{rows}
 use Rattle.run_model.specs.Run.{IsRun}
 use Rattle.basic_lemmas.proofs.Counts.{less-without}
@@ -27,7 +27,7 @@ use Rattle.run_rows.proofs.Counted.{count_is, few}
 use Rattle.run_rows.proofs.Stopped.{quiet-closed}
 use Rattle.run_rows.proofs.Work.{sensor-closed}
 use Rattle.job_hands.specs.Held.{frames_differ, held_at, is_held}
-use Rattle.job_moves.specs.Outs.{AreOut, Takes, takes_a_job}
+use Rattle.job_moves.specs.Outs.{AreOut, takes_a_job}
 use Rattle.job_moves.proofs.Given.{some_taken}
 use Rattle.job_moves.proofs.Held.{first-held, held-frame, held-none}
 use Rattle.job_moves.proofs.Moved.{takes_out}

@@ -1,5 +1,5 @@
 -- A move that takes a job takes some job, and one that gives a job back finds it among those that are out.
-use Rattle.std.proofs.Common.{◌≡◌, ℕ, ◌==◌, Bool, true, false, ◌&&◌, ◌||◌, not, List, ◌∷◌, Option, Some, None, refl, sym, ap, ◌∙◌, find, is_some, slice_get, if◌then◌else◌}
+use Rattle.std.proofs.Common.{◌≡◌, ℕ, ◌==◌, true, not, List, ◌∷◌, Option, Some, None, refl, sym, ap, ◌∙◌, find, is_some, slice_get, if◌then◌else◌}
 use Rattle.std.specs.Option.{option_map}
 use Rattle.std.proofs.lemmas.Bool.{and_parts, eq-eqb, false≢true, not-true}
 use Rattle.cam_types.specs.declared.job.FillTarget.{FillTarget}
@@ -17,14 +17,14 @@ use Rattle.trace_model.specs.Shutter.{may_expose, next_time, shutter_at, shutter
 use Rattle.run_model.specs.declared.step.Move.{Move}
 use Rattle.run_model.specs.declared.step.StepName.{StepName}
 use Rattle.run_model.specs.declared.step.StepName.TheVariants.{Shutter, SensorDone, TakeFill, FillDone}
-use Rattle.run_model.specs.History.{is_fill_done, is_sensor_done, is_take_fill, trace_of, with_entry}
-use Rattle.run_model.specs.Jobs.{IsFillJob, IsJobOut, is_fill_out, is_filled_in, is_sensor_done_in, is_sensor_out, is_taken_in}
-use Rattle.run_model.specs.Ready.{adding, may_take_fill, move_of}
+use Rattle.run_model.specs.History.{trace_of}
+use Rattle.run_model.specs.Jobs.{IsFillJob, IsJobOut, is_fill_out, is_filled_in, is_sensor_out, is_taken_in}
+use Rattle.run_model.specs.Ready.{may_take_fill, move_of}
 use Rattle.run_model.specs.Run.{IsRun}
 use Rattle.basic_lemmas.proofs.Tests.{not-by}
 use Rattle.bounded_runs.proofs.Legal.{adds, adds-none, runs_legally}
 use Rattle.frame_laws.proofs.Shutters.{exposed}
-use Rattle.run_facts.proofs.Found.{taken-target}
+use Rattle.run_facts.proofs.Targets.{taken_target}
 use Rattle.run_facts.proofs.Home.{fill_open}
 use Rattle.run_facts.proofs.Unsent.{filled-taken, not-done, take-parts}
 use Rattle.run_rows.proofs.General.{none-found}
@@ -69,7 +69,7 @@ pub fill-out : (script : Script) (h : List Move) (n : FrameNo) (s : StreamIx) �
 fill-out script h n s run out =
     let past = trace_of h in
     let taken = (and_parts (is_taken_in h n.0 s.0) (not (is_filled_in h n.0 s.0)) out).0 in
-    let some = λ (none : target_of n.0 s.0 past ≡ None). none-found (λ (t : Sent). t.stream.0 == s.0) (targets_of n.0 past) (taken-target script h n.0 s.0 run taken) none in
+    let some = λ (none : target_of n.0 s.0 past ≡ None). none-found (λ (t : Sent). t.stream.0 == s.0) (targets_of n.0 past) (taken_target script h n.0 s.0 run taken) none in
     fill-by script h n s (target_of n.0 s.0 past) (slice_get (streams script past) s.0) out refl refl some (found-spec script h n.0 s.0 (target_of n.0 s.0 past) run out refl some)
 
 -- ---- some job is taken

@@ -1,5 +1,5 @@
 -- A job that is out stays out until a move gives it back, and was out before unless the move took it.
-use Rattle.std.proofs.Common.{◌≡◌, ℕ, ◌==◌, Bool, true, false, ◌&&◌, ◌||◌, not, List, ◌∷◌, Option, Some, None, refl, sym, ap, ◌∙◌, find, slice_get}
+use Rattle.std.proofs.Common.{◌≡◌, ℕ, ◌==◌, Bool, true, false, ◌||◌, not, List, ◌∷◌, Option, Some, None, sym, ap, ◌∙◌, find, slice_get}
 use Rattle.std.specs.Option.{option_map}
 use Rattle.std.proofs.lemmas.Bool.{and_from, and_parts, not-true, or_parts, or_right}
 use Rattle.cam_types.specs.declared.job.FillTarget.{FillTarget}
@@ -20,9 +20,9 @@ use Rattle.run_model.specs.Run.{IsRun}
 use Rattle.bounded_runs.proofs.Entries.{open-sent}
 use Rattle.bounded_runs.proofs.Legal.{runs_legally}
 use Rattle.frame_laws.proofs.Shutters.{shutter-sent}
-use Rattle.run_facts.specs.States.{by_entry}
+use Rattle.run_facts.specs.Moves.{by_entry}
 use Rattle.run_facts.proofs.Home.{fill_open}
-use Rattle.run_facts.proofs.Steps.{targets-same}
+use Rattle.run_facts.proofs.Targets.{targets-same}
 use Rattle.run_facts.proofs.Unsent.{any-entry}
 use Rattle.job_moves.proofs.Stays.{settings-stay, streams-stay}
 

@@ -1,5 +1,5 @@
 -- The jobs that are out after each move.
-use Rattle.std.proofs.Common.{◌≡◌, ℕ, ◌==◌, Bool, true, false, ◌&&◌, not, List, [], ◌∷◌, ◌++◌, Option, Some, None, refl, sym, ap, ◌∙◌, inl, inr, is_none, if◌then◌else◌}
+use Rattle.std.proofs.Common.{◌≡◌, ℕ, ◌==◌, Bool, true, false, ◌&&◌, not, List, [], ◌∷◌, ◌++◌, Option, Some, None, refl, sym, ap, ◌∙◌, inl, inr, is_none}
 use Rattle.std.proofs.lemmas.Bool.{and_parts, cases_Bool, eq-eqb, eqb-true, false≢true}
 use Rattle.cam_types.specs.declared.job.FillTarget.{FillTarget}
 use Rattle.cam_types.specs.declared.job.JobView.{JobView}
@@ -14,13 +14,13 @@ use Rattle.trace_model.specs.Legal.{IsLegal}
 use Rattle.run_model.specs.declared.step.Move.{Move}
 use Rattle.run_model.specs.declared.step.StepName.{StepName}
 use Rattle.run_model.specs.declared.step.StepName.TheVariants.{SensorDone, TakeFill, FillDone}
-use Rattle.run_model.specs.History.{is_fill_done, is_sensor_done, is_silent, is_take_fill, trace_of, with_entry}
-use Rattle.run_model.specs.Jobs.{IsFillJob, IsJobOut, IsOutWith, IsSensorJob, is_filled_in, is_sensor_done_in, is_taken_in}
+use Rattle.run_model.specs.History.{is_fill_done, is_sensor_done, is_silent, is_take_fill, trace_of}
+use Rattle.run_model.specs.Jobs.{IsJobOut, IsOutWith, is_filled_in, is_sensor_done_in, is_taken_in}
 use Rattle.run_model.specs.Run.{IsRun}
 use Rattle.basic_lemmas.proofs.Tests.{given-where}
 use Rattle.bounded_runs.proofs.Legal.{runs_legally}
 use Rattle.frame_laws.proofs.Shutters.{exposed}
-use Rattle.run_facts.specs.States.{by_entry}
+use Rattle.run_facts.specs.Moves.{by_entry}
 use Rattle.run_facts.proofs.Unsent.{take-parts, take-ready}
 use Rattle.job_hands.specs.Held.{IsWith, fill_job_in, frames_differ, held_at, is_of_stream, sensor_job_in}
 use Rattle.job_moves.specs.Outs.{AreOut, Takes, TakesWith, moves_a_job}

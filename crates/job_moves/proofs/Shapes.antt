@@ -1,5 +1,5 @@
 -- What the entries of moves are: the moves of jobs but for the shutter add none, and only the shutter's is a shutter.
-use Rattle.std.proofs.Common.{◌≡◌, ℕ, ◌==◌, ◌+◌, Bool, true, false, ◌&&◌, not, List, [], ◌∷◌, Option, Some, None, refl, sym, find, if◌then◌else◌}
+use Rattle.std.proofs.Common.{◌≡◌, ℕ, ◌+◌, Bool, true, false, ◌&&◌, not, List, [], ◌∷◌, Option, Some, None, refl, sym, find, if◌then◌else◌}
 use Rattle.std.proofs.lemmas.Bool.{false≢true}
 use Rattle.cam_types.specs.declared.request.Queued.{Queued}
 use Rattle.cam_types.specs.declared.script.Script.{Script}
@@ -21,12 +21,12 @@ use Rattle.trace_model.specs.Send.{least_targets, may_go, send_next, send_with, 
 use Rattle.trace_model.specs.Stopping.{is_stopping}
 use Rattle.run_model.specs.declared.step.Move.{Move}
 use Rattle.run_model.specs.declared.step.StepName.{StepName}
-use Rattle.run_model.specs.declared.step.StepName.TheVariants.{Send, Release, Signal, Client, DropQueued, Fail, ReturnFailed, Shutter, SensorDone, Partial, TakeFill, FillDone, Deliver, Early, Finish}
+use Rattle.run_model.specs.declared.step.StepName.TheVariants.{Send, Release, Signal, Client, DropQueued, Fail, ReturnFailed, SensorDone, Partial, TakeFill, FillDone, Deliver, Early, Finish}
 use Rattle.run_model.specs.History.{is_silent, trace_of}
 use Rattle.run_model.specs.Jobs.{is_fill_out, is_filled_in, is_sensor_out}
-use Rattle.run_model.specs.Ready.{adding, error_due, failure_at, finish_due, first_buffer_error, late_with, least_buffer_error, may_take_fill, move_of, or_entry}
+use Rattle.run_model.specs.Ready.{adding, error_due, failure_at, finish_due, first_buffer_error, late_with, may_take_fill, move_of, or_entry}
 use Rattle.bounded_runs.proofs.Legal.{adds, adds-none, begin_shape, by_failing, by_test, call_shape, drop_shape, early_shape, failed_shape, filled_shape, part_shape, where-entry}
-use Rattle.run_facts.specs.States.{by_entry}
+use Rattle.run_facts.specs.Moves.{by_entry}
 use Rattle.job_moves.specs.Outs.{moves_a_job}
 
 -- ---- silent steps

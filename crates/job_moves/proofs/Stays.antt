@@ -1,5 +1,5 @@
 -- What stays of a frame as the run goes on: its settings and targets once it is sent, the streams while it is open.
-use Rattle.std.proofs.Common.{◌≡◌, ℕ, ◌||◌, not, true, false, ◌&&◌, List, ◌∷◌, Option, Some, None, refl, ap, is_some}
+use Rattle.std.proofs.Common.{◌≡◌, ℕ, ◌||◌, not, true, List, ◌∷◌, Option, Some, None, refl, ap, is_some}
 use Rattle.std.proofs.lemmas.Bool.{and_parts, false≢true}
 use Rattle.cam_types.specs.declared.four.Four.{Four}
 use Rattle.cam_types.specs.declared.reply.Made.{Made}

@@ -15,7 +15,8 @@ use Rattle.client_calls.specs.Around.{Fits}
 use Rattle.capture_queue.specs.Captures.{CanTake}
 use Rattle.row_facts.specs.Rows.{finishes_in}
 use Rattle.state_facts.specs.Runs.{no_state}
-use Rattle.state_facts.specs.States.{State, clock_after, repeats_next}
+use Rattle.queue_facts.specs.Turns.{repeats_next}
+use Rattle.state_facts.specs.States.{State, clock_after}
 use Rattle.judge_rows.specs.Views.{are_free}
 
 -- The state of a trace with the room of its tables, and what they ask of an entry (our own choice: every entry that is

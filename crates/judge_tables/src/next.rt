@@ -1,6 +1,6 @@
 //! What the next item says of a send.
 ghost use Rattle.std.specs.Prelude.{◌≡◌};
-ghost use Rattle.state_facts.specs.States.{repeats_next, settings_next};
+ghost use Rattle.queue_facts.specs.Turns.{repeats_next, settings_next};
 
 use cam_types::{Queued, Settings};
 

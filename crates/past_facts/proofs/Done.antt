@@ -59,3 +59,13 @@ closed-stays script past e n legal sent closed =
     done-closed true true h = refl
     done-closed true false h = absurd (false≢true h)
     done-closed false d h = refl
+
+-- what isn't open and was sent ended its metadata, and the device is done with its buffers
+pub closed-is : (past : List Entry) (n : ℕ) → is_sent n past ≡ true → is_open n past ≡ false → (is_metadata_ended n past ≡ true) × (all_settled n past ≡ true)
+closed-is past n sent closed = closed-parts (is_sent n past) (is_metadata_ended n past) (all_settled n past) sent closed
+  where
+    closed-parts : (s a b : Bool) → s ≡ true → (s && not (a && b)) ≡ false → (a ≡ true) × (b ≡ true)
+    closed-parts true true true h k = (refl, refl)
+    closed-parts true true false h k = absurd (false≢true (sym k))
+    closed-parts true false b h k = absurd (false≢true (sym k))
+    closed-parts false a b h k = absurd (false≢true h)

@@ -1,5 +1,6 @@
 pub mod Frames
 pub mod Told
+pub mod Times
 pub mod Exposed
 pub mod Settled
 pub mod Done

@@ -1,5 +1,6 @@
-use Rattle.std.specs.Prelude.{ℕ, ◌+◌, ◌%◌, List, [], ◌∷◌, ◌++◌, Option, Some, None, length, slice_get, if◌then◌else◌}
+use Rattle.std.specs.Prelude.{ℕ, ◌+◌, ◌%◌, Bool, false, List, [], ◌∷◌, ◌++◌, Option, Some, None, length, slice_get, if◌then◌else◌}
 use Rattle.cam_types.specs.declared.item.Item.{Item}
+use Rattle.cam_types.specs.declared.item.Settings.{Settings}
 use Rattle.cam_types.specs.declared.number.RequestId.{RequestId}
 use Rattle.cam_types.specs.declared.reply.Reply.{Reply}
 use Rattle.cam_types.specs.declared.reply.Reply.TheVariants.{Submitted}
@@ -11,6 +12,7 @@ use Rattle.trace_model.specs.declared.entry.Entry.{Entry}
 use Rattle.trace_model.specs.declared.entry.Entry.TheVariants.{Call, Send, Dropped}
 use Rattle.trace_model.specs.Calls.{command_at, request_count}
 use Rattle.trace_model.specs.Entry.{is_refusal}
+use Rattle.trace_model.specs.Frames.{no_settings}
 use Rattle.trace_model.specs.Numbers.{next_number}
 use Rattle.trace_model.specs.Queue.{first_in, is_clearing_word, is_repeat_word, next_at, next_from, puts, queued, repeating, request_in, sent_for}
 use Rattle.cam_types.specs.Requests.{Repeating}
@@ -109,3 +111,13 @@ next_in_turn None = None
 -- the next item: the first that waits, or where none does the list's
 abbrev pub next_of : Turns → Option Queued
 next_of t = next_from (first_in t.waiting) (next_in_turn t.turn)
+
+-- the settings of the next item
+abbrev pub settings_next : Option Queued → Settings
+settings_next (Some w) = w.item.settings
+settings_next None = no_settings
+
+-- the next item is of the list that repeats
+abbrev pub repeats_next : Option Queued → Bool
+repeats_next (Some w) = w.repeating
+repeats_next None = false

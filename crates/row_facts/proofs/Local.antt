@@ -1,5 +1,5 @@
 -- An entry changes at most the row of the frame that it tells something of, unless it stops all.
-use Rattle.std.proofs.Common.{◌≡◌, ℕ, ◌==◌, Bool, true, false, ◌&&◌, ◌||◌, not, List, [], ◌∷◌, Option, Some, find, refl, sym, ap, ◌∙◌, arith, inl, inr, filter, map, nat_lt}
+use Rattle.std.proofs.Common.{◌≡◌, ℕ, ◌==◌, Bool, true, false, ◌&&◌, ◌||◌, not, List, [], ◌∷◌, Some, find, refl, sym, ap, ◌∙◌, arith, inl, inr, filter, map, nat_lt}
 use Rattle.std.specs.List.{list_all, list_any}
 use Rattle.std.proofs.lemmas.Bool.{and_parts, cases_Bool, eqb-true, false≢true, ltb-true, ne_eqb, or_parts}
 use Rattle.std.proofs.lemmas.Bool.Decides.{nat_tests}
@@ -9,16 +9,17 @@ use Rattle.cam_types.specs.declared.number.FrameNo.{FrameNo}
 use Rattle.cam_types.specs.declared.number.StreamIx.{StreamIx}
 use Rattle.cam_types.specs.declared.script.Script.{Script}
 use Rattle.trace_model.specs.declared.entry.Entry.{Entry}
-use Rattle.trace_model.specs.declared.entry.Entry.TheVariants.{Shutter, Partial, Filled, Failed, Early, Late}
+use Rattle.trace_model.specs.declared.entry.Entry.TheVariants.{Filled, Failed, Early, Late}
 use Rattle.trace_model.specs.Entry.{is_early_with, is_error_buffer, is_error_of, is_error_request, is_error_result, is_part, is_partial, is_stop, returns_target, returns_of_frame}
 use Rattle.trace_model.specs.Frames.{frames, is_sent}
 use Rattle.trace_model.specs.Legal.{IsLegal}
 use Rattle.trace_model.specs.Open.{is_open}
 use Rattle.frame_laws.proofs.Sends.{all-sent}
 use Rattle.past_facts.proofs.Frames.{falls, frames-fall}
+use Rattle.past_facts.proofs.Times.{parts-other, time-other}
 use Rattle.past_facts.proofs.Told.{tells, partial-tells, return-tells, some-return-tells, error-tells, request-tells, result-tells, buffer-tells, part-tells}
 use Rattle.past_facts.specs.Settled.{gives, settles}
-use Rattle.row_facts.specs.Rows.{Row, Slot, has_early, note_parts, note_row, note_slot, note_time, put_row, row, row_open, rows}
+use Rattle.row_facts.specs.Rows.{Row, Slot, has_early, note_row, note_slot, put_row, row, row_open, rows}
 use Rattle.row_facts.proofs.Readings.{has-early-is}
 use Rattle.row_facts.proofs.Steps.{open-is, same-row}
 use Rattle.basic_lemmas.proofs.Tests.{not-by}
@@ -26,14 +27,6 @@ use Rattle.basic_lemmas.proofs.Tests.{not-by}
 abbrev pub signals_late : Entry → Bool
 signals_late (Late _ _) = true
 signals_late _ = false
-
-time-other : (e : Entry) (n : ℕ) (old : Option ℕ) → tells n e ≡ false → note_time e n old ≡ old
-time-other (Shutter m time) n old none = rw none refl
-time-other _ n old none = refl
-
-parts-other : (e : Entry) (n old : ℕ) → tells n e ≡ false → note_parts e n old ≡ old
-parts-other (Partial m k part) n old none = rw none refl
-parts-other _ n old none = refl
 
 given-other : (e : Entry) (n s : ℕ) (fences : List ℕ) → tells n e ≡ false → gives n s e fences ≡ fences
 given-other (Early m t b d) n s fences none = rw none refl

@@ -1,7 +1,7 @@
 -- The rows after an entry are what the entry makes of the rows before it.
-use Rattle.std.proofs.Common.{◌≡◌, ℕ, ◌==◌, ◌+◌, ◌<◌, Bool, true, false, ◌&&◌, ◌||◌, List, [], ◌∷◌, Option, Some, refl, sym, ap, ◌∙◌, arith, inl, inr, filter, map, slice_get}
+use Rattle.std.proofs.Common.{◌≡◌, ℕ, ◌==◌, ◌<◌, Bool, true, false, ◌&&◌, ◌||◌, List, [], ◌∷◌, Option, Some, refl, sym, ap, ◌∙◌, arith, inl, inr, filter, map, slice_get}
 use Rattle.std.specs.List.{list_any, list_all}
-use Rattle.std.proofs.lemmas.Bool.{and_parts, cases_Bool, cases_lt, eqb-true, false≢true, ne_eqb}
+use Rattle.std.proofs.lemmas.Bool.{and_parts, cases_Bool, cases_lt, false≢true, ne_eqb}
 use Rattle.std.proofs.lemmas.List.Folds.{list_all-map}
 use Rattle.cam_types.specs.Four.{four_list}
 use Rattle.cam_types.specs.declared.four.Four.{Four}
@@ -12,31 +12,29 @@ use Rattle.cam_types.specs.declared.reply.Reply.TheVariants.{Submitted}
 use Rattle.cam_types.specs.declared.script.Command.{Command}
 use Rattle.cam_types.specs.declared.script.Script.{Script}
 use Rattle.trace_model.specs.declared.entry.Entry.{Entry}
-use Rattle.trace_model.specs.declared.entry.Entry.TheVariants.{Call, Send, Shutter, Partial}
+use Rattle.trace_model.specs.declared.entry.Entry.TheVariants.{Call, Send}
 use Rattle.trace_model.specs.declared.entry.Sent.{Sent}
-use Rattle.trace_model.specs.Allowed.{IsAllowed}
 use Rattle.trace_model.specs.Calls.{command_of, is_repeat, items_of, request_count}
 use Rattle.trace_model.specs.Entry.{is_error_buffer, is_error_of, is_error_request, is_error_result, is_part, is_partial, is_stop, returns_target, returns_of_frame, sends}
-use Rattle.trace_model.specs.Frames.{frames, has_error, is_sent, item_in, repeats_in, send_of, settings_in, shutter_time, targets_of}
+use Rattle.trace_model.specs.Frames.{frames, has_error, is_sent, item_in, repeats_in, send_of, settings_in, targets_of}
 use Rattle.trace_model.specs.Laws.{ends_metadata}
 use Rattle.trace_model.specs.Legal.{IsLegal}
 use Rattle.trace_model.specs.Open.{early_fences, has_error_buffer, is_open, is_returned}
-use Rattle.trace_model.specs.Partial.{part_count}
 use Rattle.trace_model.specs.Stopping.{is_stopped}
 use Rattle.buffer_laws.proofs.Early.{not-brought, not-given}
 use Rattle.frame_laws.proofs.Metadata.{ended-by}
-use Rattle.frame_laws.proofs.Parts.{part-is}
 use Rattle.frame_laws.proofs.Sends.{all-sent}
 use Rattle.frame_laws.proofs.Submitted.{request-number}
 use Rattle.past_facts.proofs.Done.{closed-stays}
 use Rattle.past_facts.proofs.Frames.{sent-once, unsent-next}
 use Rattle.past_facts.proofs.Settled.{given-noted, settled-noted}
+use Rattle.past_facts.proofs.Times.{parts-noted, time-noted}
 use Rattle.past_facts.proofs.Told.{untold, none-of, no-time, not-stopped, partial-tells, return-tells, some-return-tells, error-tells, request-tells, result-tells, buffer-tells, part-tells}
 use Rattle.queue_facts.proofs.Names.{names_request, unnamed}
 use Rattle.client_facts.specs.Clients.{repeats}
 use Rattle.client_facts.proofs.Done.{found-some}
-use Rattle.row_facts.specs.Rows.{Row, Slot, new_row, new_slot, note_row, note_parts, note_slot, note_time, noted, row, row_open, rows, sent_settings, slot}
-use Rattle.basic_lemmas.proofs.Counts.{count-one, count-over, none-counted}
+use Rattle.row_facts.specs.Rows.{Row, Slot, new_row, new_slot, note_row, note_slot, noted, row, row_open, rows, sent_settings, slot}
+use Rattle.basic_lemmas.proofs.Counts.{none-counted}
 use Rattle.basic_lemmas.proofs.Lists.{any-behind}
 use Rattle.basic_lemmas.proofs.Tests.{or-crossed-three}
 
@@ -67,29 +65,6 @@ item-same script past e n (Some (Send m r i same targets)) legal at =
 item-same script past e n o legal at = (refl, refl)
 
 -- ---- a row after an entry
-
-time-noted : (e : Entry) (past : List Entry) (n : ℕ) → shutter_time n (e ∷ past) ≡ note_time e n (shutter_time n past)
-time-noted (Shutter m time) past n = refl
-time-noted _ past n = refl
-
--- a part is the next of its frame
-parts-noted : (script : Script) (past : List Entry) (e : Entry) (n : ℕ) → IsAllowed script past e → part_count n (e ∷ past) ≡ note_parts e n (part_count n past)
-parts-noted script past (Partial m k part) n may =
-    elim (cases_Bool (m.0 == n)) [
-      | inl here ↦ (
-          let number = (part-is script past m k part may).number in
-          let number' : k ≡ part_count n past + 1 = rw (eqb-true m.0 n here) at number in
-          let one = count-one (is_partial n) (Partial m k part) past here in
-          let count : part_count n (Partial m k part ∷ past) ≡ k = omega (arith, number', one) in
-          let note : k ≡ note_parts (Partial m k part) n (part_count n past) = rw here refl in
-          count ∙ note
-          )
-      | inr other ↦ (
-          let note : part_count n past ≡ note_parts (Partial m k part) n (part_count n past) = rw other refl in
-          count-over (is_partial n) (Partial m k part) past other ∙ note
-          )
-    ]
-parts-noted script past e n may = count-over (is_partial n) e past refl
 
 same-slot : (t : Sent) (a b : Bool) (g h : List ℕ) (c d : Bool) → g ≡ h → c ≡ d → ◌≡◌ {A = Slot} (record { target = t; returned = a; failed = b; given = g; settled = c }) (record { target = t; returned = a; failed = b; given = h; settled = d })
 same-slot t a b g h c d x y = rw (x, y) refl

@@ -4,7 +4,7 @@ use Rattle.cam_types.specs.Four.{four_list}
 use Rattle.cam_types.specs.declared.item.Settings.{Settings}
 use Rattle.cam_types.specs.declared.script.Script.{Script}
 use Rattle.trace_model.specs.declared.entry.Entry.{Entry}
-use Rattle.trace_model.specs.declared.entry.Entry.TheVariants.{Send, Shutter, Partial, Filled, Failed, ErrorRequest, ErrorResult, Late}
+use Rattle.trace_model.specs.declared.entry.Entry.TheVariants.{Send, Partial, Filled, Failed, ErrorRequest, ErrorResult, Late}
 use Rattle.trace_model.specs.declared.entry.Sent.{Sent}
 use Rattle.trace_model.specs.Calls.{item_at}
 use Rattle.trace_model.specs.Entry.{is_error_buffer, is_error_of, is_error_request, is_error_result, is_partial, is_stop, returns_target, returns_of_frame}
@@ -14,6 +14,7 @@ use Rattle.trace_model.specs.Open.{early_fences, has_error_buffer, has_error_res
 use Rattle.trace_model.specs.Partial.{part_count}
 use Rattle.trace_model.specs.Stopping.{is_stopped}
 use Rattle.past_facts.specs.Settled.{has_fence, gives, settles}
+use Rattle.past_facts.specs.Times.{note_parts, note_time}
 
 -- The frames that are open, as a row for each, the newest first.
 
@@ -86,16 +87,6 @@ note_slot e n s = record s {
   given = gives n s.target.stream.0 e s.given;
   settled = settles n s.target.stream.0 e s.given || s.settled;
 }
-
--- the shutter's time is the frame's
-abbrev pub note_time : Entry → ℕ → Option ℕ → Option ℕ
-note_time (Shutter m time) n old = if m.0 == n then Some time else old
-note_time _ n old = old
-
--- the number of a part is how many there are
-abbrev pub note_parts : Entry → ℕ → ℕ → ℕ
-note_parts (Partial m k _) n old = if m.0 == n then k else old
-note_parts _ n old = old
 
 -- what an entry makes of a row: each mark is set by the entry that the past is asked for
 abbrev pub note_row : Entry → Row → Row

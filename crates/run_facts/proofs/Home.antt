@@ -32,11 +32,10 @@ use Rattle.run_model.specs.Run.{IsRun}
 use Rattle.buffer_laws.proofs.Once.{settled-returned}
 use Rattle.bounded_runs.proofs.Legal.{adds, adds-none, begin_shape, by_failing, by_test, call_shape, drop_shape, early_shape, failed_shape, filled_shape, part_shape, runs_legally, shutter_shape, where-entry}
 use Rattle.frame_laws.proofs.Shutters.{shutter-sent}
+use Rattle.past_facts.proofs.Done.{closed-is}
 use Rattle.past_facts.proofs.Settled.{fence-frame, settled-noted}
 use Rattle.past_facts.specs.Settled.{has_fence, settles}
-use Rattle.state_facts.proofs.Dues.{closed-is}
-use Rattle.run_facts.proofs.Found.{taken-target}
-use Rattle.run_facts.proofs.Steps.{not-out}
+use Rattle.run_facts.proofs.Targets.{taken_target}
 use Rattle.run_facts.proofs.Unsent.{done-shot, take-parts, take-ready, taken-done}
 
 -- the entry can end the device's work on a buffer
@@ -169,6 +168,12 @@ move-ends script h (Finish f t) m n s legal k =
 
 -- ---- so none is out of a buffer with which the device is done
 
+not-out : (a b c d : Bool) → a ≡ false → (b && not d) ≡ false → ((a || b) && not (c || d)) ≡ false
+not-out true b c d h k = absurd (false≢true (sym h))
+not-out false false c d h k = refl
+not-out false true true d h k = refl
+not-out false true false d h k = k
+
 or-case : (a b c : Bool) → (a || b) ≡ true → (a ≡ true → c ≡ false) → (b ≡ true → c ≡ false) → c ≡ false
 or-case true b c h first second = first refl
 or-case false true c h first second = second refl
@@ -196,11 +201,11 @@ home-before script h n s None ends legal is before = before is
 home-before script h n s (Some e) ends legal is before =
     or-case (settles n s e (early_fences n s (trace_of h))) (is_settled n s (trace_of h)) (is_fill_out h n s) (sym (settled-noted script (trace_of h) e n s legal) ∙ is) ends before
 
-pub settled-home : (script : Script) (h : List Move) (n s : ℕ) → IsRun script h → is_settled n s (trace_of h) ≡ true → is_fill_out h n s ≡ false
-settled-home script [] n s run is = absurd (false≢true is)
-settled-home script (m ∷ h) n s run is =
+pub settled_home : (script : Script) (h : List Move) (n s : ℕ) → IsRun script h → is_settled n s (trace_of h) ≡ true → is_fill_out h n s ≡ false
+settled_home script [] n s run is = absurd (false≢true is)
+settled_home script (m ∷ h) n s run is =
     let ends = move-ends script h m.step m n s (runs_legally script h run.1) run.0 in
-    let before = home-before script h n s m.entry ends (runs_legally script (m ∷ h) run) is (λ k. settled-home script h n s run.1 k) in
+    let before = home-before script h n s m.entry ends (runs_legally script (m ∷ h) run) is (λ k. settled_home script h n s run.1 k) in
     not-out (is_take_fill n s m.step) (is_taken_in h n s) (is_fill_done n s m.step) (is_filled_in h n s) (untaken-now script m h n s run is) before
 
 one-settled : (past : List Entry) (n s : ℕ) (targets : List Sent) → list_all (λ t. is_settled n t.stream.0 past) targets ≡ true → list_any (λ t. t.stream.0 == s) targets ≡ true → is_settled n s past ≡ true
@@ -219,9 +224,9 @@ fill_open script h n s run out = elim (cases_Bool (is_open n (trace_of h))) [
   | inr closed ↦ (
       let past = trace_of h in
       let taken = (and_parts (is_taken_in h n s) (not (is_filled_in h n s)) out).0 in
-      let has = taken-target script h n s run taken in
+      let has = taken_target script h n s run taken in
       let sent = shutter-sent script past n (runs_legally script h run) (done-shot script h n run (taken-done script h n s run taken)) in
       let settled = one-settled past n s (targets_of n past) (closed-is past n sent closed).1 has in
-      absurd (false≢true (sym (settled-home script h n s run settled) ∙ out))
+      absurd (false≢true (sym (settled_home script h n s run settled) ∙ out))
       )
 ]

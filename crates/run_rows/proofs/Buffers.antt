@@ -33,17 +33,15 @@ use Rattle.device_rows.specs.Rows.{target_at, target_in}
 use Rattle.basic_lemmas.proofs.Lists.{any-mapped}
 use Rattle.bounded_runs.proofs.Legal.{runs_legally}
 use Rattle.past_facts.proofs.Out.{out-reads}
-use Rattle.row_facts.specs.Rows as frame
 use Rattle.run_facts.proofs.Unsent.{filled-taken}
-use Rattle.state_facts.specs.Dues.{early_in, failed_in, filled_in}
-use Rattle.state_facts.specs.States.{state}
-use Rattle.state_facts.proofs.Dues.{closed-is, early_is, failed_is, filled_is, timed-is}
+use Rattle.past_facts.proofs.Done.{closed-is}
+use Rattle.past_facts.proofs.Times.{timed-shutter}
 use Rattle.buffer_laws.proofs.Once.{settled-returned}
 use Rattle.run_rows.specs.Entries.{early_entry, failed_entry, filled_entry}
 use Rattle.run_rows.proofs.Fours.{any-four, by-target, row-targets, some_of, view_at}
 use Rattle.run_rows.proofs.Frames.{by-row, earlier-is}
 use Rattle.run_rows.proofs.Jobs.{taken-passed}
-use Rattle.run_rows.proofs.Parts.{row-closed}
+use Rattle.run_rows.proofs.Closed.{early-closed, failed-closed, filled-closed}
 use Rattle.run_rows.proofs.States.{place-home, place-out, state-filled, state-out, state-returned, state-waiting}
 
 -- ---- a frame that doesn't hold later buffers back
@@ -203,7 +201,7 @@ may-return-by : (script : Script) (h : List Move) (n s : ℕ) (t : Sent) (job st
 may-return-by script h n s t job state run at taken is =
     let past = trace_of h in
     deliver-by job (is_returned n s past) (is_at_device_by n s t.buffer.0 past) (has_shutter n past) (is_some (shutter_time n past)) (is_sound script past n s) (is_passed t.fence past) (each_earlier n (lets_pass past s) past) _ state
-    (λ k. target-passed script h n s t run at (taken k)) (out-reads script past n s t (runs_legally script h run) at) (timed-is n past) (earlier-passes script h n s) is
+    (λ k. target-passed script h n s t run at (taken k)) (out-reads script past n s t (runs_legally script h run) at) (timed-shutter n past) (earlier-passes script h n s) is
 
 deliver-open : (script : Script) (h : List Move) (n s : ℕ) → IsRun script h → where_entry (is_filled_in h n s) (filled_of script (trace_of h) n s (target_of n s (trace_of h))) ≡ entry_of (filled_entry (digest_of script (trace_of h) n s) n s) (passes_at (may_deliver script.faults (rows script h) (row_of script h n)) (target_at s (row_of script h n))) (target_at s (row_of script h n))
 deliver-open script h n s run =
@@ -217,7 +215,7 @@ pub deliver_is : (script : Script) (h : List Move) (n s : ℕ) → IsRun script 
 deliver_is script h n s run =
     by-row script h n (λ row. entry_of (filled_entry (digest_of script (trace_of h) n s) n s) (target_passes (may_deliver script.faults (rows script h)) s row) (option_and_then (target_at s) row)) (where_entry (is_filled_in h n s) (filled_due script (trace_of h) n s))
     (λ open_. deliver-open script h n s run)
-    (λ closed. ap (λ (o : Option Entry). where_entry (is_filled_in h n s) o) (filled_is script (trace_of h) n s (runs_legally script h run) ∙ ap (λ (o : Option frame.Row). filled_in script (state script (trace_of h)) s o) (row-closed script (trace_of h) n closed)) ∙ where-none (is_filled_in h n s))
+    (λ closed. ap (λ (o : Option Entry). where_entry (is_filled_in h n s) o) (filled-closed script (trace_of h) n s (runs_legally script h run) closed) ∙ where-none (is_filled_in h n s))
 
 early-test : (job early may state : Bool) → (job && may) ≡ state → (job && (early && may)) ≡ (early && state)
 early-test true true may state h = h
@@ -237,7 +235,7 @@ pub early_return_is : (script : Script) (h : List Move) (n s : ℕ) → IsRun sc
 early_return_is script h n s run =
     by-row script h n (λ row. entry_of (early_entry (next_early (trace_of h)) n s) (script.early && target_passes (may_go_early script.faults (rows script h)) s row) (option_and_then (target_at s) row)) (where_entry (is_fill_out h n s) (early_due script (trace_of h) n s))
     (λ open_. early-open script h n s run)
-    (λ closed. ap (λ (o : Option Entry). where_entry (is_fill_out h n s) o) (early_is script (trace_of h) n s (runs_legally script h run) ∙ ap (λ (o : Option frame.Row). early_in script (state script (trace_of h)) s o) (row-closed script (trace_of h) n closed)) ∙ (where-none (is_fill_out h n s) ∙ sym (where-none (script.early && false))))
+    (λ closed. ap (λ (o : Option Entry). where_entry (is_fill_out h n s) o) (early-closed script (trace_of h) n s (runs_legally script h run) closed) ∙ (where-none (is_fill_out h n s) ∙ sym (where-none (script.early && false))))
 
 -- ---- a buffer comes back in error
 
@@ -300,4 +298,4 @@ failed_return_is script h n s run =
     let free = not (is_sensor_out h n) && not (is_fill_out h n s) in
     by-row script h n (λ row. entry_of (failed_entry (λ i. is_signalled i (trace_of h)) n s) (target_passes may_return_failed s row) (option_and_then (target_at s) row)) (where_entry free (failed_due (trace_of h) n s))
     (λ open_. failed-open script h n s run)
-    (λ closed. ap (λ (o : Option Entry). where_entry free o) (failed_is script (trace_of h) n s (runs_legally script h run) ∙ ap (λ (o : Option frame.Row). failed_in (state script (trace_of h)) s o) (row-closed script (trace_of h) n closed)) ∙ where-none free)
+    (λ closed. ap (λ (o : Option Entry). where_entry free o) (failed-closed script (trace_of h) n s (runs_legally script h run) closed) ∙ where-none free)

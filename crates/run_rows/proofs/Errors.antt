@@ -37,14 +37,12 @@ use Rattle.frame_facts.specs.Readings.{rise}
 use Rattle.frame_facts.specs.Row.{target_at}
 use Rattle.frame_facts.proofs.Orderly.{sent_fine, streams_of}
 use Rattle.frame_facts.proofs.Something.{something-reads}
-use Rattle.row_facts.specs.Rows as frame
-use Rattle.state_facts.specs.Dues.{error_buffer_in, error_request_in, error_result_in}
-use Rattle.state_facts.specs.States.{state}
-use Rattle.state_facts.proofs.Dues.{error_buffer_is, error_request_is, error_result_is, timed-is}
+use Rattle.past_facts.proofs.Times.{timed-shutter}
+use Rattle.run_rows.proofs.Closed.{buffer-closed, request-closed, result-closed}
 use Rattle.run_rows.specs.Entries.{error_entry}
 use Rattle.run_rows.proofs.Fours.{row-targets}
 use Rattle.run_rows.proofs.Frames.{by-row}
-use Rattle.run_rows.proofs.Parts.{earlier-ended, row-closed, row-ended}
+use Rattle.run_rows.proofs.Parts.{earlier-ended, row-ended}
 use Rattle.run_rows.proofs.Sensor.{failure_is}
 use Rattle.run_rows.proofs.States.{state-returned}
 use Rattle.run_rows.proofs.Verdicts.{are_rising, bare-row, came, first_lost, missing, verdict-names}
@@ -91,7 +89,7 @@ row-cut script h n legal = ap (λ b. is_stopped n (trace_of h) && not b) (row-ba
 request-open : (script : Script) (h : List Move) (n : ℕ) → IsLegal script (trace_of h) → is_open n (trace_of h) ≡ true → may_fail_request script (trace_of h) n ≡ fails_whole (row_of script h n) (faults_of script.faults (row_of script h n))
 request-open script h n legal open_ =
     let past = trace_of h in
-    by (is_open n past) (has_something n past) _ (request_fault script n) (has_shutter n past) _ (is_stopped n past) open_ (row-bare script h n legal) (timed-is n past)
+    by (is_open n past) (has_something n past) _ (request_fault script n) (has_shutter n past) _ (is_stopped n past) open_ (row-bare script h n legal) (timed-shutter n past)
   where
     by : (open_ some bare fault shot shot' stopped : Bool) → open_ ≡ true → bare ≡ not some → shot ≡ shot' → ((open_ && not some) && ((fault && shot) || stopped)) ≡ (bare && (stopped || (fault && shot')))
     by open_ some bare fault shot shot' stopped a b c = rw (a, b, c) (turned some (fault && shot') stopped)
@@ -107,7 +105,7 @@ result-open : (script : Script) (h : List Move) (n : ℕ) → IsLegal script (tr
 result-open script h n legal =
     let past = trace_of h in
     by (has_shutter n past) _ (not (request_fault script n) || is_stopped n past) (is_metadata_ended n past) (nat_lt (part_count n past) 3) (has_error_result n past) (has_error_request n past) (each_earlier n (λ m. is_metadata_ended m past) past) _ (result_fault script n) (cut past n) _
-    (timed-is n past) (row-ended script h n legal) (earlier-ended script h n legal) (row-cut script h n legal)
+    (timed-shutter n past) (row-ended script h n legal) (earlier-ended script h n legal) (row-cut script h n legal)
   where
     by : (shot shot' begun ended low e q may may' fault short short' : Bool) → shot ≡ shot' → ended ≡ not (low && (not e && not q)) → may ≡ may' → short' ≡ short → (((shot && begun) && not ended) && (may && (fault || short))) ≡ (((shot' && not q) && begun) && (((low && (not e && not q)) && (fault || short')) && may'))
     by shot shot' begun ended low e q may may' fault short short' a b c d = rw (a, b, c, d) (turned shot' begun low e q may' (fault || short))
@@ -151,7 +149,7 @@ buffer-fails script h n t legal has =
     let past = trace_of h in
     let s = t.stream.0 in
     buffer-by (has_target n s past) (has_shutter n past) _ (not (request_fault script n) || is_stopped n past) (has_error_request n past) (has_error_buffer n s past) (is_returned n s past) _ (buffer_fault script n s) (cut past n) _
-    has (timed-is n past) (state-returned h n s) (row-cut script h n legal)
+    has (timed-shutter n past) (state-returned h n s) (row-cut script h n legal)
 
 pub own-stream : (ts : List Sent) → list_all (λ t. list_any (λ u. u.stream.0 == t.stream.0) ts) ts ≡ true
 own-stream [] = refl
@@ -210,20 +208,10 @@ rest-open script h n legal open_ =
     or-agree _ _ _ _ _ _ (if-same _ _ (ErrorRequest (record { 0 = n })) (request-open script h n legal open_)) (if-same _ _ (ErrorResult (record { 0 = n })) (result-open script h n legal)) (buffer-open script h n legal)
     ∙ sym (verdict-names script.faults row (fails_whole row (faults_of script.faults row)) (misses_metadata row (faults_of script.faults row)) (may_end_metadata (rows script h) n) (row-rises script h n legal open_))
 
-none-fails : (script : Script) (past : List Entry) (n s : ℕ) → is_open n past ≡ false → may_fail_buffer script past n s ≡ false
-none-fails script past n s closed = by (may_fail_buffer script past n s) (error_buffer_is script past n s ∙ ap (λ (o : Option frame.Row). error_buffer_in script s o) (row-closed script past n closed))
-  where
-    by : (b : Bool) → (if b then Some (ErrorBuffer (record { 0 = n }) (record { 0 = s })) else None) ≡ None → b ≡ false
-    by true h = absurd (cc)
-    by false h = refl
-
 rest-closed : (script : Script) (past : List Entry) (n : ℕ) → IsLegal script past → is_open n past ≡ false → rest_due script past n ≡ None
 rest-closed script past n legal closed =
-    let row = row-closed script past n closed in
-    or-agree _ None _ None _ None
-    (error_request_is script past n ∙ ap (λ (o : Option frame.Row). error_request_in script o) row)
-    (error_result_is script past n legal ∙ ap (λ (o : Option frame.Row). error_result_in script (state script past) o) row)
-    (ap (λ (o : Option Sent). first_buffer_error script past n o) (find-none (λ (t : Sent). may_fail_buffer script past n t.stream.0) (targets_of n past) (λ t. none-fails script past n t.stream.0 closed)))
+    or-agree _ None _ None _ None (request-closed script past n legal closed) (result-closed script past n legal closed)
+    (ap (λ (o : Option Sent). first_buffer_error script past n o) (find-none (λ (t : Sent). may_fail_buffer script past n t.stream.0) (targets_of n past) (λ t. buffer-closed script past n t.stream.0 legal closed)))
 
 rest-is : (script : Script) (h : List Move) (n : ℕ) → IsLegal script (trace_of h) → rest_due script (trace_of h) n ≡ option_map error_entry (error_of script.faults (rows script h) (row_at n (rows script h)))
 rest-is script h n legal =

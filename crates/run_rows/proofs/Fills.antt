@@ -28,8 +28,8 @@ use Rattle.basic_lemmas.proofs.Tests.{not-by}
 use Rattle.bounded_runs.proofs.Entries.{target-has}
 use Rattle.bounded_runs.proofs.Legal.{adds-none}
 use Rattle.buffer_laws.proofs.Once.{settled-returned}
-use Rattle.run_facts.proofs.Found.{taken-target}
-use Rattle.run_facts.proofs.Home.{settled-home}
+use Rattle.run_facts.proofs.Targets.{taken_target}
+use Rattle.run_facts.proofs.Home.{settled_home}
 use Rattle.run_facts.proofs.Unsent.{filled-taken, take-parts, take-ready, taken-done}
 use Rattle.run_rows.proofs.Fours.{by-target}
 use Rattle.run_rows.proofs.Noted.{place_by}
@@ -50,7 +50,7 @@ any-at-stream p s (t ∷ ts) has passes = elim (cases_Bool (t.stream.0 == s)) [
 
 pub out-any : (script : Script) (h : List Move) (n s : ℕ) → IsRun script h → is_fill_out h n s ≡ true → is_any_fill_out h n ≡ true
 out-any script h n s run out =
-    any-at-stream (λ u. is_fill_out h n u) s (targets_of n (trace_of h)) (taken-target script h n s run (and_parts (is_taken_in h n s) (not (is_filled_in h n s)) out).0) out
+    any-at-stream (λ u. is_fill_out h n u) s (targets_of n (trace_of h)) (taken_target script h n s run (and_parts (is_taken_in h n s) (not (is_filled_in h n s)) out).0) out
 
 -- a stage takes a buffer where no other has the readout
 take-alone : (script : Script) (h : List Move) (m : Move) (n s u : ℕ) → IsRun script (m ∷ h) → is_take_fill n s m.step ≡ true → is_fill_out h n u ≡ true → ⊥
@@ -105,7 +105,7 @@ is-out script h n s run out =
     let parts = and_parts (is_taken_in h n s) (not (is_filled_in h n s)) out in
     let unfilled = not-true (is_filled_in h n s) parts.1 in
     let open_ : is_settled n s past ≡ false = elim (cases_Bool (is_settled n s past)) [
-      | inl settled ↦ absurd (false≢true (sym (settled-home script h n s run settled) ∙ out))
+      | inl settled ↦ absurd (false≢true (sym (settled_home script h n s run settled) ∙ out))
       | inr no' ↦ no'
     ] in
     let unbrought = (or_parts (list_any (brings n s) past) (list_any (λ d. is_late d past) (early_fences n s past)) open_).0 in
@@ -195,7 +195,7 @@ filled-state : (script : Script) (h : List Move) (n s : ℕ) → IsRun script h 
 filled-state script h n s run out =
     let is = is-out script h n s run out in
     sym (by-target script h n s filled_after (λ o. if was_early h n s then EarlyFilled else IsFilled)
-    (λ at. absurd (none-found (λ t. t.stream.0 == s) (targets_of n (trace_of h)) (taken-target script h n s run is.taken) at))
+    (λ at. absurd (none-found (λ t. t.stream.0 == s) (targets_of n (trace_of h)) (taken_target script h n s run is.taken) at))
     (λ t at. by (was_ok h n s) (was_bad h n s) (was_early h n s) (is_settled n s (trace_of h)) (is_fill_out h n s) (is_filled_in h n s) is.ok is.bad is.open_ out))
   where
     by : (ok bad early settled out filled : Bool) → ok ≡ false → bad ≡ false → settled ≡ false → out ≡ true → (if early then EarlyFilled else IsFilled) ≡ filled_from (state_by ok bad early settled out filled)

@@ -31,21 +31,16 @@ use Rattle.device_rows.specs.Ready.{is_finish_ready, is_state, passes_at, target
 use Rattle.device_rows.specs.Rows.{row_at, target_at}
 use Rattle.bounded_runs.proofs.Entries.{same-self}
 use Rattle.bounded_runs.proofs.Legal.{runs_legally}
-use Rattle.buffer_laws.proofs.Early.{found-early, given, settled-late}
+use Rattle.trace_bounds.proofs.Shapes.{found-passes}
+use Rattle.buffer_laws.proofs.Early.{found-early, given, open-until-late, settled-late}
 use Rattle.past_facts.specs.Settled.{has_fence}
 use Rattle.past_facts.proofs.Settled.{fence-frame}
-use Rattle.row_facts.specs.Rows as frame
-use Rattle.run_facts.specs.Moves.{finish_in, has_filled_in, find_jobs}
-use Rattle.run_facts.specs.States.{all_jobs}
-use Rattle.run_facts.proofs.Found.{unfilled}
-use Rattle.run_facts.proofs.Readings.{move_is}
-use Rattle.state_facts.specs.States.{state}
+use Rattle.run_facts.proofs.Targets.{unfilled}
 use Rattle.run_rows.specs.Entries.{finish_entry}
 use Rattle.run_rows.specs.Moves.{finish_move}
 use Rattle.run_rows.proofs.Fours.{by-target}
 use Rattle.run_rows.proofs.Frames.{by-row, row-found}
 use Rattle.run_rows.proofs.Jobs.{early-taken}
-use Rattle.run_rows.proofs.Parts.{row-closed}
 use Rattle.run_rows.proofs.States.{brought-kinds, early-filled-by, returned-kinds, was_bad, was_early, was_ok}
 
 -- ---- the device fence of an early return
@@ -133,6 +128,25 @@ state-late script h n s d run is =
 
 -- ---- the signal
 
+late-closed : (script : Script) (past : List Entry) (n s d : ℕ) (o : Option Entry) → IsLegal script past → find (is_early_with d) past ≡ o → has_fence d (early_fences n s past) ≡ true → is_open n past ≡ false → late_of script past d o ≡ None
+late-closed script past n s d None legal found has closed = refl
+late-closed script past n s d (Some (Early m t b f)) legal found has closed =
+    let own = and_parts (m.0 == n) (t.0 == s) (fence-frame script past d m t b f n s legal found has) in
+    let g = given script past d m t b f legal found in
+    let at : f.0 ≡ d = eqb-true f.0 d (found-passes (is_early_with d) past (Early m t b f) found) in
+    elim (cases_Bool (is_late f.0 past)) [
+      | inl late ↦ (let late' : is_late d past ≡ true = ap (λ i. is_late i past) (sym at) ∙ late in rw late' refl)
+      | inr early ↦ absurd (false≢true (sym closed ∙ (ap (λ i. is_open i past) (sym (eqb-true m.0 n own.0)) ∙ open-until-late past m.0 t.0 f.0 g early)))
+    ]
+late-closed script past n s d (Some _) legal found has closed = refl
+
+finish-closed : (script : Script) (past : List Entry) (n s : ℕ) (fences : List ℕ) → IsLegal script past → early_fences n s past ≡ fences → is_open n past ≡ false → late_with script past fences ≡ None
+finish-closed script past n s [] legal at closed = refl
+finish-closed script past n s (d ∷ ds) legal at closed =
+    let own = same-self d in
+    let has : has_fence d (early_fences n s past) ≡ true = ap (λ (fs : List ℕ). has_fence d fs) at ∙ rw own refl in
+    late-closed script past n s d (find (is_early_with d) past) legal refl has closed
+
 where-late : (filled late ready : Bool) (e : Entry) → ready ≡ (not late && filled) → where_entry filled (if late then None else Some e) ≡ where_entry ready (Some e)
 where-late true true ready e h = rw h refl
 where-late true false ready e h = rw h refl
@@ -171,11 +185,8 @@ pub finish_is : (script : Script) (h : List Move) (n : FrameNo) (s : StreamIx) �
 finish_is script h n s run =
     by-row script h n.0 (λ row. adding (Finish n s) (where_entry (target_passes finish_test s.0 row) (finish_entry (digest_of script (trace_of h) n.0 s.0) (early_fences n.0 s.0 (trace_of h))))) (move_of script h (Finish n s))
     (λ open_. ap (λ (o : Option Entry). adding (Finish n s) o) (finish-open script h n.0 s.0 run))
-    (λ closed.
-    let b = has_filled_in s.0 (find_jobs n.0 (all_jobs h)) in
-    move_is script h (Finish n s) run
-    ∙ (ap (λ (o : Option frame.Row). adding (Finish n s) (where_entry b (finish_in (state script (trace_of h)) s.0 o))) (row-closed script (trace_of h) n.0 closed)
-    ∙ ap (λ (o : Option Entry). adding (Finish n s) o) (where-none b false)))
+    (λ closed. ap (λ (o : Option Entry). adding (Finish n s) (where_entry (is_filled_in h n.0 s.0) o)) (finish-closed script (trace_of h) n.0 s.0 (early_fences n.0 s.0 (trace_of h)) (runs_legally script h run) refl closed)
+    ∙ ap (λ (o : Option Entry). adding (Finish n s) o) (where-none (is_filled_in h n.0 s.0) false))
 
 -- ---- where it is ready
 

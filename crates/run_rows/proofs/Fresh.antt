@@ -40,10 +40,10 @@ use Rattle.bounded_runs.proofs.Entries.{open-sent, same-self}
 use Rattle.bounded_runs.proofs.Legal.{runs_legally}
 use Rattle.past_facts.proofs.Frames.{unsent-next}
 use Rattle.past_facts.proofs.Told.{buffer-tells, no-time, none-of, not-stopped, partial-tells, request-tells, result-tells, return-tells, tells, untold}
-use Rattle.run_facts.proofs.Steps.{dark-next}
+use Rattle.run_facts.proofs.Targets.{dark-next}
 use Rattle.run_facts.proofs.Unsent.{not-done, not-filled, not-taken}
-use Rattle.state_facts.specs.States.{settings_next}
-use Rattle.state_facts.proofs.Items.{IsNext, is-next}
+use Rattle.queue_facts.specs.Turns.{settings_next}
+use Rattle.queue_facts.proofs.Items.{IsNext, is-next}
 use Rattle.run_rows.specs.Changes.{fresh_row, fresh_target, fresh_targets}
 use Rattle.run_rows.proofs.Fills.{is-here}
 use Rattle.run_rows.proofs.Noted.{no-sensor, no-take, not-silent, old-rows, row-open, state-noted, untouched, views-stay}

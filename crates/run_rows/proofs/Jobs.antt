@@ -35,7 +35,7 @@ use Rattle.run_model.specs.Rows.{is_early_return, is_ok_return}
 use Rattle.run_model.specs.Run.{IsRun}
 use Rattle.bounded_runs.proofs.Entries.{open-sent}
 use Rattle.bounded_runs.proofs.Legal.{adds, adds-none, begin_shape, by_failing, by_test, call_shape, drop_shape, early_shape, failed_shape, filled_shape, part_shape, runs_legally, shutter_shape, where-entry}
-use Rattle.run_facts.proofs.Steps.{targets-same}
+use Rattle.run_facts.proofs.Targets.{targets-same}
 use Rattle.run_facts.proofs.Unsent.{done-shot, take-parts, take-ready, taken-done}
 use Rattle.frame_laws.proofs.Shutters.{shutter-sent}
 

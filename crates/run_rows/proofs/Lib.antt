@@ -1,4 +1,5 @@
 pub mod General
+pub mod Closed
 pub mod Frames
 pub mod Fours
 pub mod States

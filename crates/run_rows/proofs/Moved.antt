@@ -26,7 +26,7 @@ use Rattle.basic_lemmas.proofs.Tests.{eq-turned}
 use Rattle.bounded_runs.proofs.Entries.{open-sent}
 use Rattle.bounded_runs.proofs.Legal.{adds, where-entry}
 use Rattle.past_facts.proofs.Told.{tells}
-use Rattle.state_facts.specs.States.{settings_next}
+use Rattle.queue_facts.specs.Turns.{settings_next}
 use Rattle.run_rows.specs.Changes.{after, after_entry, after_given}
 use Rattle.run_rows.proofs.Changes.{announced-row, in-place, nothing, part-row, request-row, result-row, shutter-row, stop-row}
 use Rattle.run_rows.proofs.Fresh.{send-changed}

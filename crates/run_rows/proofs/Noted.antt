@@ -17,7 +17,7 @@ use Rattle.cam_types.specs.declared.row.TargetState.{TargetState}
 use Rattle.cam_types.specs.declared.row.TargetView.{TargetView}
 use Rattle.cam_types.specs.declared.script.Script.{Script}
 use Rattle.trace_model.specs.declared.entry.Entry.{Entry}
-use Rattle.trace_model.specs.declared.entry.Entry.TheVariants.{Shutter, Partial, Filled, Failed, Early}
+use Rattle.trace_model.specs.declared.entry.Entry.TheVariants.{Shutter, Filled, Failed, Early}
 use Rattle.trace_model.specs.declared.entry.Sent.{Sent}
 use Rattle.trace_model.specs.Entry.{is_error_buffer, is_error_request, is_error_result, is_shutter, is_stop, sends}
 use Rattle.trace_model.specs.Frames.{frames, has_error_request, has_shutter, is_sent, send_of, settings_of, shutter_time, targets_of}
@@ -40,9 +40,9 @@ use Rattle.past_facts.proofs.Done.{closed-stays}
 use Rattle.past_facts.proofs.Frames.{sent-once}
 use Rattle.past_facts.proofs.Settled.{settled-noted}
 use Rattle.past_facts.proofs.Told.{buffer-tells, request-tells, result-tells, tells}
-use Rattle.row_facts.specs.Rows as frame
-use Rattle.row_facts.specs.Rows.{note_parts, note_row, note_time}
-use Rattle.row_facts.proofs.Steps.{row-noted}
+use Rattle.past_facts.specs.Times.{note_parts, note_time}
+use Rattle.past_facts.proofs.Times.{parts-noted, parts-other, time-noted, time-other}
+use Rattle.frame_facts.proofs.Accepted.{settings-kept}
 use Rattle.basic_lemmas.proofs.Lists.{all-agree, all-mapped, any-behind}
 use Rattle.basic_lemmas.proofs.Tests.{not-by}
 use Rattle.run_rows.proofs.Fours.{all-four, each_of, row-targets}
@@ -134,16 +134,20 @@ view-noted script h step e n vs p run sent targets place =
     let m : Move = record { step = step; entry = Some e } in
     let past = trace_of h in
     let legal = runs_legally script (m ∷ h) run in
-    let row = row-noted script past e n legal sent in
+    let other = sent-once script past e n legal.1 legal.0 sent in
     same-view n _ _ _ _ _ _ _ _ _ _ _ _ _ _ _ _
-    (ap (λ (o : Option Entry). request_of o) (send-same past e n (sent-once script past e n legal.1 legal.0 sent)))
-    (ap (λ (r : frame.Row). r.settings) row)
+    (ap (λ (o : Option Entry). request_of o) (send-same past e n other))
+    (settings-kept script past e n legal sent other)
     (ap (λ (ts : List TargetView). four_of ts) (ap (λ (ts : List Sent). map (target_view (m ∷ h) n) ts) (targets-noted script past e n legal sent) ∙ targets))
-    (ap (λ (r : frame.Row). r.time) row)
-    (ap (λ (r : frame.Row). r.parts) row)
+    (time-noted e past n)
+    (parts-noted script past e n legal.0)
     place
-    (ap (λ (r : frame.Row). r.stopped) row)
+    (stopped-noted (is_stop e) (is_sent n past) (is_stopped n past) sent)
   where
+    stopped-noted : (a b c : Bool) → b ≡ true → ((a && b) || c) ≡ (a || c)
+    stopped-noted true b c h = rw h refl
+    stopped-noted false b c h = refl
+
     send-same : (past : List Entry) (e : Entry) (n : ℕ) → sends n e ≡ false → send_of n (e ∷ past) ≡ send_of n past
     send-same past e n other = rw other refl
 
@@ -194,14 +198,6 @@ state-views h' h n s state ts errors others own = views-changed (target_view h' 
     ]
 
 -- ---- a row that the entry says nothing of
-
-time-other : (e : Entry) (n : ℕ) (old : Option ℕ) → tells n e ≡ false → note_time e n old ≡ old
-time-other (Shutter m time) n old none = rw none refl
-time-other _ n old none = refl
-
-parts-other : (e : Entry) (n old : ℕ) → tells n e ≡ false → note_parts e n old ≡ old
-parts-other (Partial m k part) n old none = rw none refl
-parts-other _ n old none = refl
 
 shutter-tells : (n : ℕ) (e : Entry) → is_shutter n e ≡ true → tells n e ≡ true
 shutter-tells n (Shutter m time) h = h

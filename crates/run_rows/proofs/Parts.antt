@@ -6,11 +6,10 @@ use Rattle.run_rows.proofs.General.{map-if, if-same}
 use Rattle.cam_types.specs.Metadata.{part_at}
 use Rattle.cam_types.specs.Rows.{awaits_metadata}
 use Rattle.cam_types.specs.declared.script.Script.{Script}
-use Rattle.trace_model.specs.declared.entry.Entry.{Entry}
 use Rattle.trace_model.specs.Faults.{request_fault, result_fault}
 use Rattle.trace_model.specs.Frames.{each_earlier, has_error_request, shutter_time}
 use Rattle.trace_model.specs.Legal.{IsLegal}
-use Rattle.trace_model.specs.Open.{has_error_result, is_metadata_ended, is_open}
+use Rattle.trace_model.specs.Open.{has_error_result, is_metadata_ended}
 use Rattle.trace_model.specs.Partial.{may_part, part_count, part_of, partial_due}
 use Rattle.run_model.specs.declared.step.Move.{Move}
 use Rattle.run_model.specs.History.{trace_of}
@@ -20,18 +19,10 @@ use Rattle.device_rows.specs.Ready.{may_end_metadata, may_send_part, next_part, 
 use Rattle.device_rows.specs.Ready as ready
 use Rattle.bounded_runs.proofs.Legal.{runs_legally}
 use Rattle.frame_laws.proofs.Parts.{is_within, part-within}
-use Rattle.row_facts.specs.Rows.{find_row}
-use Rattle.row_facts.specs.Rows as frame
-use Rattle.row_facts.proofs.Readings.{found_is}
-use Rattle.state_facts.specs.Dues.{partial_in}
-use Rattle.state_facts.specs.States.{state}
-use Rattle.state_facts.proofs.Dues.{closed-is, partial_is}
+use Rattle.past_facts.proofs.Done.{closed-is}
+use Rattle.run_rows.proofs.Closed.{part-closed}
 use Rattle.run_rows.specs.Entries.{part_entry}
 use Rattle.run_rows.proofs.Frames.{by-row, earlier-is}
-
--- a closed frame has no row
-pub row-closed : (script : Script) (past : List Entry) (n : ℕ) → is_open n past ≡ false → find_row n (frame.rows script past) ≡ None
-row-closed script past n h = found_is script past n ∙ rw h refl
 
 -- ---- the metadata of earlier frames
 
@@ -88,4 +79,4 @@ part_is script h n run =
     let legal = runs_legally script h run in
     by-row script h n (λ row. option_map (part_entry n) (ready.part_of script.faults (rows script h) row)) (partial_due script (trace_of h) n)
     (λ open_. part-open script h n (shutter_time n (trace_of h)) legal)
-    (λ closed. partial_is script (trace_of h) n legal ∙ ap (λ (o : Option frame.Row). partial_in script (state script (trace_of h)) o) (row-closed script (trace_of h) n closed))
+    (λ closed. part-closed script (trace_of h) n legal closed)

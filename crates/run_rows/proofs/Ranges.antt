@@ -24,9 +24,9 @@ use Rattle.trace_model.specs.Queue.{next}
 use Rattle.trace_model.specs.Reply.{acceptance, own_refusal, queue_refusal, refusal, reply, reply_with, state_refusal}
 use Rattle.trace_bounds.proofs.Calls.{by-call}
 use Rattle.trace_bounds.proofs.Refusals.{refuses, refusal-refuses}
-use Rattle.row_facts.specs.Rows as frame
-use Rattle.row_facts.proofs.Steps.{row-noted}
-use Rattle.state_facts.proofs.Items.{IsNext, is-next}
+use Rattle.past_facts.proofs.Frames.{sent-once}
+use Rattle.frame_facts.proofs.Accepted.{settings-kept}
+use Rattle.queue_facts.proofs.Items.{IsNext, is-next}
 
 or-none : (a b : Option Reply) → or_else a b ≡ None → (a ≡ None) × (b ≡ None)
 or-none None b h = (refl, h)
@@ -107,7 +107,7 @@ sent-range script (Send m r i same targets ∷ past) n legal sent = elim (cases_
   | inl here ↦ rw here (next-range script past r.0 i (next script past) legal.1 (is-next script past m.0 r.0 i same targets legal.1 legal.0))
   | inr other ↦ (
       let sent' : is_sent n past ≡ true = rw other at sent in
-      ap (λ (x : frame.Row). range_fault x.settings) (row-noted script past (Send m r i same targets) n legal sent') ∙ sent-range script past n legal.1 sent'
+      ap range_fault (settings-kept script past (Send m r i same targets) n legal sent' other) ∙ sent-range script past n legal.1 sent'
       )
 ]
-sent-range script (e ∷ past) n legal sent = ap (λ (x : frame.Row). range_fault x.settings) (row-noted script past e n legal sent) ∙ sent-range script past n legal.1 sent
+sent-range script (e ∷ past) n legal sent = ap range_fault (settings-kept script past e n legal sent (sent-once script past e n legal.1 legal.0 sent)) ∙ sent-range script past n legal.1 sent

@@ -28,7 +28,8 @@ use Rattle.frame_facts.specs.Row as plain
 use Rattle.frame_facts.proofs.Last.{last-is, last_where}
 use Rattle.frame_facts.proofs.Sensor.{IsNext, done_passed, last-next, next-from, next-is, no_next, one-next, rows-next, shutter_reads, waits}
 use Rattle.past_facts.proofs.Frames.{frames-fall}
-use Rattle.state_facts.proofs.Dues.{closed-is, timed-is}
+use Rattle.past_facts.proofs.Done.{closed-is}
+use Rattle.past_facts.proofs.Times.{timed-shutter}
 use Rattle.run_rows.specs.Entries.{shutter_entry}
 use Rattle.run_rows.proofs.Frames.{sent-in-order}
 use Rattle.run_rows.proofs.Stopped.{open-stopped}
@@ -63,7 +64,7 @@ next-row : (script : Script) (h : List Move) → IsLegal script (trace_of h) →
 next-row script h legal =
     let past = trace_of h in
     find-rows (row_of script h) (λ n. is_open n past) (λ n. is_sent n past) (waits past) (λ row. not (is_some row.shutter) && not row.request_error) (reverse (frames past))
-    (λ n sent closed. closed-waits script h n legal sent closed) (λ n. ap (λ b. not b && not (has_error_request n past)) (timed-is n past)) (sent-in-order h)
+    (λ n sent closed. closed-waits script h n legal sent closed) (λ n. ap (λ b. not b && not (has_error_request n past)) (timed-shutter n past)) (sent-in-order h)
     ∙ ap (λ (o : Option ℕ). option_map (row_of script h) o) (find-reverse (waits past) (frames past))
 
 -- the frame that is next is open

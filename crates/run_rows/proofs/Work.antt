@@ -29,10 +29,10 @@ use Rattle.due_facts.proofs.Targets.{has_some, sent-targets}
 use Rattle.frame_laws.proofs.Shutters.{exposed}
 use Rattle.past_facts.specs.Settled.{settles}
 use Rattle.past_facts.proofs.Settled.{settled-noted}
-use Rattle.run_facts.specs.States.{by_entry}
-use Rattle.run_facts.proofs.Steps.{dark-next}
+use Rattle.run_facts.specs.Moves.{by_entry}
+use Rattle.run_facts.proofs.Targets.{dark-next}
 use Rattle.run_facts.proofs.Unsent.{done-shot, filled-taken, taken-done}
-use Rattle.state_facts.proofs.Dues.{closed-is}
+use Rattle.past_facts.proofs.Done.{closed-is}
 use Rattle.buffer_laws.proofs.Once.{settled-returned}
 use Rattle.run_rows.proofs.Fills.{is-out}
 use Rattle.run_rows.proofs.Frames.{by-row}

@@ -26,7 +26,7 @@ use Rattle.device_rows.specs.Jobs.{fill_job, fill_job_at, fill_job_in, fill_job_
 use Rattle.device_rows.specs.Ready as ready
 use Rattle.device_rows.specs.Rows.{row_at, target_at}
 use Rattle.bounded_runs.proofs.Legal.{runs_legally}
-use Rattle.run_facts.proofs.Found.{taken-target}
+use Rattle.run_facts.proofs.Targets.{taken_target}
 use Rattle.run_facts.proofs.Home.{fill_open}
 use Rattle.run_rows.proofs.Fours.{by-target, no-view, view-found, view_at}
 use Rattle.run_rows.proofs.Frames.{by-row, row-found}
@@ -82,7 +82,7 @@ sensor_job_to script h job is =
 
 not-taken : (script : Script) (h : List Move) (n s : ℕ) → IsRun script h → target_of n s (trace_of h) ≡ None → is_fill_out h n s ≡ false
 not-taken script h n s run at = elim (cases_Bool (is_fill_out h n s)) [
-  | inl out ↦ absurd (none-found (λ t. t.stream.0 == s) (targets_of n (trace_of h)) (taken-target script h n s run (and_parts (is_taken_in h n s) (not (is_filled_in h n s)) out).0) at)
+  | inl out ↦ absurd (none-found (λ t. t.stream.0 == s) (targets_of n (trace_of h)) (taken_target script h n s run (and_parts (is_taken_in h n s) (not (is_filled_in h n s)) out).0) at)
   | inr no' ↦ no'
 ]
 

@@ -18,7 +18,7 @@ use Rattle.bounded_runs.proofs.Entries.{open-sent}
 use Rattle.bounded_runs.proofs.Legal.{runs_legally}
 use Rattle.frame_facts.proofs.Accepted.{settings-kept}
 use Rattle.run_facts.proofs.Home.{fill_open}
-use Rattle.run_facts.proofs.Steps.{dark-next}
+use Rattle.run_facts.proofs.Targets.{dark-next}
 use Rattle.run_model.specs.History.{trace_of}
 use Rattle.run_model.specs.Jobs.{IsFillJob, IsJobOut, IsOutWith, IsSensorJob, is_fill_out, is_sensor_done_in}
 use Rattle.run_model.specs.Run.{IsRun}

@@ -25,7 +25,8 @@ use Rattle.queue_facts.proofs.Readings.{next_is}
 use Rattle.row_facts.specs.Rows.{Row, find_row, row}
 use Rattle.row_facts.specs.Rows as frame
 use Rattle.row_facts.proofs.Readings.{finishes_is, found_is}
-use Rattle.state_facts.specs.States.{State, clock_after, repeats_next, settings_next, settings_row}
+use Rattle.queue_facts.specs.Turns.{repeats_next, settings_next}
+use Rattle.state_facts.specs.States.{State, clock_after, settings_row}
 use Rattle.state_facts.proofs.Steps.{noted_is}
 use Rattle.run_rows.specs.Changes.{after}
 use Rattle.run_rows.proofs.Frames.{row-found}

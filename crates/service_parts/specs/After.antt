@@ -19,7 +19,8 @@ use Rattle.buffer_facts.specs.Homes.{Homes, all_home, all_signalled}
 use Rattle.buffer_facts.specs.Homes as buffers
 use Rattle.client_facts.specs.Clients.{Clients}
 use Rattle.client_facts.specs.Clients as client
-use Rattle.state_facts.specs.States.{last_after, repeats_next, settings_next}
+use Rattle.queue_facts.specs.Turns.{repeats_next, settings_next}
+use Rattle.state_facts.specs.States.{last_after}
 use Rattle.device_rows.specs.Rows.{row_at}
 use Rattle.run_rows.specs.Changes.{after}
 use Rattle.run_rows.specs.Kept.{is_no_row}

@@ -27,7 +27,8 @@ use Rattle.buffer_facts.specs.Homes as buffers
 use Rattle.client_facts.specs.Clients as client
 use Rattle.client_calls.specs.Around.{Fits}
 use Rattle.capture_queue.specs.Captures.{CanTake}
-use Rattle.state_facts.specs.States.{last_after, settings_next}
+use Rattle.queue_facts.specs.Turns.{settings_next}
+use Rattle.state_facts.specs.States.{last_after}
 use Rattle.device_rows.specs.Rows.{all_stopped}
 use Rattle.run_rows.specs.Kept.{is_no_row}
 use Rattle.service_facts.specs.Facts.{IsConfigured, IsConfiguredBy}

@@ -12,7 +12,7 @@ use Rattle.queue_facts.specs.Turns.{next_of}
 use Rattle.client_facts.specs.Clients.{Clients}
 use Rattle.client_facts.specs.Clients as client
 use Rattle.client_calls.specs.Around.{Fits}
-use Rattle.state_facts.specs.States.{repeats_next, settings_next}
+use Rattle.queue_facts.specs.Turns.{repeats_next, settings_next}
 use Rattle.device_rows.specs.Ready.{is_retire_ready}
 use Rattle.device_rows.specs.Rows.{row_at, with_row}
 use Rattle.run_rows.specs.Changes.{after}

@@ -16,7 +16,7 @@ use Rattle.run_rows.specs.Kept.{frames_rise}
 use Rattle.run_rows.proofs.Counted.{frames_rise_is}
 use Rattle.run_rows.proofs.Moved.{changed_is}
 use Rattle.run_rows.proofs.Whole.{all-open, whole_is}
-use Rattle.state_facts.specs.States.{settings_next}
+use Rattle.queue_facts.specs.Turns.{settings_next}
 use Rattle.queue_facts.specs.Turns.{next_of}
 use Rattle.queue_facts.proofs.Readings.{next_is}
 use Rattle.service_parts.specs.After.{parts_after, rows_after}

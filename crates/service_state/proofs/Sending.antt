@@ -19,7 +19,8 @@ use Rattle.queue_facts.proofs.Readings.{next_is}
 use Rattle.buffer_facts.specs.Homes as buffers
 use Rattle.client_facts.specs.Clients as client
 use Rattle.client_calls.specs.Around.{Fits}
-use Rattle.state_facts.specs.States.{settings_next, targets_in}
+use Rattle.queue_facts.specs.Turns.{settings_next}
+use Rattle.state_facts.specs.States.{targets_in}
 use Rattle.state_facts.proofs.Fits.{numbers_fit}
 use Rattle.run_rows.specs.Changes.{fresh_row, fresh_target, fresh_targets}
 use Rattle.std.proofs.Common.{is_none, slice_get}

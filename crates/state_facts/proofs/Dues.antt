@@ -11,7 +11,7 @@ use Rattle.cam_types.specs.declared.number.FrameNo.{FrameNo}
 use Rattle.cam_types.specs.declared.number.StreamIx.{StreamIx}
 use Rattle.cam_types.specs.declared.script.Script.{Script}
 use Rattle.trace_model.specs.declared.entry.Entry.{Entry}
-use Rattle.trace_model.specs.declared.entry.Entry.TheVariants.{Shutter, Failed, ErrorBuffer, Early, Late}
+use Rattle.trace_model.specs.declared.entry.Entry.TheVariants.{Failed, ErrorBuffer, Early, Late}
 use Rattle.trace_model.specs.declared.entry.Sent.{Sent}
 use Rattle.trace_model.specs.Entry.{is_early_with, sends}
 use Rattle.trace_model.specs.Errors.{error_buffer_due, error_request_due, error_result_due, failed_due, failed_of, fence_left, is_cut_short, may_fail_in_part, may_fail_request, may_fail_result}
@@ -20,7 +20,7 @@ use Rattle.trace_model.specs.Fence.{is_late, is_passed}
 use Rattle.trace_model.specs.Filled.{early_due, early_of, filled_due, filled_of, late_due, late_of, is_sound, lets_pass, may_deliver}
 use Rattle.trace_model.specs.Frames.{each_earlier, frames, has_error_request, has_shutter, is_sent, send_of, shutter_time, target_of, targets_in, targets_of}
 use Rattle.trace_model.specs.Legal.{IsLegal}
-use Rattle.trace_model.specs.Open.{all_settled, early_fences, has_error_buffer, has_error_result, has_part, has_something, is_metadata_ended, is_open, is_returned, is_settled}
+use Rattle.trace_model.specs.Open.{early_fences, has_error_buffer, has_error_result, has_part, has_something, is_metadata_ended, is_open, is_returned, is_settled}
 use Rattle.trace_model.specs.Partial.{may_part, part_count, part_of, partial_due}
 use Rattle.trace_model.specs.Picture.{digest_of}
 use Rattle.trace_model.specs.Place.{is_at_device_by}
@@ -31,8 +31,10 @@ use Rattle.buffer_laws.proofs.Once.{settled-returned}
 use Rattle.buffer_laws.proofs.Sends.{is_with}
 use Rattle.frame_laws.proofs.Parts.{is_within, part-within}
 use Rattle.frame_laws.proofs.Shutters.{shutter-sent}
+use Rattle.past_facts.proofs.Done.{closed-is}
 use Rattle.past_facts.proofs.Out.{out-reads}
 use Rattle.past_facts.proofs.Settled.{fence-frame}
+use Rattle.past_facts.proofs.Times.{timed-shutter}
 use Rattle.past_facts.specs.Settled.{has_fence}
 use Rattle.buffer_facts.specs.Homes.{homes}
 use Rattle.buffer_facts.proofs.Readings.{earlies_are, signalled_is}
@@ -49,21 +51,6 @@ by-row script past n f x open_ closed = elim (cases_Bool (is_open n past)) [
   | inl yes' ↦ open_ yes' ∙ ap f (sym (found_is script past n ∙ rw yes' refl))
   | inr no' ↦ closed no' ∙ ap f (sym (found_is script past n ∙ rw no' refl))
 ]
-
-pub timed-is : (n : ℕ) (past : List Entry) → has_shutter n past ≡ is_some (shutter_time n past)
-timed-is n [] = refl
-timed-is n (Shutter m time ∷ past) = elim (cases_Bool (m.0 == n)) [ inl here ↦ rw here refl | inr other ↦ rw other (timed-is n past) ]
-timed-is n (e ∷ past) = timed-is n past
-
-closed-parts : (s a b : Bool) → s ≡ true → (s && not (a && b)) ≡ false → (a ≡ true) × (b ≡ true)
-closed-parts true true true h k = (refl, refl)
-closed-parts true true false h k = absurd (false≢true (sym k))
-closed-parts true false b h k = absurd (false≢true (sym k))
-closed-parts false a b h k = absurd (false≢true h)
-
--- what isn't open and was sent ended its metadata, and the device is done with its buffers
-pub closed-is : (past : List Entry) (n : ℕ) → is_sent n past ≡ true → is_open n past ≡ false → (is_metadata_ended n past ≡ true) × (all_settled n past ≡ true)
-closed-is past n sent closed = closed-parts (is_sent n past) (is_metadata_ended n past) (all_settled n past) sent closed
 
 abbrev pub ended_row : Row → Bool
 ended_row q = q.ended
@@ -101,7 +88,7 @@ no-part false false false f k l h g = absurd (false≢true g)
 part-closed : (script : Script) (past : List Entry) (n : ℕ) (o : Option ℕ) → IsLegal script past → shutter_time n past ≡ o → is_open n past ≡ false → part_of script past n (part_count n past + 1) o ≡ None
 part-closed script past n None legal at closed = refl
 part-closed script past n (Some time) legal at closed =
-    let shutter : has_shutter n past ≡ true = timed-is n past ∙ rw at refl in
+    let shutter : has_shutter n past ≡ true = timed-shutter n past ∙ rw at refl in
     let ended = (closed-is past n (shutter-sent script past n legal shutter) closed).0 in
     let k = part_count n past + 1 in
     let within : has_part n 3 past ≡ is_within 3 (part_count n past) = part-within script past n 3 legal in
@@ -122,11 +109,11 @@ request-may a b c d e f h k = rw (h, k) refl
 pub error_request_is : (script : Script) (past : List Entry) (n : ℕ) → error_request_due script past n ≡ error_request_in script (find_row n (rows script past))
 error_request_is script past n =
     by-row script past n (error_request_in script) (error_request_due script past n)
-    (λ open_. if-agree _ _ _ _ (request-may (is_open n past) (has_something n past) (request_fault script n) (has_shutter n past) (is_some (shutter_time n past)) (is_stopped n past) open_ (timed-is n past)))
+    (λ open_. if-agree _ _ _ _ (request-may (is_open n past) (has_something n past) (request_fault script n) (has_shutter n past) (is_some (shutter_time n past)) (is_stopped n past) open_ (timed-shutter n past)))
     (λ closed. if-false (may_fail_request script past n) _ _ (rw closed refl))
 
 in-part-is : (script : Script) (past : List Entry) (n : ℕ) → may_fail_in_part script past n ≡ in_part script (row script past n)
-in-part-is script past n = ap (λ b. b && (not (request_fault script n) || is_stopped n past)) (timed-is n past)
+in-part-is script past n = ap (λ b. b && (not (request_fault script n) || is_stopped n past)) (timed-shutter n past)
 
 result-may : (script : Script) (past : List Entry) (n : ℕ) → may_fail_result script past n ≡ ((in_part script (row script past n) && not (is_metadata_ended n past)) && (each_before n ended_row (rows script past) && (result_fault script n || (is_stopped n past && has_something n past))))
 result-may script past n =
@@ -234,7 +221,7 @@ deliver-by a a' b b' c d d' e e' w x y z = rw (w, x, y, z) refl
 filled-open : (script : Script) (past : List Entry) (n s : ℕ) (t : Sent) → IsLegal script past → target_of n s past ≡ Some t → filled_of script past n s (Some t) ≡ filled_at script (state script past) s (row script past n) (Some (record { target = t; returned = is_returned n s past; failed = has_error_buffer n s past; given = early_fences n s past; settled = is_settled n s past }))
 filled-open script past n s t legal at =
     if-agree _ _ _ _ (deliver-by (is_at_device_by n s t.buffer.0 past) (not (is_returned n s past)) (has_shutter n past) (is_some (shutter_time n past)) (is_sound script past n s) (is_passed t.fence past) (passed_in (homes past) t.fence) (each_earlier n (lets_pass past s) past) (each_before n (passes_in s) (rows script past))
-    (out-reads script past n s t legal at) (timed-is n past) (passed-is script past t.fence legal) (earlier-passes script past n s))
+    (out-reads script past n s t legal at) (timed-shutter n past) (passed-is script past t.fence legal) (earlier-passes script past n s))
 
 filled-closed : (script : Script) (past : List Entry) (n s : ℕ) (o : Option Sent) → IsLegal script past → target_of n s past ≡ o → is_open n past ≡ false → filled_of script past n s o ≡ None
 filled-closed script past n s None legal at closed = refl
@@ -257,7 +244,7 @@ early-open : (script : Script) (past : List Entry) (n s : ℕ) (t : Sent) → Is
 early-open script past n s t legal at =
     early-by n s t _ _ _ _
     (ap (λ b. script.early && b) (deliver-by (is_at_device_by n s t.buffer.0 past) (not (is_returned n s past)) (has_shutter n past) (is_some (shutter_time n past)) (is_sound script past n s) (is_passed t.fence past) (passed_in (homes past) t.fence) (each_earlier n (lets_pass past s) past) (each_before n (passes_in s) (rows script past))
-    (out-reads script past n s t legal at) (timed-is n past) (passed-is script past t.fence legal) (earlier-passes script past n s)))
+    (out-reads script past n s t legal at) (timed-shutter n past) (passed-is script past t.fence legal) (earlier-passes script past n s)))
     (earlies_are past)
 
 early-closed : (script : Script) (past : List Entry) (n s : ℕ) (o : Option Sent) → IsLegal script past → target_of n s past ≡ o → is_open n past ≡ false → early_of script past n s o ≡ None

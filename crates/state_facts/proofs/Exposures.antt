@@ -20,7 +20,9 @@ use Rattle.row_facts.specs.Rows.{Row, each_before, row, rows}
 use Rattle.row_facts.proofs.Readings.{earlier_is}
 use Rattle.state_facts.specs.States.{state}
 use Rattle.state_facts.specs.Dues.{error_device_in, may_expose_in, next_in, shutter_in, shutter_with}
-use Rattle.state_facts.proofs.Dues.{closed-is, if-agree, timed-is}
+use Rattle.past_facts.proofs.Done.{closed-is}
+use Rattle.past_facts.proofs.Times.{timed-shutter}
+use Rattle.state_facts.proofs.Dues.{if-agree}
 use Rattle.basic_lemmas.proofs.Tests.{and-false}
 
 -- ---- lists
@@ -64,7 +66,7 @@ earlier-exposed : (script : Script) (past : List Entry) (n : ℕ) → IsLegal sc
 earlier-exposed script past n legal =
     earlier_is script past n (λ m. has_shutter m past || has_error_request m past) (λ q. is_some q.time || q.request_failed)
     (λ m sent closed. closed-exposed script past m legal sent closed)
-    (λ m. ap (λ b. b || has_error_request m past) (timed-is m past))
+    (λ m. ap (λ b. b || has_error_request m past) (timed-shutter m past))
 
 -- ---- what is next for the sensor
 
@@ -72,7 +74,7 @@ next-by : (a b b' c d d' : Bool) → a ≡ true → b ≡ b' → d ≡ d' → ((
 next-by a b b' c d d' x y z = rw (x, y, z) refl
 
 pub next-is : (script : Script) (past : List Entry) (n : ℕ) → IsLegal script past → is_sent n past ≡ true → is_next_for_sensor n past ≡ next_in (state script past) (row script past n)
-next-is script past n legal sent = next-by (is_sent n past) (has_shutter n past) (is_some (shutter_time n past)) (has_error n past) _ _ sent (timed-is n past) (earlier-exposed script past n legal)
+next-is script past n legal sent = next-by (is_sent n past) (has_shutter n past) (is_some (shutter_time n past)) (has_error n past) _ _ sent (timed-shutter n past) (earlier-exposed script past n legal)
 
 not-next : (a b c d e : Bool) → (b || e) ≡ true → (e ≡ true → c ≡ true) → ((a && (not b && not c)) && d) ≡ false
 not-next true true c d e h k = refl

@@ -1,6 +1,6 @@
 -- Each number of the state of a legal run of a valid script fits its type.
-use Rattle.std.proofs.Common.{◌≡◌, ℕ, ◌==◌, ◌+◌, ◌^◌, ◌%◌, ◌<◌, ◌≤◌, Bool, true, false, ◌&&◌, not, List, [], ◌∷◌, ◌++◌, Option, Some, None, refl, sym, arith, inl, inr, filter, find, length, map, nat_le, nat_lt, slice_get, append-nil, if◌then◌else◌}
-use Rattle.std.specs.List.{list_all, list_any, range_with_len}
+use Rattle.std.proofs.Common.{◌≡◌, ℕ, ◌==◌, ◌+◌, ◌^◌, ◌%◌, ◌<◌, ◌≤◌, Bool, true, ◌&&◌, not, List, [], ◌∷◌, Option, Some, None, refl, arith, inl, inr, filter, find, length, map, nat_le, nat_lt, append-nil}
+use Rattle.std.specs.List.{list_all}
 use Rattle.std.proofs.Math.Nat.{mod-le}
 use Rattle.std.proofs.lemmas.Bool.{and_from, and_parts, cases_Bool, eqb-true}
 use Rattle.std.proofs.lemmas.Bool.Decides.{nat_tests}
@@ -10,14 +10,13 @@ use Rattle.cam_types.specs.Script.{command_fits, is_valid}
 use Rattle.cam_types.specs.declared.item.Item.{Item}
 use Rattle.cam_types.specs.declared.number.RequestId.{RequestId}
 use Rattle.cam_types.specs.declared.reply.Reply.TheVariants.{Submitted}
-use Rattle.cam_types.specs.declared.request.WaitingItem.{WaitingItem}
 use Rattle.cam_types.specs.declared.script.Command.{Command}
 use Rattle.cam_types.specs.declared.script.Script.{Script}
 use Rattle.cam_types.specs.Requests.{Repeating}
 use Rattle.trace_model.specs.declared.entry.Entry.{Entry}
 use Rattle.trace_model.specs.declared.entry.Entry.TheVariants.{Call, Send, Shutter, Partial, Failed, Release, Early}
 use Rattle.trace_model.specs.declared.entry.Sent.{Sent}
-use Rattle.trace_model.specs.Calls.{command_at, is_repeating, request_count}
+use Rattle.trace_model.specs.Calls.{command_at, is_repeating}
 use Rattle.trace_model.specs.Client.{before_begin, done_since_begin}
 use Rattle.trace_model.specs.Entry.{is_numbering, is_partial, names, sends, sends_for}
 use Rattle.trace_model.specs.Fence.{early_fence_after, early_fence_of, fence_after, fence_of}
@@ -38,7 +37,7 @@ use Rattle.trace_bounds.proofs.Calls.{calls_bounded, requests_bounded}
 use Rattle.trace_bounds.proofs.EarlyLemmas.{earlies_bounded}
 use Rattle.trace_bounds.proofs.FenceLemmas.{fences_bounded}
 use Rattle.trace_bounds.proofs.FrameLemmas.{frames_bounded, sends_bounded}
-use Rattle.trace_bounds.proofs.NextFits.{all-kept, at-all, request-small}
+use Rattle.trace_bounds.proofs.NextFits.{all-kept, at-all}
 use Rattle.trace_bounds.proofs.Printing.{prints_all}
 use Rattle.trace_bounds.proofs.RepeatLemmas.{repeating-stands}
 use Rattle.trace_bounds.proofs.StreamLemmas.{few-made, low-fits, made-all-low}

@@ -33,8 +33,9 @@ use Rattle.row_facts.specs.Rows.{Row, find_row, finishes_in, row, rows, sent_set
 use Rattle.row_facts.specs.Rows as frame
 use Rattle.row_facts.proofs.Readings.{finishes_is, found_is}
 use Rattle.row_facts.proofs.Steps.{noted_is as rows_are}
-use Rattle.state_facts.specs.States.{State, clock_after, last_after, noted, repeats_next, settings_next, settings_row, state}
-use Rattle.state_facts.proofs.Items.{IsNext, is-next}
+use Rattle.queue_facts.specs.Turns.{repeats_next, settings_next}
+use Rattle.state_facts.specs.States.{State, clock_after, last_after, noted, settings_row, state}
+use Rattle.queue_facts.proofs.Items.{IsNext, is-next}
 
 -- ---- what the next item says of a send
 

@@ -19,7 +19,7 @@ use Rattle.cam_types.specs.declared.request.Queued.{Queued}
 use Rattle.cam_types.specs.declared.request.WaitingItem.{WaitingItem}
 use Rattle.trace_model.specs.Send.{are_last, are_streams, is_same_bool, last_settings, targets_in_order, with_target}
 use Rattle.trace_model.specs.Shutter.{next_time}
-use Rattle.queue_facts.specs.Turns.{Turns, next_of, turns}
+use Rattle.queue_facts.specs.Turns.{Turns, next_of, repeats_next, settings_next, turns}
 use Rattle.queue_facts.specs.Turns as queue
 use Rattle.buffer_facts.specs.Homes.{Homes, at_device_in, fence_in, homes, least_in, place_in, stream_in}
 use Rattle.buffer_facts.specs.Homes as buffers
@@ -51,16 +51,6 @@ state script past = record {
   last = last_settings script past;
   clock = next_time script past;
 }
-
--- the settings of the next item
-abbrev pub settings_next : Option Queued → Settings
-settings_next (Some w) = w.item.settings
-settings_next None = no_settings
-
--- the next item is of the list that repeats
-abbrev pub repeats_next : Option Queued → Bool
-repeats_next (Some w) = w.repeating
-repeats_next None = false
 
 -- the settings of a row
 abbrev pub settings_row : Option Row → Settings
