@@ -19,7 +19,7 @@ use Rattle.hal_model.specs.declared.event.HalEvent.TheVariants.{OpenBegin, OpenO
 use Rattle.trace_model.specs.declared.entry.Entry.TheVariants.{Begin, Call, Send}
 use Rattle.trace_hal.specs.Hal.{callback, called, events, flush_begun, hal, whole_log}
 use Rattle.hal_laws.proofs.Keep.{begun-other, callback_back, called-other, is_other, none_passes}
-use Rattle.hal_laws.specs.Keeping.{KeepsHeader, KeepsTheRest, LeavesNothing, ReportsNothing, is_of_failure}
+use Rattle.hal_laws.specs.Keeping.{KeepsHeader, KeepsStrictly, KeepsTheRest, LeavesNothing, ReportsNothing, is_of_failure, is_unkept}
 use Rattle.hal_laws.proofs.Alone.{acquire_fence_kept, empty_result_kept, error_beside_kept, metadata_failed_kept, metadata_order_kept, partial_number_kept, partial_twice_kept, request_error_kept, shutter_failed_kept, shutter_twice_kept}
 use Rattle.hal_laws.proofs.Asked.{no_max_buffers_kept}
 use Rattle.hal_laws.proofs.Back.{buffer_order_kept, buffer_status_kept, error_for_good_kept, error_twice_kept, error_unknown_kept, good_after_error_kept, none-idle, not_at_device_kept, release_fence_kept, unknown_frame_kept}
@@ -29,7 +29,7 @@ use Rattle.hal_laws.proofs.Crowding.{too_many_buffers_kept}
 use Rattle.hal_laws.proofs.Ending.{accepted_before_init_kept, accepted_dead_kept, accepted_init_twice_kept, accepted_no_output_kept, accepted_two_inputs_kept, failed_without_notice_kept, no_configuration_kept, no_output_kept, no_shutter_kept, overlapping_calls_kept, two_inputs_kept, ends-once}
 use Rattle.hal_laws.proofs.Resting.{none-outstanding}
 
-each_in_session : (script : Script) (past : List Entry) → is_valid script ≡ true → IsLegal script past → (rule : Rule) → is_strict rule ≡ false → (is_of_failure rule ≡ true → has_failed past ≡ false) → keeps_in_session 3 (hal script past) rule ≡ true
+each_in_session : (script : Script) (past : List Entry) → is_valid script ≡ true → IsLegal script past → (rule : Rule) → is_unkept rule ≡ false → (is_of_failure rule ≡ true → has_failed past ≡ false) → keeps_in_session 3 (hal script past) rule ≡ true
 each_in_session script past valid legal InitOrder plain sound = init_order_kept script past legal
 each_in_session script past valid legal InitTwice plain sound = init_twice_kept script past legal
 each_in_session script past valid legal NoConfiguration plain sound = no_configuration_kept script past legal
@@ -196,7 +196,7 @@ agrees script (Call i w r ∷ past) rule = agrees-append rule (called script pas
 agrees script (Send n r i same targets ∷ past) rule = agrees-append rule (events script past (Send n r i same targets)) (hal script past) refl (agrees script past rule)
 agrees script (e ∷ past) rule = agrees-append rule (option_to_list (callback e)) (hal script past) (now_opened e (callback e) refl) (agrees script past rule)
 
-pub each-kept : (script : Script) (past : List Entry) → is_valid script ≡ true → IsLegal script past → (rule : Rule) → is_strict rule ≡ false → (is_of_failure rule ≡ true → has_failed past ≡ false) → keeps 3 (whole_log script past) rule ≡ true
+pub each-kept : (script : Script) (past : List Entry) → is_valid script ≡ true → IsLegal script past → (rule : Rule) → is_unkept rule ≡ false → (is_of_failure rule ≡ true → has_failed past ≡ false) → keeps 3 (whole_log script past) rule ≡ true
 each-kept script past valid legal rule plain sound = (agrees script past rule).1 (none-idle script past legal, ends-once script past legal) (each_in_session script past valid legal rule plain sound)
 
 -- ---- so the report is empty
@@ -204,7 +204,14 @@ each-kept script past valid legal rule plain sound = (agrees script past rule).1
 pub keeps_header : (script : Script) (past : List Entry) → KeepsHeader script past
 keeps_header script past valid legal sound =
     all-where (λ rule. not (is_strict rule)) (keeps 3 (whole_log script past)) plain_rules
-    (λ rule plain. each-kept script past valid legal rule (not-true (is_strict rule) plain) (λ _. sound)) refl
+    (λ rule plain. each-kept script past valid legal rule (not-strict rule plain) (λ _. sound)) refl
+  where
+    not-strict : (rule : Rule) → not (is_strict rule) ≡ true → is_unkept rule ≡ false
+    not-strict FailedBufferOrder h = absurd (false≢true h)
+    not-strict _ h = refl
+
+pub keeps_strictly : (script : Script) (past : List Entry) → KeepsStrictly script past
+keeps_strictly script past valid legal sound rule plain = each-kept script past valid legal rule plain (λ _. sound)
 
 pub keeps_the_rest : (script : Script) (past : List Entry) → KeepsTheRest script past
 keeps_the_rest script past valid legal rule plain other = each-kept script past valid legal rule plain (λ is. absurd (false≢true (sym other ∙ is)))

@@ -3,7 +3,8 @@ ghost use Rattle.std.specs.Prelude.{◌≡◌, ◌==◌, map, IsTrue};
 ghost use Rattle.std.specs.List.{list_all};
 ghost use Rattle.cam_types.specs.Four.{four_list};
 ghost use Rattle.trace_model.specs.Laws.{ends_metadata};
-ghost use Rattle.row_facts.specs.Rows.{all_back, new_row, note_parts, note_row, note_time, row_open};
+ghost use Rattle.past_facts.specs.Times.{note_parts, note_time};
+ghost use Rattle.row_facts.specs.Rows.{all_back, new_row, note_row, row_open};
 ghost use Rattle.judge_rows.specs.Views.{is_free, row_of, slots_of};
 
 use crate::slot::{OpenSlot, are_back, are_back_after, new_slots, note_slots};
