@@ -3,7 +3,6 @@ use arbiter_text::{line_text, read};
 use camera_arbiter::arbitrate;
 use line_reading::TextRefused;
 use std::alloc::Global;
-use std::process::Abort;
 use std::test::Fail;
 
 /// Texts, with the line and the number of the cause for which each is refused.
@@ -65,40 +64,33 @@ const LOGS: &[(&str, &str)] = &[
 ];
 
 /// The line of the refusal and the number of its cause, or none where the text is read.
-fn refusal(alloc: Global, text: &str) -> Option<(u32, u8)> {
-    match read(alloc, text.as_bytes()) {
+fn refusal(alloc: Global, text: &[u8]) -> Option<(u32, u8)> {
+    match read(alloc, text) {
         Ok(_) => None,
         Err(TextRefused::Bad { line, cause }) => Some((line, cause.number())),
         Err(TextRefused::NoMemory) => Some((0, 0)),
     }
 }
 
-fn refuses_by_the_first_line_with_a_cause(rt: &impl Abort, alloc: Global) -> Result<(), Fail> {
-    for &(text, line, cause) in REFUSED {
-        assert_eq!(rt; refusal(alloc, text), Some((line, cause)), "{text:?}");
+#[test]
+fn clients_are_read_and_answered(rt: HostRuntime) -> Result<(), Fail> {
+    let alloc = rt.alloc();
+    for (text, line, cause) in REFUSED {
+        let refused = refusal(alloc, text.as_bytes());
+        assert_eq!(rt; refused, Some((*line, *cause)), "{text:?}");
     }
     // 128 lines are read, and one more isn't; a bad number in it is told first.
-    for (last, refused) in [
-        ("", None),
-        ("leave 0", Some((131, 37))),
-        ("leave 16", Some((131, 34))),
-    ] {
-        let mut long = String::new(alloc);
-        long.push_str("arbiter 1\ncameras 1\n")?;
-        for _ in 0..128 {
-            long.push_str("leave 0\n")?;
-        }
-        long.push_str(last)?;
-        assert_eq!(rt; refusal(alloc, long.as_str()), refused, "{last:?}");
+    let mut long = b"arbiter 1\ncameras 1\n".to_vec(alloc)?;
+    for _ in 0..128 {
+        long.extend_from_slice(b"leave 0\n")?;
     }
-    Ok(())
-}
-
-fn texts_have_their_logs(rt: &impl Abort, alloc: Global) -> Result<(), Fail> {
-    for &(text, wanted) in LOGS {
-        let Ok(read) = read(alloc, text.as_bytes()) else {
-            return Err("refused".into());
-        };
+    assert_eq!(rt; refusal(alloc, long.as_slice()), None);
+    long.extend_from_slice(b"leave 0")?;
+    assert_eq!(rt; refusal(alloc, long.as_slice()), Some((131, 37)));
+    long.extend_from_slice(b"16")?;
+    assert_eq!(rt; refusal(alloc, long.as_slice()), Some((131, 34)));
+    for (text, wanted) in LOGS {
+        let read = read(alloc, text.as_bytes())?;
         let arbiter = arbitrate(alloc, read.cameras, read.lines.as_slice())?;
         let mut log = Vec::new(alloc);
         for line in arbiter.log() {
@@ -106,12 +98,5 @@ fn texts_have_their_logs(rt: &impl Abort, alloc: Global) -> Result<(), Fail> {
         }
         assert_eq!(rt; log.as_slice(), wanted.as_bytes(), "{text:?}");
     }
-    Ok(())
-}
-
-#[test]
-fn clients_are_read_and_answered(rt: HostRuntime) -> Result<(), Fail> {
-    refuses_by_the_first_line_with_a_cause(&rt, rt.alloc())?;
-    texts_have_their_logs(&rt, rt.alloc())?;
     Ok(())
 }
