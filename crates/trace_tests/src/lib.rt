@@ -1,15 +1,7 @@
-//! Traces and metadata as texts and bytes, and the ends that they are read from and written to.
+//! Metadata as bytes, and ends of `std` whose calls fail.
 #![tactic(auto)]
 
 #[cfg(test)]
 mod ends;
 #[cfg(test)]
-mod lines;
-#[cfg(test)]
-mod packed_lists;
-#[cfg(test)]
-mod packed_parts;
-#[cfg(test)]
-mod traces;
-#[cfg(test)]
-mod written;
+mod packed;
