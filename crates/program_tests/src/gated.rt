@@ -55,12 +55,12 @@ impl Gate for HoldsTheFirst {
 }
 
 /// Does what the words ask for, over ends in memory, and gives the status and what was written.
-fn answer<R: Threads + Wait + Clock + Sync, G: Gate + Sync>(
+fn answer<R: Threads + Wait + Clock + Sync>(
     rt: &R,
     alloc: Global,
     words: &[&str],
     input: &[u8],
-    gate: &G,
+    gate: &HoldsTheFirst,
 ) -> Result<(u8, Vec<u8>), AllocError> {
     let mut source = MemSource::new(input.to_vec(alloc)?, 4_096, Vec::new(alloc));
     let mut sink = MemSink::new(alloc, 20_000, 4_096, Vec::new(alloc))?;
@@ -94,7 +94,7 @@ fn a_held_fill_is_passed_by_others(rt: HostRuntime) -> Result<(), Fail> {
 
     let mut judged = RAW_AND_FIVE.to_vec(alloc)?;
     judged.extend_from_slice(trace.as_slice())?;
-    let (status, verdict) = answer(&rt, alloc, &["check"], judged.as_slice(), &OpenGate)?;
+    let (status, verdict) = answer(&rt, alloc, &["check"], judged.as_slice(), &gate)?;
     assert_eq!(rt; (status, verdict.as_slice()), (0, b"legal\n".as_slice()));
     Ok(())
 }
