@@ -1,9 +1,5 @@
-//! Threads: turns that lose nothing, workers that make legal runs, a run that goes on behind its root.
+//! Threads who take turns, of which none is lost.
 #![tactic(auto)]
 
 #[cfg(test)]
-mod ends;
-#[cfg(test)]
 mod tallies;
-#[cfg(test)]
-mod workers;
