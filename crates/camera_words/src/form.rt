@@ -11,7 +11,8 @@ const WORKER_LIMIT: u64 = 8;
 /// The most commands of a script that is made.
 const COUNT_LIMIT: u64 = 200;
 
-/// What the words ask for: `play`, `run --workers N`, `check`, `gen SEED COUNT`, `convert`, `auto`, `reprocess` or `help`.
+/// What the words ask for: `play`, `run --workers N`, `check`, `gen SEED COUNT`, `convert`, `arbiter`, `auto`,
+/// `reprocess` or `help`.
 #[derive(Clone, Copy, Debug, PartialEq, Eq)]
 pub enum Form {
     Play,
@@ -19,6 +20,7 @@ pub enum Form {
     Check,
     Gen { seed: u64, count: u32 },
     Convert,
+    Arbiter,
     Auto,
     Reprocess,
     Help,
@@ -33,6 +35,7 @@ fn alone(word: &str) -> Option<Form>
         "play" => Some(Form::Play),
         "check" => Some(Form::Check),
         "convert" => Some(Form::Convert),
+        "arbiter" => Some(Form::Arbiter),
         "auto" => Some(Form::Auto),
         "reprocess" => Some(Form::Reprocess),
         "help" => Some(Form::Help),

@@ -1,0 +1,29 @@
+-- What `arbiter` tells of an input.
+use Rattle.std.proofs.Common.{◌≡◌, ℕ, ◌<◌, true, List, Option, Some, None, Ok, Err, refl, arith, inl, inr, length, nat_lt, IfSome}
+use Rattle.std.proofs.lemmas.Bool.Decides.{nat_tests}
+use Rattle.io_edge.specs.States.{SinkState}
+use Rattle.line_reading.specs.declared.cause.Cause.{Cause}
+use Rattle.line_reading.specs.declared.cause.Cause.TheVariants.{Limit}
+use Rattle.line_reading.specs.declared.cause.TextRefused.TheVariants.{Bad}
+use Rattle.arbiter_text.specs.Grammar.{arbiter_text_of}
+use Rattle.arbiter_text.specs.Spelling.{refused_text}
+use Rattle.arbiter_text.specs.declared.text.ArbiterText.{ArbiterText}
+use Rattle.call_status.specs.Answers.{Answers, AnswersWithMemory, Tells, TellsBy}
+use Rattle.arbiter_call.specs.Arbitrates.{Arbitrates, ArbitratesText, IsArbitratedText}
+
+-- a text that is too long is refused as such
+too-long : (input : List ℕ) → 65536 < length input → arbiter_text_of input ≡ Err (Bad 0 Limit)
+unfolding arbiter_text_of
+too-long input l = let more : nat_lt 65536 (length input) ≡ true = grind (arith, nat_tests) in rw more refl
+
+pub refused : (line : ℕ) (cause : Cause) (status : ℕ) (before after : SinkState) → AnswersWithMemory 1 (refused_text line cause) status before after → TellsBy (ArbitratesText (Err (Bad line cause))) status before after
+refused line cause status before after (inl h) = inl h
+refused line cause status before after (inr h) = inr (1, refused_text line cause, (refl, refl), h)
+
+pub long_refused : (left : Option (List ℕ)) (status : ℕ) (before after : SinkState) → IfSome left (λ all. 65536 < length all) → AnswersWithMemory 1 (refused_text 0 Limit) status before after → Tells Arbitrates left status before after
+long_refused None status before after l h = tt
+long_refused (Some input) status before after l h = rw (too-long input l) (inr (refused 0 Limit status before after h))
+
+-- the log is told
+pub answered : (text : ArbiterText) (told : List ℕ) (status : ℕ) (before after : SinkState) → IsArbitratedText text told → Answers 0 told status before after → TellsBy (ArbitratesText (Ok text)) status before after
+answered text told status before after is h = inr (0, told, (refl, is), h)
