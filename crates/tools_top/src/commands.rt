@@ -1,0 +1,80 @@
+//! What the words ask for.
+ghost use Rattle.std.specs.Prelude.{◌≡◌, ◌≤◌, true, false, is_some, Bool, IfSome, Option};
+ghost use Rattle.std.specs.Io.KnownBytes.{IsAtEnd};
+ghost use Rattle.io_edge.specs.Faults.{Rose};
+ghost use Rattle.io_edge.specs.States.{Writes, WritesNothing};
+ghost use Rattle.call_status.specs.Answers.{Answers, Untouched};
+ghost use Rattle.hal_calls.specs.Judging.{IsKeptLog};
+ghost use Rattle.hal_calls.specs.Telling.{IsToldLog};
+ghost use Rattle.tools_top.specs.Commands.{TellsOfTool};
+ghost use Rattle.tools_top.specs.Help.{help_text, usage_line};
+ghost use Rattle.tools_top.specs.Words.{reads};
+ghost use Rattle.tools_words.specs.Tools.{tool_of};
+
+use call_status::{Status, answer};
+use hal_calls::{hal_call, hal_of_call};
+use io_edge::{Sink, Source};
+use std::alloc::Global;
+use tools_words::{Tool, tool_of};
+
+/// The line of words that ask for no tool.
+const USAGE_LINE: &[u8] = b"usage: camera hal --plain [--strict] | hal-of | help\n";
+
+/// What `help` writes: what the program does, and the usage line.
+const HELP_TEXT: &[u8] =
+    b"camera: judges and writes logs of the camera3.h boundary\nusage: camera hal --plain [--strict] | hal-of | help\n";
+
+/// Runs the tool that the words ask for.
+pub fn tools_main<S: Source, K: Sink>(
+    alloc: Global,
+    words: &[&str],
+    source: &mut S,
+    sink: &mut K,
+) -> Status
+    // The status and the text are those that belong to the tool that the words ask for, and to the input's meaning.
+    ensures tells { TellsOfTool (tool_of words.now) (S.left source.old) result.number (K.state sink.old)
+        (K.state sink.new) }
+    ensures usage_only { result.number ≡ 2 → tool_of words.now ≡ Option.None }
+
+    // Status 0: the help text; or the source was read to its end, and the log that was read breaks no rule; or the hal
+    // log of the legal trace that was read was written.
+    ensures help_done { tool_of words.now ≡ Option.Some Tool.Help → result.number ≡ 0
+        → Writes (K.state sink.old) (K.state sink.new) help_text }
+    ensures hal_done { (strict : Bool) → tool_of words.now ≡ Option.Some (Tool.Hal strict) → result.number ≡ 0
+        → IsAtEnd (S.left source.new)
+        × IfSome (S.left source.old) (λ input. IsKeptLog strict input (K.state sink.old) (K.state sink.new)) }
+    ensures hal_of_done { tool_of words.now ≡ Option.Some Tool.HalOf → result.number ≡ 0
+        → IsAtEnd (S.left source.new)
+        × IfSome (S.left source.old) (λ input. IsToldLog input (K.state sink.old) (K.state sink.new)) }
+    ensures done_tool { result.number ≡ 0 → is_some (tool_of words.now) ≡ true }
+
+    // Other words read nothing.
+    ensures unread { reads (tool_of words.now) ≡ false → S.left source.new ≡ S.left source.old }
+    ensures source_failed { result.number ≡ 3 → Rose (S.faults source.old) (S.faults source.new)
+        × WritesNothing (K.state sink.old) (K.state sink.new) }
+    ensures sink_failed { result.number ≡ 4 → Rose (K.state sink.old).faults (K.state sink.new).faults }
+    ensures no_memory { result.number ≡ 5 → (S.faults source.new ≡ S.faults source.old)
+        × Untouched (K.state sink.old) (K.state sink.new) }
+    ensures known { result.number ≤ 5 }
+{
+    match tool_of(words) {
+        Some(Tool::Hal { strict }) => hal_call(alloc, source, sink, strict),
+        Some(Tool::HalOf) => hal_of_call(alloc, source, sink),
+        Some(Tool::Help) => help_call(sink),
+        None => usage(sink),
+    }
+}
+
+/// Writes the usage line.
+fn usage<K: Sink>(sink: &mut K) -> Status
+    ensures { Answers 2 usage_line result.number (K.state sink.old) (K.state sink.new) }
+{
+    answer(sink, USAGE_LINE, Status::USAGE)
+}
+
+/// Writes what the program does, and the usage line. It takes no memory.
+pub fn help_call<K: Sink>(sink: &mut K) -> Status
+    ensures { Answers 0 help_text result.number (K.state sink.old) (K.state sink.new) }
+{
+    answer(sink, HELP_TEXT, Status::DONE)
+}
