@@ -7,13 +7,13 @@ ghost use Rattle.play_calls.specs.Says.{PlaysAs, PlaysBehind};
 ghost use Rattle.run_output.specs.Texts.{named_profile, text_in};
 
 use call_status::Status;
-use cam_types::{NoMemory, STREAM_LIMIT, Script};
+use cam_types::{NoMemory, Script};
 use digest_memory::DigestMemory;
 use io_edge::{Sink, write_all};
 use job_hands::Hands;
 use job_moves::no_job_is_out_at_first;
 use run_output::{Output, named_profile, write_run};
-use script_bounds::frame_bound;
+use script_bounds::early_bound;
 use service_core::Service;
 use settle::{close, play};
 use std::alloc::Global;
@@ -58,7 +58,8 @@ pub fn prepare(alloc: Global, script: Script) -> Result<Prepared, NoMemory>
     requires { IsTrue (is_valid script) }
     ensures { IfOk result (λ prepared. prepared ≡ script) }
 {
-    let digests = DigestMemory::with_room(alloc, picture_bound(&script))?;
+    // No run of the script fills more buffers than may come back early.
+    let digests = DigestMemory::with_room(alloc, early_bound(&script) as usize)?;
     let writer = TraceWriter::new(alloc, named_profile(&script))?;
     let service = Service::open(alloc, script)?;
     Ok(Prepared {
@@ -66,13 +67,6 @@ pub fn prepare(alloc: Global, script: Script) -> Result<Prepared, NoMemory>
         hands: Hands::with_memory(digests),
         writer,
     })
-}
-
-/// No run of the script fills more pictures: one for each stream of a frame.
-fn picture_bound(script: &Script) -> usize
-    requires { IsTrue (is_valid script.now) }
-{
-    STREAM_LIMIT as usize * frame_bound(script) as usize
 }
 
 /// Plays the run, and writes its trace or its summary. It takes no memory: the status is 0, or 4 where the sink failed.
