@@ -10,7 +10,7 @@ use Rattle.fill_jobs.specs.Buffers.{IsFillOf, IsFilledOf}
 use Rattle.sha2.specs.Sha256.{sha256}
 
 -- what is drawn of the frame's readout is the frame's picture
-drawn-is : (spec : StreamSpec) (settings : Settings) (n : ℕ) (values : List ℕ) → values ≡ readout settings n → picture_of spec.format spec.width spec.height values ≡ picture spec settings n
+pub drawn-is : (spec : StreamSpec) (settings : Settings) (n : ℕ) (values : List ℕ) → values ≡ readout settings n → picture_of spec.format spec.width spec.height values ≡ picture spec settings n
 drawn-is spec settings n values is =
     ap (λ (v : List ℕ). picture_of spec.format spec.width spec.height v) is ∙ sym (picture-of-readout spec settings n)
 
