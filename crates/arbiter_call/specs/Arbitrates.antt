@@ -11,7 +11,7 @@ use Rattle.arbiter_text.specs.Spelling.{first_line, last_line, line_of, refused_
 use Rattle.arbiter_text.specs.declared.text.ArbiterText.{ArbiterText}
 use Rattle.line_reading.specs.declared.cause.TextRefused.{TextRefused}
 use Rattle.line_reading.specs.declared.cause.TextRefused.TheVariants.{Bad, NoMemory}
-use Rattle.run_laws.specs.Lawful as run
+use Rattle.run_laws.specs.Lawful as run_laws
 use Rattle.run_model.specs.History.{trace_of}
 use Rattle.run_model.specs.Played.{IsPlayedRun}
 use Rattle.run_model.specs.declared.step.Move.{Move}
@@ -22,7 +22,7 @@ use Rattle.run_output.specs.declared.output.Output.TheVariants.{Summary}
 pub record IsSummary (script : Script) (told : List ℕ) : Type 0 where
   pub history : List Move
   pub run : IsPlayedRun script history
-  pub lawful : run.KeepsLaws script (trace_of history)
+  pub lawful : run_laws.KeepsLaws script (trace_of history)
   pub shown : told ≡ text_in Summary script history
 
 -- some such bytes were appended
