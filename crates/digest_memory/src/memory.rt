@@ -1,20 +1,18 @@
 //! The memory of digests.
-ghost use Rattle.std.specs.Prelude.{◌≡◌, ◌+◌, ◌≤◌, None, IfOk, IfSome, IsTrue, length};
+ghost use Rattle.std.specs.Prelude.{◌≡◌, ◌+◌, ◌≤◌, IfOk, IfSome, IsTrue};
 ghost use Rattle.std.specs.List.{All};
-ghost use Rattle.cam_types.specs.Metadata.{range_fault};
 ghost use Rattle.cam_types.specs.Picture.{is_offered, picture};
 ghost use Rattle.sha2.specs.Sha256.{sha256};
 ghost use Rattle.digest_memory.specs.Keys.{picture_by};
 ghost use Rattle.digest_memory.specs.Told.{IsTold};
 
 use crate::key::{PictureKey, is_same_key, key_of};
+use crate::places::Places;
 use cam_types::{FrameNo, NoMemory, Settings, StreamSpec};
-use picture_digest::Canvas;
 use std::alloc::Global;
-use std::collections::HashMap;
 use std::marker::Model;
 
-/// How many digests are remembered at most. Further pictures are drawn again each time.
+/// How many digests are remembered at most. Further pictures are hashed again each time.
 pub const REMEMBERED_LIMIT: usize = 16_384;
 
 /// A picture's key, and its digest.
@@ -24,14 +22,11 @@ pub(crate) struct Told {
     pub(crate) digest: [u8; 32],
 }
 
-/// Digests of pictures, and what further ones are drawn with. A contract sees how many digests it remembers.
+/// Digests of pictures, in room that was taken at once. A contract sees how many digests it remembers.
 #[derive(Drop)]
 pub struct DigestMemory {
-    canvas: Canvas,
     told: Vec<Told>,
-    /// Where the digest of a picture stands among those that were told. A place is only a hint, since the key stands
-    /// there too.
-    places: HashMap<PictureKey, u32>,
+    places: Places,
 }
 
 impl Model for DigestMemory {
@@ -46,14 +41,15 @@ impl Model for DigestMemory {
 }
 
 impl DigestMemory {
-    /// Nothing is remembered. The memory that it takes is room for a readout and one picture.
-    pub fn new(alloc: Global) -> Result<DigestMemory, NoMemory>
+    /// Nothing is remembered, and there is room for so many digests, or for `REMEMBERED_LIMIT` where more are asked for.
+    /// All memory that it ever has is taken here.
+    pub fn with_room(alloc: Global, digests: usize) -> Result<DigestMemory, NoMemory>
         ensures { IfOk result (λ m. m ≡ 0) }
     {
+        let room = digests.min(REMEMBERED_LIMIT);
         Ok(DigestMemory {
-            canvas: Canvas::new(alloc)?,
-            told: Vec::new(alloc),
-            places: HashMap::new(alloc),
+            told: Vec::with_capacity(alloc, room)?,
+            places: Places::with_room(alloc, room)?,
         })
     }
 
@@ -65,89 +61,48 @@ impl DigestMemory {
         self.told.len()
     }
 
-    /// The SHA-256 of the frame's picture for a stream whose format and size are offered, with the memory, which may
-    /// remember it then: it is drawn where it isn't remembered.
-    pub fn digest(
-        self,
+    /// The SHA-256 of the frame's picture for a stream whose format and size are offered, where it is remembered.
+    pub fn find(&self, spec: StreamSpec, settings: Settings, frame: FrameNo) -> Option<[u8; 32]>
+        requires offered { IsTrue (is_offered spec) }
+        ensures { IfSome result (λ digest. digest ≡ sha256 (picture spec settings frame.0)) }
+    {
+        let key = key_of(spec, settings, frame);
+        find_in(self.told.as_slice(), self.places.hints_of(key), key)
+    }
+
+    /// Remembers the SHA-256 of the frame's picture, where there is room for it. It takes no memory.
+    pub fn remember(
+        &mut self,
         spec: StreamSpec,
         settings: Settings,
         frame: FrameNo,
-    ) -> ([u8; 32], DigestMemory)
-        requires settings { range_fault settings ≡ None }
+        digest: [u8; 32],
+    )
         requires offered { IsTrue (is_offered spec) }
-        ensures digest { result.0 ≡ sha256 (picture spec settings frame.0) }
-        ensures kept { self ≤ result.1 }
-        ensures more { result.1 ≤ self + 1 }
+        requires digest { digest ≡ sha256 (picture spec settings frame.0) }
+        ensures kept { self.old ≤ self.new }
+        ensures more { self.new ≤ self.old + 1 }
     {
-        let key = key_of(spec, settings, frame);
-        let DigestMemory {
-            canvas,
-            told,
-            places,
-        } = self;
-        match find(&told, &places, key) {
-            Some(digest) => (
-                digest,
-                DigestMemory {
-                    canvas,
-                    told,
-                    places,
-                },
-            ),
-            None => {
-                let (digest, canvas) = canvas.digest(spec, settings, FrameNo(key.turn));
-                let (told, places) = remember(told, places, Told { key, digest });
-                (
-                    digest,
-                    DigestMemory {
-                        canvas,
-                        told,
-                        places,
-                    },
-                )
-            }
+        let place = self.told.len();
+        if place >= self.told.capacity().min(REMEMBERED_LIMIT) {
+            return;
         }
+        let key = key_of(spec, settings, frame);
+        self.told.push_reserved(Told { key, digest });
+        self.places.put(key, place as u16);
     }
 }
 
-/// The digest of the key's picture, where it is remembered.
-fn find(told: &Vec<Told>, places: &HashMap<PictureKey, u32>, key: PictureKey) -> Option<[u8; 32]>
-    requires { All IsTold told.now.items }
+/// Finds a key's digest among those that are told, at one of the places that the hints give.
+fn find_in(told: &[Told], hints: &[u16], key: PictureKey) -> Option<[u8; 32]>
+    requires { All IsTold told.now }
     ensures { IfSome result (λ digest. digest ≡ sha256 (picture_by key)) }
 {
-    let place = places.get(&key)?;
-    let found = told.get(*place as usize)?;
-    if is_same_key(found.key, key) {
-        Some(found.digest)
-    } else {
-        None
-    }
-}
-
-/// Remembers a digest, where there is room for it.
-fn remember(
-    told: Vec<Told>,
-    places: HashMap<PictureKey, u32>,
-    more: Told,
-) -> (Vec<Told>, HashMap<PictureKey, u32>)
-    requires told { All IsTold told.items }
-    requires few { length told.items ≤ REMEMBERED_LIMIT }
-    requires more { IsTold more }
-    ensures told { All IsTold result.0.items }
-    ensures few { length result.0.items ≤ REMEMBERED_LIMIT }
-    ensures kept { length told.items ≤ length result.0.items }
-    ensures more { length result.0.items ≤ length told.items + 1 }
-{
-    let (mut told, mut places) = (told, places);
-    let place = told.len();
-    if place >= REMEMBERED_LIMIT {
-        return (told, places);
-    }
-    match told.push(more) {
-        Ok(()) => {
-            let _ = places.insert(more.key, place as u32);
-            (told, places)
+    for hint in hints {
+        let found = told.get(*hint as usize)?;
+        if is_same_key(found.key, key) {
+            return Some(found.digest);
         }
-        Err(_) => (told, places),
     }
+    None
 }

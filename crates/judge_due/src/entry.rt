@@ -14,9 +14,9 @@ use crate::filled::{Fill, is_filled_due, is_late_due};
 use crate::parts::partial_due;
 use crate::send::is_send_due;
 use cam_types::Script;
-use digest_memory::DigestMemory;
 use judge_rules::same;
 use judge_tables::JudgeTables;
+use picture_digest::PictureDigests;
 use trace_model::Entry;
 
 /// The drop that is due.
@@ -96,8 +96,8 @@ pub fn is_due(
     script: &Script,
     tables: &JudgeTables,
     entry: &Entry,
-    memory: DigestMemory,
-) -> (bool, DigestMemory)
+    memory: PictureDigests,
+) -> (bool, PictureDigests)
     requires profile { IsTrue (is_profile script.now.profile) }
     requires numbered { tables.now.state.buffers.first + (length tables.now.state.buffers.places + 72) < 2 ^ 32 }
     requires pictures { CanDraw tables.now.state }

@@ -12,9 +12,9 @@ use crate::buffers::may_deliver;
 use crate::pictures::is_its_digest;
 use crate::slots::{early_slot, slot_for};
 use cam_types::{BufferId, FenceNo, FrameNo, Script, StreamIx};
-use digest_memory::DigestMemory;
 use judge_rows::{OpenRow, OpenSlot, early_row, find_row};
 use judge_tables::JudgeTables;
+use picture_digest::PictureDigests;
 use trace_model::Entry;
 
 /// A buffer that came back with its picture, as its entry says.
@@ -55,8 +55,8 @@ fn is_filled_of(
     tables: &JudgeTables,
     fill: Fill,
     row: &OpenRow,
-    memory: DigestMemory,
-) -> (bool, DigestMemory)
+    memory: PictureDigests,
+) -> (bool, PictureDigests)
     requires offered { IsTrue (list_all is_offered tables.now.state.client.streams) }
     requires drawable { IsTrue (is_drawable row.now.settings) }
     ensures { IsTrue result.0 ↔
@@ -76,8 +76,8 @@ pub(crate) fn is_filled_due(
     script: &Script,
     tables: &JudgeTables,
     fill: Fill,
-    memory: DigestMemory,
-) -> (bool, DigestMemory)
+    memory: PictureDigests,
+) -> (bool, PictureDigests)
     requires { CanDraw tables.now.state }
     ensures { IsTrue result.0 ↔
         (filled_in script.now tables.now.state fill.stream.0 (find_row fill.frame.0 tables.now.state.rows) ≡
@@ -96,8 +96,8 @@ fn is_late_at(
     digest: [u8; 32],
     row: &OpenRow,
     slot: Option<OpenSlot>,
-    memory: DigestMemory,
-) -> (bool, DigestMemory)
+    memory: PictureDigests,
+) -> (bool, PictureDigests)
     requires offered { IsTrue (list_all is_offered tables.now.state.client.streams) }
     requires drawable { IsTrue (is_drawable row.now.settings) }
     ensures { IsTrue result.0 ↔
@@ -121,8 +121,8 @@ pub(crate) fn is_late_due(
     tables: &JudgeTables,
     fence: FenceNo,
     digest: [u8; 32],
-    memory: DigestMemory,
-) -> (bool, DigestMemory)
+    memory: PictureDigests,
+) -> (bool, PictureDigests)
     requires { CanDraw tables.now.state }
     ensures { IsTrue result.0 ↔
         (late_in tables.now.state fence.0 ≡ Option.Some (Entry.Late fence digest)) }

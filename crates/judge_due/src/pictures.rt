@@ -8,10 +8,10 @@ ghost use Rattle.trace_model.specs.Picture.{digest_on};
 ghost use Rattle.judge_due.specs.Drawing.{is_drawable};
 
 use cam_types::{Settings, StreamIx};
-use digest_memory::DigestMemory;
 use judge_rows::OpenRow;
 use judge_tables::JudgeTables;
 use meta_rules::range_fault;
+use picture_digest::PictureDigests;
 
 /// Settings of a frame of which no item is known: they give the dark picture, as settings of zeros would.
 const DARK: Settings = Settings {
@@ -47,8 +47,8 @@ pub(crate) fn is_its_digest(
     stream: StreamIx,
     row: &OpenRow,
     digest: [u8; 32],
-    memory: DigestMemory,
-) -> (bool, DigestMemory)
+    memory: PictureDigests,
+) -> (bool, PictureDigests)
     requires offered { IsTrue (list_all is_offered tables.now.state.client.streams) }
     requires drawable { IsTrue (is_drawable row.now.settings) }
     ensures { IsTrue result.0 ↔

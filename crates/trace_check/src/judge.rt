@@ -18,7 +18,7 @@ use trace_model::{Entry, TraceList};
 /// Judges a trace: whether it is a complete legal run of the script, else its first entry that isn't allowed, else the
 /// first part that it lacks. The profile that the trace names plays no part. Each entry is looked at once, where the
 /// script is valid: then the memory that it takes is room for one picture, the tables of the trace's state, and at most
-/// so many digests as `digest_memory` remembers, whatever the length of the trace. Of another script, which no text
+/// so many digests as `picture_digest` remembers, whatever the length of the trace. Of another script, which no text
 /// spells, it judges as `check_plain` does.
 pub fn check(alloc: Global, script: &Script, trace: &TraceList) -> Result<Verdict, NoMemory>
     ensures exact { IfOk result (λ verdict. IsVerdict script.now trace.now.entries verdict) }

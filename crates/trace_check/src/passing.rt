@@ -11,9 +11,9 @@ ghost use Rattle.trace_check.specs.Verdict.{IsVerdict, first_missing};
 use crate::rule::rule_of;
 use crate::verdict::{MissingPart, Verdict};
 use cam_types::{NoMemory, Script};
-use digest_memory::DigestMemory;
 use judge_due::is_due;
 use judge_tables::JudgeTables;
+use picture_digest::PictureDigests;
 use std::alloc::Global;
 use trace_bounds::every_script_is_typed;
 use trace_model::{Entry, TraceList};
@@ -24,8 +24,8 @@ fn is_allowed_by(
     entries: &[Entry],
     tables: &JudgeTables,
     entry: &Entry,
-    memory: DigestMemory,
-) -> (bool, DigestMemory)
+    memory: PictureDigests,
+) -> (bool, PictureDigests)
     requires valid { IsTrue (is_valid script.now) }
     requires profile { IsTrue (is_profile script.now.profile) }
     requires legal { IsLegal script.now (reverse entries.now) }
@@ -103,7 +103,7 @@ pub(crate) fn check_once(
     ensures { IfOk result (λ verdict. IsVerdict script.now trace.now.entries verdict) }
 {
     every_script_is_typed(script);
-    let mut memory = DigestMemory::new(alloc)?;
+    let mut memory = PictureDigests::with_room(alloc, trace.len() as usize)?;
     let mut tables = JudgeTables::new(alloc, script.commands.len())?;
     let entries = trace.as_slice();
     for position in 0..trace.len() {

@@ -1,6 +1,7 @@
 //! Worked digests, and which pictures are remembered: the ramp's by the frame modulo 256, the bars' by no frame.
 use cam_types::{Format, FrameNo, Settings, StreamSpec};
-use digest_memory::{DigestMemory, REMEMBERED_LIMIT};
+use digest_memory::REMEMBERED_LIMIT;
+use picture_digest::PictureDigests;
 use std::test::Fail;
 
 const RAW: StreamSpec = StreamSpec {
@@ -115,7 +116,7 @@ const PICTURES: &[(StreamSpec, Settings, u32, &str, usize)] = &[
 
 #[test]
 fn pictures_have_the_worked_digests(rt: HostRuntime) -> Result<(), Fail> {
-    let mut memory = DigestMemory::new(rt.alloc())?;
+    let mut memory = PictureDigests::with_room(rt.alloc(), PICTURES.len())?;
     for (spec, settings, frame, wanted, remembered) in PICTURES {
         let (digest, after) = memory.digest(*spec, *settings, FrameNo(*frame));
         memory = after;
