@@ -6,7 +6,7 @@ ghost use Rattle.auto_exposure.specs.Brightness.{at_step, luma_plane, mean};
 use cam_types::{BufferId, FrameNo, NoMemory, PixelBuf, Readout, Settings};
 use sensor_sim::{SensorJob, a_readout_lies_between_dark_and_full};
 use std::alloc::Global;
-use yuv_stage::fill_yuv;
+use yuv_stage::draw_yuv;
 
 /// The bytes of the plane Y.
 const LUMA_BYTES: usize = 1_200;
@@ -60,7 +60,7 @@ pub fn measure(alloc: Global, settings: Settings, frame: FrameNo) -> Result<u32,
     let (_, _, readout) = exposed.into_parts();
     a_readout_lies_between_dark_and_full();
     let mut picture = PixelBuf::over(block, BufferId(0), PICTURE_BYTES);
-    let _digest = fill_yuv(&readout, 40, 30, &mut picture);
+    draw_yuv(&readout, 40, 30, &mut picture);
     let mean = mean_of(picture.bytes());
     let _block = picture.into_block();
     Ok(mean)

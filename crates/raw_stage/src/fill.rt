@@ -58,8 +58,17 @@ fn digest_of(out: &PixelBuf) -> [u8; 32]
     Sha256::digest(out.bytes())
 }
 
-/// Writes the RAW16 picture of a readout into a buffer that shows its 38,400 bytes, and answers the SHA-256 of them.
-/// It takes no memory.
+/// Writes the RAW16 picture of a readout into a buffer that shows its 38,400 bytes. It takes no memory.
+pub fn draw_raw(readout: &Readout, out: &mut PixelBuf)
+    requires values { All (λ v. (64 ≤ v) × (v ≤ 1023)) readout.now }
+    requires room { length out.old.bytes ≡ 38400 }
+    ensures picture { out.new ≡ record { id = out.old.id; bytes = raw_picture readout.now; block = out.old.block } }
+    ensures len { length out.new.bytes ≡ 38400 }
+{
+    write_bytes(readout.values(), out.bytes_mut());
+}
+
+/// Writes the RAW16 picture of a readout as `draw_raw` does, and answers the SHA-256 of it. It takes no memory.
 pub fn fill_raw(readout: &Readout, out: &mut PixelBuf) -> [u8; 32]
     requires values { All (λ v. (64 ≤ v) × (v ≤ 1023)) readout.now }
     requires room { length out.old.bytes ≡ 38400 }
@@ -67,7 +76,7 @@ pub fn fill_raw(readout: &Readout, out: &mut PixelBuf) -> [u8; 32]
     ensures len { length out.new.bytes ≡ 38400 }
     ensures digest { result ≡ sha256 (raw_picture readout.now) }
 {
-    write_bytes(readout.values(), out.bytes_mut());
+    draw_raw(readout, out);
     digest_of(out)
 }
 

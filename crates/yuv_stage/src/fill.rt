@@ -86,7 +86,19 @@ fn digest_of(out: &PixelBuf) -> [u8; 32]
 }
 
 /// Writes the YUV picture of a readout, of 160 x 120, 80 x 60 or 40 x 30 pixels, into a buffer that shows its bytes,
-/// three for two pixels, and answers the SHA-256 of them. It takes no memory.
+/// three for two pixels. It takes no memory.
+pub fn draw_yuv(readout: &Readout, width: u32, height: u32, out: &mut PixelBuf)
+    requires values { All (λ v. (64 ≤ v) × (v ≤ 1023)) readout.now }
+    requires size { IsTrue (is_yuv_size width height) }
+    requires room { length out.old.bytes ≡ width * height * 3 / 2 }
+    ensures picture { out.new ≡
+        record { id = out.old.id; bytes = yuv_picture width height readout.now; block = out.old.block } }
+    ensures len { length out.new.bytes ≡ width * height * 3 / 2 }
+{
+    write_picture(readout.values(), width, height, out.bytes_mut());
+}
+
+/// Writes the YUV picture of a readout as `draw_yuv` does, and answers the SHA-256 of it. It takes no memory.
 pub fn fill_yuv(readout: &Readout, width: u32, height: u32, out: &mut PixelBuf) -> [u8; 32]
     requires values { All (λ v. (64 ≤ v) × (v ≤ 1023)) readout.now }
     requires size { IsTrue (is_yuv_size width height) }
@@ -96,7 +108,7 @@ pub fn fill_yuv(readout: &Readout, width: u32, height: u32, out: &mut PixelBuf) 
     ensures len { length out.new.bytes ≡ width * height * 3 / 2 }
     ensures digest { result ≡ sha256 (yuv_picture width height readout.now) }
 {
-    write_picture(readout.values(), width, height, out.bytes_mut());
+    draw_yuv(readout, width, height, out);
     digest_of(out)
 }
 

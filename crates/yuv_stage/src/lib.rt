@@ -1,4 +1,5 @@
-//! The YUV stage: it writes a readout as a picture of one of three sizes, and answers the picture's digest.
+//! The YUV stage: it writes a readout as a picture of one of three sizes, and answers the picture's digest where that is
+//! wanted.
 #![tactic(auto)]
 
 mod bands;
@@ -10,5 +11,5 @@ mod narrow;
 mod strip;
 mod wide;
 
-pub use fill::{fill_yuv, fill_yuv_bands};
+pub use fill::{draw_yuv, fill_yuv, fill_yuv_bands};
 pub use laws::a_yuv_stream_has_yuv_pictures;
