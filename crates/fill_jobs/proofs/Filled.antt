@@ -1,5 +1,5 @@
 -- A buffer that a picture was drawn into.
-use Rattle.std.proofs.Common.{◌≡◌, ℕ, List, refl, sym, ap, ◌∙◌}
+use Rattle.std.proofs.Common.{◌≡◌, ℕ, List, sym, ap, ◌∙◌}
 use Rattle.cam_types.specs.Picture.{picture, picture_of, readout}
 use Rattle.cam_types.specs.Shown.{Shown}
 use Rattle.cam_types.specs.declared.item.Settings.{Settings}
@@ -10,7 +10,7 @@ use Rattle.fill_jobs.specs.Buffers.{IsFillOf, IsFilledOf}
 use Rattle.sha2.specs.Sha256.{sha256}
 
 -- what is drawn of the frame's readout is the frame's picture
-drawn-is : (spec : StreamSpec) (settings : Settings) (n : ℕ) (values : List ℕ) → values ≡ readout settings n → picture_of spec.format spec.width spec.height values ≡ picture spec settings n
+pub drawn-is : (spec : StreamSpec) (settings : Settings) (n : ℕ) (values : List ℕ) → values ≡ readout settings n → picture_of spec.format spec.width spec.height values ≡ picture spec settings n
 drawn-is spec settings n values is =
     ap (λ (v : List ℕ). picture_of spec.format spec.width spec.height v) is ∙ sym (picture-of-readout spec settings n)
 

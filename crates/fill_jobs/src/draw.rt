@@ -5,11 +5,29 @@ ghost use Rattle.cam_types.specs.Picture.{is_offered, length_in, picture_of};
 ghost use Rattle.sha2.specs.Sha256.{sha256};
 
 use cam_types::{Format, PixelBuf, Readout, StreamSpec};
-use raw_stage::{fill_raw, fill_raw_bands};
+use raw_stage::{draw_raw, fill_raw, fill_raw_bands};
 use std::thread::Threads;
-use yuv_stage::{fill_yuv, fill_yuv_bands};
+use yuv_stage::{draw_yuv, fill_yuv, fill_yuv_bands};
 
-/// Draws a stream's picture of the readout into a buffer of its length, and answers the SHA-256 of it.
+/// Draws a stream's picture of the readout into a buffer of its length.
+pub(crate) fn draw_alone(readout: &Readout, spec: StreamSpec, pixels: &mut PixelBuf)
+    requires values { All (λ v. (64 ≤ v) × (v ≤ 1023)) readout.now }
+    requires offered { IsTrue (is_offered spec) }
+    requires room { length pixels.old.bytes ≡ length_in spec.format spec.width spec.height }
+    ensures { pixels.new ≡
+        record {
+          id = pixels.old.id;
+          bytes = picture_of spec.format spec.width spec.height readout.now;
+          block = pixels.old.block;
+        } }
+{
+    match spec.format {
+        Format::Raw16 => draw_raw(readout, pixels),
+        _ => draw_yuv(readout, spec.width, spec.height, pixels),
+    }
+}
+
+/// Draws a stream's picture as `draw_alone` does, and answers the SHA-256 of it.
 pub(crate) fn draw(readout: &Readout, spec: StreamSpec, pixels: &mut PixelBuf) -> [u8; 32]
     requires values { All (λ v. (64 ≤ v) × (v ≤ 1023)) readout.now }
     requires offered { IsTrue (is_offered spec) }

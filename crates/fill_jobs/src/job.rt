@@ -4,14 +4,16 @@ ghost use Rattle.cam_types.specs.Metadata.{range_fault};
 ghost use Rattle.cam_types.specs.Picture.{is_offered, readout as readout_of};
 ghost use Rattle.fill_jobs.specs.Buffers.{IsBufferFor, IsPictureOf, IsStreamAt};
 
-use crate::draw::{draw, draw_bands};
+use crate::digest::digest_with;
+use crate::draw::{draw, draw_alone, draw_bands};
 use cam_types::{FillTarget, FrameNo, PixelBuf, Readout, Settings, StreamIx};
+use digest_memory::DigestMemory;
 use sensor_sim::a_readout_lies_between_dark_and_full;
 use std::marker::Model;
 use std::thread::Threads;
 
 /// A buffer that a stage is to fill with the picture of a frame, with the frame's readout. It must be spent: it is
-/// neither dropped nor copied, and ends by `fill` or `fill_bands` alone.
+/// neither dropped nor copied, and ends by `fill`, `fill_with` or `fill_bands` alone.
 pub struct FillJob {
     frame: FrameNo,
     settings: Settings,
@@ -107,6 +109,31 @@ impl FillJob {
             mut pixels,
         } = self;
         let digest = draw(&readout, target.spec, &mut pixels);
+        FilledJob {
+            frame,
+            settings,
+            target,
+            readout,
+            pixels,
+            digest,
+        }
+    }
+
+    /// Fills the buffer as `fill` does, and hashes the picture only where the memory doesn't know its digest; it may
+    /// remember it then. It takes no lock and no memory.
+    pub fn fill_with(self, memory: &mut DigestMemory) -> FilledJob
+        ensures { result ≡ self }
+    {
+        a_readout_lies_between_dark_and_full();
+        let FillJob {
+            frame,
+            settings,
+            target,
+            readout,
+            mut pixels,
+        } = self;
+        draw_alone(&readout, target.spec, &mut pixels);
+        let digest = digest_with(memory, target.spec, settings, frame, &pixels);
         FilledJob {
             frame,
             settings,

@@ -1,6 +1,7 @@
 //! The jobs of a stage: a buffer that is to be filled with the picture of a frame's readout, and the same when it is.
 #![tactic(auto)]
 
+mod digest;
 mod draw;
 mod job;
 
