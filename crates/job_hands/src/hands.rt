@@ -10,7 +10,8 @@ use crate::places::{
     taken_place,
 };
 use cam_types::{FrameNo, StreamIx};
-use fill_jobs::FillJob;
+use digest_memory::DigestMemory;
+use fill_jobs::{FillJob, FilledJob};
 use sensor_sim::SensorJob;
 use std::marker::Model;
 
@@ -18,9 +19,10 @@ use std::marker::Model;
 pub const HANDS_LIMIT: usize = 16;
 
 /// The jobs that are in hand, in the order of their places: a job goes into the first free place. They can't be let
-/// go: `close` ends them.
+/// go: `close` ends them. They may have a memory of digests, which no contract sees.
 pub struct Hands {
     places: Places,
+    memory: Option<DigestMemory>,
 }
 
 impl Model for Hands {
@@ -42,6 +44,17 @@ impl Hands {
     {
         Hands {
             places: make_places(),
+            memory: None,
+        }
+    }
+
+    /// No job, and a memory of digests: each picture that it knows is hashed no more.
+    pub fn with_memory(memory: DigestMemory) -> Hands
+        ensures { result ≡ [] }
+    {
+        Hands {
+            places: make_places(),
+            memory: Some(memory),
         }
     }
 
@@ -89,6 +102,18 @@ impl Hands {
         take_fill(&mut self.places, frame, stream)
     }
 
+    /// Fills the buffer of a job that is in hand no more, with the memory of digests where there is one. It takes no
+    /// lock and no memory.
+    pub fn fill(&mut self, job: FillJob) -> FilledJob
+        ensures filled { result ≡ job }
+        ensures stays { self.new ≡ self.old }
+    {
+        match &mut self.memory {
+            Some(memory) => job.fill_with(memory),
+            None => job.fill(),
+        }
+    }
+
     /// Whether no job is in hand.
     pub fn is_empty(&self) -> bool
         ensures { IsTrue result ↔ (self.now ≡ []) }
@@ -107,7 +132,7 @@ impl Hands {
     pub fn close(self)
         requires { self ≡ [] }
     {
-        let Hands { places } = self;
+        let Hands { places, memory: _ } = self;
         end_places(places);
     }
 }

@@ -8,10 +8,12 @@ ghost use Rattle.run_output.specs.Texts.{named_profile, text_in};
 
 use call_status::Status;
 use cam_types::{NoMemory, Script};
+use digest_memory::DigestMemory;
 use io_edge::{Sink, write_all};
 use job_hands::Hands;
 use job_moves::no_job_is_out_at_first;
 use run_output::{Output, named_profile, write_run};
+use script_bounds::early_bound;
 use service_core::Service;
 use settle::{close, play};
 use std::alloc::Global;
@@ -56,11 +58,13 @@ pub fn prepare(alloc: Global, script: Script) -> Result<Prepared, NoMemory>
     requires { IsTrue (is_valid script) }
     ensures { IfOk result (λ prepared. prepared ≡ script) }
 {
+    // No run of the script fills more buffers than may come back early.
+    let digests = DigestMemory::with_room(alloc, early_bound(&script) as usize)?;
     let writer = TraceWriter::new(alloc, named_profile(&script))?;
     let service = Service::open(alloc, script)?;
     Ok(Prepared {
         service,
-        hands: Hands::new(),
+        hands: Hands::with_memory(digests),
         writer,
     })
 }

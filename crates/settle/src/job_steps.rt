@@ -80,7 +80,7 @@ pub(crate) fn end_fill(service: &mut Service, hands: &mut Hands, frame: FrameNo,
     a_move_gives_a_job_back();
     match hands.take_fill(frame, stream) {
         Some(job) => {
-            service.fill_done(job.fill());
+            service.fill_done(hands.fill(job));
             service.is_a_run();
         }
         None => unreachable!(),

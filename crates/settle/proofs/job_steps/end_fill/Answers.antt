@@ -20,8 +20,8 @@ pub returns-clause-made : goal.returns-clause-made
 returns-clause-made c =
     let job = c.in-Some.job in
     let of = fill_of c.args.hands.now job c.args.frame c.args.stream (sym c.take_fill.ensures.value ∙ c.in-Some.is) in
-    let same = ap (λ (j : JobView). j.fill) c.fill.ensures ∙ of.fill in
-    let frame = ap (λ (j : JobView). j.frame) c.fill.ensures ∙ of.frame in
+    let same = ap (λ (j : JobView). j.fill) c.fill.ensures.filled ∙ of.fill in
+    let frame = ap (λ (j : JobView). j.frame) c.fill.ensures.filled ∙ of.frame in
     let made : Makes (silent (FillDone c.fill.result.frame of.target.stream)) c.args.service.now c.fill_done.new.self = rw same at c.fill_done.ensures in
     record {
       move = silent (FillDone c.fill.result.frame of.target.stream);
@@ -36,10 +36,10 @@ returns-clause-jobs c =
     let job = c.in-Some.job in
     let value = sym c.take_fill.ensures.value ∙ c.in-Some.is in
     let of = fill_of c.args.hands.now job c.args.frame c.args.stream value in
-    let same = ap (λ (j : JobView). j.fill) c.fill.ensures ∙ of.fill in
-    let frame = ap (λ (j : JobView). j.frame) c.fill.ensures ∙ of.frame in
+    let same = ap (λ (j : JobView). j.fill) c.fill.ensures.filled ∙ of.fill in
+    let frame = ap (λ (j : JobView). j.frame) c.fill.ensures.filled ∙ of.frame in
     let m = silent (FillDone c.fill.result.frame of.target.stream) in
     let made : Makes m old new = rw same at c.fill_done.ensures in
     let run = run_on old new m made.left c.is_a_run-in-Some.ensures.run in
     let step = ap (λ (n : FrameNo). FillDone n of.target.stream) frame ∙ ap (λ (s : StreamIx). FillDone c.args.frame s) of.stream in
-    jobs_on old new m c.take_fill.new.self made.left (c.a_move_gives_a_job_back.ensures.fill old.script m old.history c.args.hands.now c.take_fill.new.self job c.args.frame c.args.stream run c.requires.jobs step value c.in-Some.ensures.taken)
+    rw c.fill.ensures.stays (jobs_on old new m c.take_fill.new.self made.left (c.a_move_gives_a_job_back.ensures.fill old.script m old.history c.args.hands.now c.take_fill.new.self job c.args.frame c.args.stream run c.requires.jobs step value c.in-Some.ensures.taken))
