@@ -8,6 +8,7 @@ use crate::gate::Gate;
 use crate::idle::Idle;
 use crate::part::Part;
 use crate::turns::turn;
+use digest_memory::DigestMemory;
 use run_model::Kind;
 use shared_camera::{CamSeat, Shared};
 use std::sync::Wait;
@@ -15,11 +16,13 @@ use std::thread::Threads;
 use std::time::Clock;
 
 /// The loop with this number makes turns of its kinds until the run is complete, or until no work came for very long.
-/// The jobs that it took out are given back.
+/// The jobs that it took out are given back. Where it is a stage's and has a memory of digests, it hashes each distinct
+/// picture once.
 pub(crate) fn work<R: Threads + Wait + Clock + Sync, G: Gate>(
     rt: &R,
     shared: &Shared,
     seat: &mut CamSeat,
+    digests: &mut [DigestMemory],
     gate: &G,
     number: u32,
 )
@@ -30,7 +33,7 @@ pub(crate) fn work<R: Threads + Wait + Clock + Sync, G: Gate>(
     let kinds = Part::of_loop(number).kinds();
     let mut idle = Idle::new();
     for _ in rt.forever() {
-        if each_kind(rt, shared, seat, gate, kinds) {
+        if each_kind(rt, shared, seat, digests, gate, kinds) {
             idle.end();
         } else if is_over(rt, shared, seat, &mut idle, kinds.len()) {
             break;
@@ -43,6 +46,7 @@ fn each_kind<R: Threads + Wait + Sync, G: Gate>(
     rt: &R,
     shared: &Shared,
     seat: &mut CamSeat,
+    digests: &mut [DigestMemory],
     gate: &G,
     kinds: &[Kind],
 ) -> bool
@@ -52,7 +56,7 @@ fn each_kind<R: Threads + Wait + Sync, G: Gate>(
 {
     let mut worked = false;
     for kind in kinds {
-        if turn(rt, shared, seat, gate, *kind) {
+        if turn(rt, shared, seat, digests, gate, *kind) {
             worked = true;
         }
     }

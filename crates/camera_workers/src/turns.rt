@@ -7,6 +7,7 @@ ghost use Rattle.shared_camera.specs.Cameras.{script_of};
 ghost use Rattle.shared_camera.specs.Moves.{is_of_jobs};
 
 use crate::gate::Gate;
+use digest_memory::DigestMemory;
 use fill_jobs::{FillJob, FilledJob};
 use run_model::Kind;
 use shared_camera::{CamSeat, Shared, Shuttered, Turned};
@@ -23,6 +24,7 @@ pub(crate) fn turn<R: Threads + Wait + Sync, G: Gate>(
     rt: &R,
     shared: &Shared,
     seat: &mut CamSeat,
+    digests: &mut [DigestMemory],
     gate: &G,
     kind: Kind,
 ) -> bool
@@ -32,7 +34,7 @@ pub(crate) fn turn<R: Threads + Wait + Sync, G: Gate>(
 {
     match kind {
         Kind::Shutter => expose(rt, shared, seat),
-        Kind::TakeFill => fill(rt, shared, seat, gate),
+        Kind::TakeFill => fill(rt, shared, seat, digests, gate),
         Kind::SensorDone | Kind::FillDone => false,
         _ => step(rt, shared, seat, kind),
     }
@@ -69,6 +71,7 @@ fn fill<R: Threads + Wait + Sync, G: Gate>(
     rt: &R,
     shared: &Shared,
     seat: &mut CamSeat,
+    digests: &mut [DigestMemory],
     gate: &G,
 ) -> bool
     requires { IsIdle script_of shared.now.turnstile seat.old }
@@ -77,21 +80,29 @@ fn fill<R: Threads + Wait + Sync, G: Gate>(
 {
     match shared.take_fill_turn(rt, seat) {
         Some(job) => {
-            shared.fill_done_turn(rt, seat, pass(rt, gate, job));
+            shared.fill_done_turn(rt, seat, pass(rt, digests, gate, job));
             true
         }
         None => false,
     }
 }
 
-/// Fills a buffer, within the gate.
-fn pass<R: Threads + Sync, G: Gate>(rt: &R, gate: &G, job: FillJob) -> FilledJob
+/// Fills a buffer, within the gate: with the first memory of digests, where there is one.
+fn pass<R: Threads + Sync, G: Gate>(
+    rt: &R,
+    digests: &mut [DigestMemory],
+    gate: &G,
+    job: FillJob,
+) -> FilledJob
     ensures { result ≡ job }
 {
     let frame = job.frame();
     let stream = job.stream();
     gate.enter(frame, stream);
-    let filled = job.fill_bands(rt, BANDS);
+    let filled = match digests.first_mut() {
+        Some(memory) => job.fill_with(memory),
+        None => job.fill_bands(rt, BANDS),
+    };
     gate.leave(frame, stream);
     filled
 }

@@ -12,6 +12,7 @@ ghost use Rattle.shared_camera.specs.Turns.{history_in};
 use crate::gate::Gate;
 use crate::loops::work;
 use crate::part::SINGLE_PARTS;
+use digest_memory::DigestMemory;
 use shared_camera::{CamSeat, Shared};
 use std::sync::Wait;
 use std::thread::{Threads, join_mut};
@@ -19,12 +20,13 @@ use std::time::Clock;
 
 /// Runs the loops of all parts side by side, with so many stages, until the camera's run is complete, or until each loop
 /// found no work for very long. It answers whether the run is complete. Each loop has a seat of its own, which is joined
-/// when the loop has ended.
+/// when the loop has ended. Each stage has one of the memories of digests to itself, as far as there are so many.
 pub fn run_workers<R: Threads + Wait + Clock + Sync, G: Gate + Sync>(
     rt: &R,
     shared: &Shared,
     root: &mut CamSeat,
     workers: u32,
+    digests: &mut [DigestMemory],
     gate: &G,
 ) -> bool
     requires idle { IsIdle script_of shared.now.turnstile root.old }
@@ -38,15 +40,16 @@ pub fn run_workers<R: Threads + Wait + Clock + Sync, G: Gate + Sync>(
     ensures done { IsTrue result ↔ IsComplete (fixed_of script_of shared.now.turnstile)
         (trace_of (history_in (view root.new))) }
 {
-    side_by_side(rt, shared, root, gate, SINGLE_PARTS + workers);
+    side_by_side(rt, shared, root, digests, gate, SINGLE_PARTS + workers);
     shared.done_turn(rt, root)
 }
 
-/// Runs the loops with the numbers from 1 to this one, each on a seat of its own.
+/// Runs the loops with the numbers from 1 to this one, each on a seat of its own. The stages' loops are the last.
 fn side_by_side<R: Threads + Wait + Clock + Sync, G: Gate + Sync>(
     rt: &R,
     shared: &Shared,
     root: &mut CamSeat,
+    digests: &mut [DigestMemory],
     gate: &G,
     loops: u32,
 )
@@ -57,17 +60,19 @@ fn side_by_side<R: Threads + Wait + Clock + Sync, G: Gate + Sync>(
     if loops == 0 {
         return;
     }
+    let before = loops.saturating_sub(SINGLE_PARTS + 1) as usize;
+    let (others, own) = digests.split_at_mut(before.min(digests.len()));
     let mut other = shared.split(root);
     join_mut(
         rt,
         &mut ||
             requires { IsSync R.row × IsSync G.row × IsIdle script_of shared.now.turnstile other }
-        { work(rt, shared, &mut other, gate, loops) },
+        { work(rt, shared, &mut other, own, gate, loops) },
         &mut ||
             requires { IsSync R.row × IsSync G.row × IsIdle script_of shared.now.turnstile root.now
                 × ((view root.now).number ≡ 0) × (1 ≤ loops) }
             ensures { IsRootAgain script_of shared.entry.now.turnstile (view root.entry.now) root.exit.now }
-        { side_by_side(rt, shared, root, gate, loops - 1) },
+        { side_by_side(rt, shared, root, others, gate, loops - 1) },
     );
     shared.join(root, other);
 }

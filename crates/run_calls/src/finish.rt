@@ -8,6 +8,7 @@ ghost use Rattle.run_calls.specs.Finished.{FinishesAs};
 
 use call_status::Status;
 use camera_workers::{Gate, run_workers};
+use digest_memory::DigestMemory;
 use io_edge::Sink;
 use job_hands::Hands;
 use run_laws::a_complete_run_keeps_the_laws;
@@ -27,6 +28,7 @@ pub fn finish_run<R: Threads + Wait + Clock + Sync, K: Sink, G: Gate + Sync>(
     shared: Shared,
     mut root: CamSeat,
     workers: u32,
+    digests: &mut [DigestMemory],
     gate: &G,
     writer: &mut TraceWriter,
     sink: &mut K,
@@ -41,7 +43,7 @@ pub fn finish_run<R: Threads + Wait + Clock + Sync, K: Sink, G: Gate + Sync>(
     ensures { FinishesAs writer.old (fixed_of script_of shared.turnstile) (view root).seen result.number
         (K.state sink.old) (K.state sink.new) }
 {
-    run_workers(rt, &shared, &mut root, workers, gate);
+    run_workers(rt, &shared, &mut root, workers, digests, gate);
     let service = shared.close(root);
     the_jobs_that_are_out();
     service.is_a_run();

@@ -13,12 +13,14 @@ use crate::finish::finish_run;
 use call_status::Status;
 use cam_types::{NoMemory, SCRIPT_BYTES, Script};
 use camera_workers::Gate;
+use digest_memory::DigestMemory;
 use input_refusals::refuse_script;
 use io_edge::{ReadBytes, ReadFault, Sink, Source, read_all};
 use job_hands::Hands;
 use job_moves::no_job_is_out_at_first;
 use line_reading::{Cause, TextRefused};
 use run_output::named_profile;
+use script_bounds::early_bound;
 use service_core::Service;
 use settle::close;
 use shared_camera::{CamSeat, Shared};
@@ -34,6 +36,7 @@ use trace_writer::TraceWriter;
 pub struct PreparedRun {
     shared: Shared,
     root: CamSeat,
+    digests: Vec<DigestMemory>,
     writer: TraceWriter,
 }
 
@@ -54,11 +57,13 @@ impl Model for PreparedRun {
         × (p.writer ≡ named_profile (fixed_of script_of p.shared.turnstile)) };
 }
 
-/// Takes all the memory that the run of a script on workers and its printing need.
-pub fn prepare_run(alloc: Global, script: Script) -> Result<PreparedRun, NoMemory>
+/// Takes all the memory that the run of a script on so many workers and its printing need: each worker has a memory of
+/// digests.
+pub fn prepare_run(alloc: Global, script: Script, workers: u32) -> Result<PreparedRun, NoMemory>
     requires { IsTrue (is_valid script) }
     ensures { IfOk result (λ prepared. prepared ≡ script) }
 {
+    let digests = digests_for(alloc, &script, workers)?;
     let writer = TraceWriter::new(alloc, named_profile(&script))?;
     let service = Service::open(alloc, script)?;
     no_job_is_out_at_first();
@@ -66,6 +71,7 @@ pub fn prepare_run(alloc: Global, script: Script) -> Result<PreparedRun, NoMemor
         Ok((shared, root)) => Ok(PreparedRun {
             shared,
             root,
+            digests,
             writer,
         }),
         Err(service) => {
@@ -73,6 +79,19 @@ pub fn prepare_run(alloc: Global, script: Script) -> Result<PreparedRun, NoMemor
             Err(AllocError)
         }
     }
+}
+
+/// A memory of digests for each worker.
+fn digests_for(alloc: Global, script: &Script, workers: u32) -> Result<Vec<DigestMemory>, NoMemory>
+    requires { IsTrue (is_valid script.now) }
+{
+    // No run of the script fills more buffers than may come back early.
+    let pictures = early_bound(script) as usize;
+    let mut digests = Vec::with_capacity(alloc, workers as usize)?;
+    for _ in 0..workers {
+        digests.push(DigestMemory::with_room(alloc, pictures)?)?;
+    }
+    Ok(digests)
 }
 
 /// Runs a script on so many workers, and writes its trace. It takes no memory: the status is 0, or 4 where the sink
@@ -91,9 +110,19 @@ pub fn run_prepared<R: Threads + Wait + Clock + Sync, K: Sink, G: Gate + Sync>(
     let PreparedRun {
         shared,
         root,
+        mut digests,
         mut writer,
     } = prepared;
-    finish_run(rt, shared, root, workers, gate, &mut writer, sink)
+    finish_run(
+        rt,
+        shared,
+        root,
+        workers,
+        &mut digests,
+        gate,
+        &mut writer,
+        sink,
+    )
 }
 
 /// Reads a script, runs it on so many workers and writes the trace. The script's picks choose nothing: each step is made
@@ -164,7 +193,7 @@ fn run_script<R: Threads + Wait + Clock + Sync, K: Sink, G: Gate + Sync>(
     requires most { workers ≤ 8 }
     ensures { TellsBy (SaysOfRun script) result.number (K.state sink.old) (K.state sink.new) }
 {
-    match prepare_run(alloc, script) {
+    match prepare_run(alloc, script, workers) {
         Ok(prepared) => run_prepared(rt, prepared, sink, gate, workers),
         Err(_) => Status::NO_MEMORY,
     }
