@@ -1,8 +1,8 @@
 -- A picture is that of its key.
-use Rattle.std.proofs.Common.{◌≡◌, ℕ, ◌+◌, ◌*◌, ◌/◌, ◌%◌, ◌==◌, ◌||◌, Bool, true, false, List, refl, sym, ap, ◌∙◌, arith, if◌then◌else◌, IsTrue}
+use Rattle.std.proofs.Common.{◌≡◌, ℕ, ◌+◌, ◌/◌, ◌%◌, ◌==◌, ◌||◌, Bool, true, false, List, refl, sym, ap, ◌∙◌, if◌then◌else◌, IsTrue}
 use Rattle.std.proofs.Math.Nat.{add-mod-mod}
 use Rattle.std.proofs.lemmas.Bool.{false≢true}
-use Rattle.cam_types.specs.Picture.{Channel, Red, channel_at, is_offered, is_lit, picture, picture_of, plane, readout, scene, sensor_value}
+use Rattle.cam_types.specs.Picture.{Channel, channel_at, is_offered, is_lit, picture, picture_of, readout, scene, sensor_value}
 use Rattle.cam_types.proofs.PictureLemmas.{picture-of-readout, plane-same}
 use Rattle.cam_types.specs.declared.item.Settings.{Settings}
 use Rattle.cam_types.specs.declared.stream.Format.{Format}

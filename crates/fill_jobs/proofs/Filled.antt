@@ -1,5 +1,5 @@
 -- A buffer that a picture was drawn into.
-use Rattle.std.proofs.Common.{◌≡◌, ℕ, List, refl, sym, ap, ◌∙◌}
+use Rattle.std.proofs.Common.{◌≡◌, ℕ, List, sym, ap, ◌∙◌}
 use Rattle.cam_types.specs.Picture.{picture, picture_of, readout}
 use Rattle.cam_types.specs.Shown.{Shown}
 use Rattle.cam_types.specs.declared.item.Settings.{Settings}

@@ -113,7 +113,16 @@ pub fn run_prepared<R: Threads + Wait + Clock + Sync, K: Sink, G: Gate + Sync>(
         mut digests,
         mut writer,
     } = prepared;
-    finish_run(rt, shared, root, workers, &mut digests, gate, &mut writer, sink)
+    finish_run(
+        rt,
+        shared,
+        root,
+        workers,
+        &mut digests,
+        gate,
+        &mut writer,
+        sink,
+    )
 }
 
 /// Reads a script, runs it on so many workers and writes the trace. The script's picks choose nothing: each step is made

@@ -1,8 +1,8 @@
-use Rattle.std.proofs.Common.{◌≡◌, ◌∙◌, ◌++◌, [], ◌∷◌, ◌≤◌, length, sym, ap, rules, arith}
+use Rattle.std.proofs.Common.{◌≡◌, ◌∙◌, [], ◌∷◌, sym, ap, rules}
 use Rattle.std.proofs.lemmas.List.Elements.{All-append, All-cons, All-nil}
 use Rattle.sha2.specs.Sha256.{sha256}
 use Rattle.digest_memory.specs.Keys.{picture_by}
-use Rattle.digest_memory.specs.Told.{AreTold, IsTold}
+use Rattle.digest_memory.specs.Told.{IsTold}
 use Rattle.digest_memory.specs.declared.memory.Told.{Told}
 use Rattle.digest_memory.proofs.KeyLemmas.{by-key}
 use Rattle.digest_memory.proofs.memory.DigestMemory.remember.Goals as goal

@@ -1,4 +1,4 @@
-use Rattle.std.proofs.Common.{◌≡◌, ◌∙◌, List, ℕ, sym, ap}
+use Rattle.std.proofs.Common.{◌∙◌, List, ℕ, sym, ap}
 use Rattle.cam_types.specs.Shown.{Shown}
 use Rattle.sha2.specs.Sha256.{sha256}
 use Rattle.fill_jobs.proofs.Filled.{drawn-is, filled-of}
