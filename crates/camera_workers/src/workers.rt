@@ -9,6 +9,7 @@ ghost use Rattle.turn_lock.specs.Seats.{fixed_of, view};
 ghost use Rattle.shared_camera.specs.Cameras.{script_of};
 ghost use Rattle.shared_camera.specs.Turns.{history_in};
 
+use crate::crew::Crew;
 use crate::gate::Gate;
 use crate::loops::work;
 use crate::part::SINGLE_PARTS;
@@ -38,7 +39,8 @@ pub fn run_workers<R: Threads + Wait + Clock + Sync, G: Gate + Sync>(
     ensures done { IsTrue result ↔ IsComplete (fixed_of script_of shared.now.turnstile)
         (trace_of (history_in (view root.new))) }
 {
-    side_by_side(rt, shared, root, gate, SINGLE_PARTS + workers);
+    let loops = SINGLE_PARTS + workers;
+    side_by_side(rt, shared, root, gate, &Crew::of(loops), loops);
     shared.done_turn(rt, root)
 }
 
@@ -48,6 +50,7 @@ fn side_by_side<R: Threads + Wait + Clock + Sync, G: Gate + Sync>(
     shared: &Shared,
     root: &mut CamSeat,
     gate: &G,
+    crew: &Crew,
     loops: u32,
 )
     requires idle { IsIdle script_of shared.now.turnstile root.old }
@@ -62,12 +65,12 @@ fn side_by_side<R: Threads + Wait + Clock + Sync, G: Gate + Sync>(
         rt,
         &mut ||
             requires { IsSync R.row × IsSync G.row × IsIdle script_of shared.now.turnstile other }
-        { work(rt, shared, &mut other, gate, loops) },
+        { work(rt, shared, &mut other, gate, crew, loops) },
         &mut ||
             requires { IsSync R.row × IsSync G.row × IsIdle script_of shared.now.turnstile root.now
                 × ((view root.now).number ≡ 0) × (1 ≤ loops) }
             ensures { IsRootAgain script_of shared.entry.now.turnstile (view root.entry.now) root.exit.now }
-        { side_by_side(rt, shared, root, gate, loops - 1) },
+        { side_by_side(rt, shared, root, gate, crew, loops - 1) },
     );
     shared.join(root, other);
 }
