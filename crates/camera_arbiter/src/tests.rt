@@ -90,7 +90,8 @@ fn two_ask<R: Threads + Wait + Sync>(
 ) -> (Arbiter, (u32, u32))
     requires { arbiter.cameras ≡ 2 }
 {
-    let (turnstile, mut root) = match Turnstile::new(alloc, arbiter) {
+    let lines = arbiter.log().len() as u64;
+    let (turnstile, mut root) = match Turnstile::new(alloc, arbiter, lines) {
         Ok(made) => made,
         Err(arbiter) => return (arbiter, (0, 0)),
     };

@@ -30,6 +30,7 @@ pub fn answer_turn<R: Wait>(
 {
     let mut held = turnstile.enter(rt, seat);
     let answer = held.value.try_answer(line);
-    turnstile.leave(seat, held);
+    let lines = held.value.log().len() as u64;
+    turnstile.leave(seat, held, lines);
     answer
 }

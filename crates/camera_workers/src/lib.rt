@@ -6,6 +6,7 @@
 //! lets its processor go, and looks again after a while.
 #![tactic(auto)]
 
+mod crew;
 mod gate;
 mod idle;
 mod loops;

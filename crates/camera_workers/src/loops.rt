@@ -4,6 +4,7 @@ ghost use Rattle.turn_lock.specs.Lending.{IsDone, IsIdle};
 ghost use Rattle.turn_lock.specs.Seats.{view};
 ghost use Rattle.shared_camera.specs.Cameras.{script_of};
 
+use crate::crew::Crew;
 use crate::gate::Gate;
 use crate::idle::Idle;
 use crate::part::Part;
@@ -15,30 +16,36 @@ use std::sync::Wait;
 use std::thread::Threads;
 use std::time::Clock;
 
-/// The loop with this number makes turns of its kinds until the run is complete, or until no work came for very long.
-/// The jobs that it took out are given back. Where it is a stage's and has a memory of digests, it hashes each distinct
-/// picture once.
+/// The loop with this number makes turns of its kinds until the run is complete, or until the history hasn't grown for
+/// very long. It asks for a turn only where the history has grown since it last looked in vain. The jobs that it took out
+/// are given back. Where it is a stage's and has a memory of digests, it hashes each distinct picture once.
 pub(crate) fn work<R: Threads + Wait + Clock + Sync, G: Gate>(
     rt: &R,
     shared: &Shared,
     seat: &mut CamSeat,
     digests: &mut [DigestMemory],
     gate: &G,
+    crew: &Crew,
     number: u32,
 )
     requires { IsIdle script_of shared.now.turnstile seat.old }
     ensures done { IsDone script_of shared.now.turnstile (view seat.old) seat.new }
     ensures begins { IsPrefix (view seat.old).seen (view seat.new).seen }
 {
+    crew.come();
     let kinds = Part::of_loop(number).kinds();
     let mut idle = Idle::new();
     for _ in rt.forever() {
-        if each_kind(rt, shared, seat, digests, gate, kinds) {
-            idle.end();
-        } else if is_over(rt, shared, seat, &mut idle, kinds.len()) {
+        let moves = shared.moves(seat);
+        if idle.is_news(moves) {
+            if !each_kind(rt, shared, seat, digests, gate, kinds) {
+                idle.note(moves);
+            }
+        } else if is_over(rt, shared, seat, crew, &mut idle) {
             break;
         }
     }
+    crew.go();
 }
 
 /// A turn of each kind. It answers whether one of them made a step.
@@ -63,25 +70,33 @@ fn each_kind<R: Threads + Wait + Sync, G: Gate>(
     worked
 }
 
-/// After so many turns without work: whether the loop ends. Where it doesn't, it has waited.
+/// Where the history hasn't grown: whether the loop ends. Where it doesn't, it has waited.
 fn is_over<R: Wait + Clock>(
     rt: &R,
     shared: &Shared,
     seat: &mut CamSeat,
+    crew: &Crew,
     idle: &mut Idle,
-    turns: usize,
 ) -> bool
     requires { IsIdle script_of shared.now.turnstile seat.old }
     ensures done { IsDone script_of shared.now.turnstile (view seat.old) seat.new }
     ensures begins { IsPrefix (view seat.old).seen (view seat.new).seen }
 {
-    if shared.done_turn(rt, seat) {
+    if idle.asks() && is_complete(rt, shared, seat) {
         return true;
     }
-    idle.add(turns);
-    if idle.is_over() {
+    if idle.is_over(crew) {
         return true;
     }
     idle.wait(rt);
     false
+}
+
+/// Whether the run is complete, in one turn.
+fn is_complete<R: Wait>(rt: &R, shared: &Shared, seat: &mut CamSeat) -> bool
+    requires { IsIdle script_of shared.now.turnstile seat.old }
+    ensures done { IsDone script_of shared.now.turnstile (view seat.old) seat.new }
+    ensures begins { IsPrefix (view seat.old).seen (view seat.new).seen }
+{
+    shared.done_turn(rt, seat)
 }

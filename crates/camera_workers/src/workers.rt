@@ -9,6 +9,7 @@ ghost use Rattle.turn_lock.specs.Seats.{fixed_of, view};
 ghost use Rattle.shared_camera.specs.Cameras.{script_of};
 ghost use Rattle.shared_camera.specs.Turns.{history_in};
 
+use crate::crew::Crew;
 use crate::gate::Gate;
 use crate::loops::work;
 use crate::part::SINGLE_PARTS;
@@ -40,7 +41,8 @@ pub fn run_workers<R: Threads + Wait + Clock + Sync, G: Gate + Sync>(
     ensures done { IsTrue result ↔ IsComplete (fixed_of script_of shared.now.turnstile)
         (trace_of (history_in (view root.new))) }
 {
-    side_by_side(rt, shared, root, digests, gate, SINGLE_PARTS + workers);
+    let loops = SINGLE_PARTS + workers;
+    side_by_side(rt, shared, root, digests, gate, &Crew::of(loops), loops);
     shared.done_turn(rt, root)
 }
 
@@ -51,6 +53,7 @@ fn side_by_side<R: Threads + Wait + Clock + Sync, G: Gate + Sync>(
     root: &mut CamSeat,
     digests: &mut [DigestMemory],
     gate: &G,
+    crew: &Crew,
     loops: u32,
 )
     requires idle { IsIdle script_of shared.now.turnstile root.old }
@@ -67,12 +70,12 @@ fn side_by_side<R: Threads + Wait + Clock + Sync, G: Gate + Sync>(
         rt,
         &mut ||
             requires { IsSync R.row × IsSync G.row × IsIdle script_of shared.now.turnstile other }
-        { work(rt, shared, &mut other, own, gate, loops) },
+        { work(rt, shared, &mut other, own, gate, crew, loops) },
         &mut ||
             requires { IsSync R.row × IsSync G.row × IsIdle script_of shared.now.turnstile root.now
                 × ((view root.now).number ≡ 0) × (1 ≤ loops) }
             ensures { IsRootAgain script_of shared.entry.now.turnstile (view root.entry.now) root.exit.now }
-        { side_by_side(rt, shared, root, others, gate, loops - 1) },
+        { side_by_side(rt, shared, root, others, gate, crew, loops - 1) },
     );
     shared.join(root, other);
 }

@@ -85,6 +85,13 @@ impl Service {
         let _ = &self.log;
     }
 
+    /// How many moves were made.
+    pub fn moves(&self) -> u64
+        ensures { result ≡ length self.now.history }
+    {
+        self.log.len() as u64
+    }
+
     /// Whether the trace is complete.
     pub fn done(&self) -> bool
         ensures { IsTrue result ↔ IsComplete self.now.script (trace_of self.now.history) }

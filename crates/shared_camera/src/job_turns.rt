@@ -25,7 +25,8 @@ impl Shared {
         let mut held = self.turnstile.enter(rt, seat);
         let answer = expose(&mut held.value.service);
         held.value.service.is_a_run();
-        self.turnstile.leave(seat, held);
+        let moves = held.value.service.moves();
+        self.turnstile.leave(seat, held, moves);
         answer
     }
 
@@ -41,7 +42,8 @@ impl Shared {
         held.value.service.is_a_run();
         end_exposure(&mut held.value.service, job);
         held.value.service.is_a_run();
-        self.turnstile.leave(seat, held);
+        let moves = held.value.service.moves();
+        self.turnstile.leave(seat, held, moves);
     }
 
     /// Takes the first buffer that may be taken, in one turn, and hands the stage's job out.
@@ -55,7 +57,8 @@ impl Shared {
         let mut held = self.turnstile.enter(rt, seat);
         let answer = take_first(&mut held.value.service);
         held.value.service.is_a_run();
-        self.turnstile.leave(seat, held);
+        let moves = held.value.service.moves();
+        self.turnstile.leave(seat, held, moves);
         answer
     }
 
@@ -71,6 +74,7 @@ impl Shared {
         held.value.service.is_a_run();
         end_fill(&mut held.value.service, job);
         held.value.service.is_a_run();
-        self.turnstile.leave(seat, held);
+        let moves = held.value.service.moves();
+        self.turnstile.leave(seat, held, moves);
     }
 }

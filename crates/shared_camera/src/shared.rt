@@ -3,7 +3,7 @@ ghost use Rattle.std.specs.Prelude.{◌≡◌, [], IfErr, IfOk, IsPermutation, r
 ghost use Rattle.service_core.specs.Answers.{IsNoJobOut};
 ghost use Rattle.turn_lock.specs.Lending.{IsIdle, IsReady};
 ghost use Rattle.turn_lock.specs.Seats.{fixed_of, view};
-ghost use Rattle.turn_lock.specs.Turns.{Joins, split_off, splitting};
+ghost use Rattle.turn_lock.specs.Turns.{Joins, Looks, split_off, splitting};
 ghost use Rattle.turn_lock.specs.Views.{root_view};
 ghost use Rattle.shared_camera.specs.Cameras.{script_of};
 ghost use Rattle.shared_camera.specs.JobsOut.{jobs_out};
@@ -28,7 +28,8 @@ impl Shared {
         ensures back { IfErr result (λ same. same ≡ service) }
     {
         service.is_a_run();
-        match Turnstile::new(alloc, Camera { service }) {
+        let moves = service.moves();
+        match Turnstile::new(alloc, Camera { service }, moves) {
             Ok((turnstile, root)) => Ok((Shared { turnstile }, root)),
             Err(Camera { service }) => Err(service),
         }
@@ -53,6 +54,16 @@ impl Shared {
         ensures joined { Joins (view root.old) (view other) (view root.new) }
     {
         self.turnstile.join(root, other);
+    }
+
+    /// How many moves the history has at some moment of this call. It takes no turn, and doesn't wait: of the camera it
+    /// tells nothing else, and another seat may have made more since.
+    pub fn moves(&self, seat: &mut CamSeat) -> u64
+        requires { IsReady script_of self.now.turnstile seat.old }
+        ensures seat { IsReady script_of self.now.turnstile seat.new }
+        ensures look { Looks (view seat.old) result (view seat.new) }
+    {
+        self.turnstile.count(seat)
     }
 
     /// The service, once all other seats were joined: its history is what the root has seen, and the jobs that are out

@@ -29,7 +29,8 @@ impl Shared {
         let mut held = self.turnstile.enter(rt, seat);
         let answer = make_first(&mut held.value.service, kind);
         held.value.service.is_a_run();
-        self.turnstile.leave(seat, held);
+        let moves = held.value.service.moves();
+        self.turnstile.leave(seat, held, moves);
         answer
     }
 
@@ -46,7 +47,8 @@ impl Shared {
         let held = self.turnstile.enter(rt, seat);
         let done = held.value.service.done();
         held.value.service.is_a_run();
-        self.turnstile.leave(seat, held);
+        let unchanged = held.value.service.moves();
+        self.turnstile.leave(seat, held, unchanged);
         done
     }
 }

@@ -8,23 +8,29 @@ use std::thread::Threads;
 use turn_lock::Turnstile;
 use turn_tally::{Tally, add_both, add_by_many};
 
-/// Eight threads add the number 3 in 1,250 turns each: the tally, and how many turns they count.
-fn added_by_eight<R: Threads + Wait + Sync>(rt: &R, alloc: Global, tally: Tally) -> (Tally, u64)
+/// Eight threads add the number 3 in 1,250 turns each: the tally, how many turns they count, and what a look finds then.
+fn added_by_eight<R: Threads + Wait + Sync>(
+    rt: &R,
+    alloc: Global,
+    tally: Tally,
+) -> (Tally, u64, u64)
     requires { tally.out.items ≡ [] }
 {
-    let (turnstile, mut root) = match Turnstile::new(alloc, tally) {
+    let count = tally.count();
+    let (turnstile, mut root) = match Turnstile::new(alloc, tally, count) {
         Ok(made) => made,
-        Err(tally) => return (tally, 0),
+        Err(tally) => return (tally, 0, 0),
     };
     let added = add_by_many(rt, &turnstile, &mut root, 8, 3, 1_250);
-    (turnstile.close(root), added)
+    let found = turnstile.count(&mut root);
+    (turnstile.close(root), added, found)
 }
 
 #[test]
 fn ten_thousand_turns_lose_none(rt: HostRuntime) -> Result<(), Fail> {
-    let (tally, added) = added_by_eight(&rt, rt.alloc(), Tally::new(rt.alloc(), 8));
+    let (tally, added, found) = added_by_eight(&rt, rt.alloc(), Tally::new(rt.alloc(), 8));
     let entries = tally.into_entries();
-    assert_eq!(rt; (added, entries.len()), (10_000, 10_000));
+    assert_eq!(rt; (added, found, entries.len()), (10_000, 10_000, 10_000));
     assert!(rt; entries.iter().all(|entry| *entry == 3));
     Ok(())
 }

@@ -32,7 +32,7 @@ module _ {A : Type 0} where
   pub longer_begins : (xs ys zs : List A) → IsPrefix xs zs → IsPrefix ys zs → IsPrefix (longer xs ys) zs
   longer_begins xs ys zs p q = elim (nat_lt (length xs) (length ys)) as (λ b. IsPrefix (cond b ys xs) zs) [ true ↦ q | false ↦ p ]
 
-  begins_length : (xs ys : List A) → IsPrefix xs ys → length xs ≤ length ys
+  pub begins_length : (xs ys : List A) → IsPrefix xs ys → length xs ≤ length ys
   begins_length xs ys p = omega (arith, sym (ap length p.1) ∙ length-append xs p.0)
 
   -- two beginnings of one list, of which one is all of it

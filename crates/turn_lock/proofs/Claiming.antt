@@ -1,5 +1,5 @@
 -- The claim keeps the rule, and tells the holder of the value.
-use Rattle.std.proofs.Common.{◌≡◌, ℕ, ◌==◌, List, [], ◌∷◌, ◌++◌, get_or, set, refl, ap, sym, ◌∙◌, subst, arith, true, false, cond, inl, ◌⊎◌, Option, Some, is_some, IsPermutation}
+use Rattle.std.proofs.Common.{◌≡◌, ℕ, ◌==◌, List, [], ◌∷◌, ◌++◌, get_or, length, set, refl, ap, sym, ◌∙◌, subst, arith, true, false, cond, inl, ◌⊎◌, Option, Some, is_some, IsPermutation}
 use Rattle.std.proofs.lemmas.List.Sorted.{IsPermutation-sym, IsPermutation-trans}
 use mathlib.Core.Option.{none, some}
 use mathlib.Core.Option as maybe
@@ -46,7 +46,7 @@ module _ {S F E J : Type 0} (fixed : S → F) (entries : S → List E) (jobs : S
       let one : turns vs ≡ 1 = (let h = turns_set s.views id v w at in let e : turn_of v ≡ 0 = ap (λ b. cond b 1 0) free in omega arith) in
       let same : jobs_of vs ≡ jobs_of s.views = jobs_set s.views id v w at refl in record {
         history = entries value;
-        word = ap (λ (ws : List ℕ). set ws 0 1) r.word ∙ ap (λ (n : ℕ). n ∷ []) (sym one);
+        words = ap (λ (ws : List ℕ). set ws 0 1) r.words ∙ (ap (λ (n : ℕ). n ∷ length r.history ∷ []) (sym one) ∙ ap (λ (es : List E). turns vs ∷ length es ∷ []) (sym all));
         one = omega arith;
         seen = each_set (λ j u. IsPrefix u.seen (entries value) × IsPrefix u.told u.seen) s.views id w
             (begins_itself (entries value), begins_through v.told v.seen (entries value) (r.seen id v at).1 (subst (λ (es : List E). IsPrefix v.seen es) (sym all) (r.seen id v at).0))
@@ -67,7 +67,7 @@ module _ {S F E J : Type 0} (fixed : S → F) (entries : S → List E) (jobs : S
       → Allows (IsKept fixed entries jobs start) slots id (v, []) 0 (λ n. either (n == 0) 1 n) (Claims fixed entries jobs (step slots 0 0 1 none) (v, []))
   claims start slots id v is free s r wide at small =
       let n : ℕ = get_or s.words 0 0 in
-      let found : n ≡ turns s.views = ap (λ (ws : List ℕ). get_or ws 0 0) r.word in
+      let found : n ≡ turns s.views = ap (λ (ws : List ℕ). get_or ws 0 0) r.words in
       exchanged n 0 1 (λ m. (w : View F E J) × (a : Act (Option S)) × Valid s.homes [] a × IsKept fixed entries jobs start (stepped s 0 m id [] w a) × Claims fixed entries jobs (step slots 0 0 1 none) (v, []) n (w, carried_after [] a))
       (λ hit. let h = r.home (sym found ∙ hit) in
       let tells = enters start s r id v at is h.0 h.2 h.3 h.4 in (

@@ -14,7 +14,7 @@ use Rattle.turn_lock.specs.Rule.{IsKept, NoneTwice}
 use Rattle.turn_lock.specs.Steps.{joining, Compares}
 use Rattle.turn_lock.proofs.ViewLists.{turn_of, at_within, turns_set, jobs_set, beside_set, live_set, live_spent}
 use Rattle.turn_lock.proofs.Numbers.{has_without, falling_without}
-use Rattle.turn_lock.proofs.Beginnings.{longer_begins, longer_whole, shorter_begins}
+use Rattle.turn_lock.proofs.Beginnings.{begins_itself, begins_length, begins_whole, longer_begins, longer_whole, shorter_begins}
 use Rattle.turn_lock.proofs.Keeping.{each_set, one_value, HasRoot, root_set}
 
 fewer_has : (bound n k : ℕ) (ms : List ℕ) → IsFalling bound ms → n ≢ 0 → ((k == 0 || has ms k) && not (k == n)) ≡ (k == 0 || has (without n ms) k)
@@ -62,7 +62,7 @@ module _ {S F E J : Type 0} (fixed : S → F) (entries : S → List E) (jobs : S
       let Holds : ℕ → View F E J → Type 0 = λ j u. u.holds ≡ true → (u.seen ≡ r.history) × (u.rest ≡ jobs_beside j vs') in
       let there : get_elem? vs' id ≡ some both = set_else vs other id spent (λ e. ne (sym e)) ∙ set_here s.views id both (at_within s.views id v at) in record {
         history = r.history;
-        word = r.word ∙ ap (λ (n : ℕ). n ∷ []) (sym turned);
+        words = r.words ∙ ap (λ (n : ℕ). n ∷ length r.history ∷ []) (sym turned);
         one = omega (arith, r.one);
         seen = each (λ j u. IsPrefix u.seen r.history × IsPrefix u.told u.seen)
             (longer_begins v.seen w.seen r.history own others, shorter_begins v.seen w.seen r.history own others) ((r.history, refl), ([], refl)) r.seen;
@@ -86,26 +86,28 @@ module _ {S F E J : Type 0} (fixed : S → F) (entries : S → List E) (jobs : S
         same = each (λ j u. (u.fixed ≡ Some start) ⊎ (u ≡ spent)) (inl is) (inr refl) r.same;
       }
 
-  -- a look changes nothing, but that the seat keeps no second history
-  looked : (start : F) (s : State (Option S) (View F E J)) (r : IsKept fixed entries jobs start s) (id : ℕ) (v : View F E J) → get_elem? s.views id ≡ some v → v.fixed ≡ Some start
-      → IsKept fixed entries jobs start record { words = s.words; homes = s.homes; views = set s.views id (record v { told = [] }) }
-  looked start s r id v at is =
-      let w : View F E J = record v { told = [] } in
+  -- a look changes nothing, but that the seat has seen this beginning of the history, and was told a beginning of that
+  pub looked : (start : F) (s : State (Option S) (View F E J)) (r : IsKept fixed entries jobs start s) (id : ℕ) (v : View F E J) → get_elem? s.views id ≡ some v → v.fixed ≡ Some start
+      → (seen told : List E) → IsPrefix v.seen seen → IsPrefix seen r.history → IsPrefix told seen
+      → IsKept fixed entries jobs start record { words = s.words; homes = s.homes; views = set s.views id (record v { seen = seen; told = told }) }
+  looked start s r id v at is seen told more begins first =
+      let w : View F E J = record v { seen = seen; told = told } in
       let vs : List (View F E J) = set s.views id w in
       let turned : turns vs ≡ turns s.views = (let a = turns_set s.views id v w at in omega arith) in
       let same : jobs_of vs ≡ jobs_of s.views = jobs_set s.views id v w at refl in
       let beside : (j : ℕ) → jobs_beside j vs ≡ jobs_beside j s.views = λ j. beside_set j s.views id v w at refl in
+      let whole : v.seen ≡ r.history → seen ≡ r.history = λ e. begins_whole seen r.history begins (omega (arith, begins_length v.seen seen more, ap length e)) in
       let Holds : ℕ → View F E J → Type 0 = λ j u. u.holds ≡ true → (u.seen ≡ r.history) × (u.rest ≡ jobs_beside j vs) in record {
         history = r.history;
-        word = r.word ∙ ap (λ (n : ℕ). n ∷ []) (sym turned);
+        words = r.words ∙ ap (λ (n : ℕ). n ∷ length r.history ∷ []) (sym turned);
         one = omega (arith, r.one);
-        seen = each_set (λ j u. IsPrefix u.seen r.history × IsPrefix u.told u.seen) s.views id w ((r.seen id v at).0, (v.seen, refl)) (λ j u ne e. r.seen j u e);
+        seen = each_set (λ j u. IsPrefix u.seen r.history × IsPrefix u.told u.seen) s.views id w (begins, first) (λ j u ne e. r.seen j u e);
         longest = (let l = r.longest in dite (ℕ_discrete l.0 id)
             (λ e. let same : l.1 ≡ v = one_value s.views id l.1 v (subst (λ (k : ℕ). get_elem? s.views k ≡ some l.1) e l.2) at in
-            (id, w, set_here s.views id w (at_within s.views id v at), ap is_some is, sym (ap (λ (u : View F E J). u.seen) same) ∙ l.4))
+            (id, w, set_here s.views id w (at_within s.views id v at), ap is_some is, whole (sym (ap (λ (u : View F E J). u.seen) same) ∙ l.4)))
             (λ ne. (l.0, l.1, set_else s.views id l.0 w ne ∙ l.2, l.3, l.4)));
         holder = each_set Holds s.views id w
-            (λ held. ((r.holder id v at held).0, (r.holder id v at held).1 ∙ sym (beside id)))
+            (λ held. (whole (r.holder id v at held).0, (r.holder id v at held).1 ∙ sym (beside id)))
             (λ j u ne e held. ((r.holder j u e held).0, (r.holder j u e held).1 ∙ sym (beside j)));
         home = λ e. (let h = r.home (sym turned ∙ e) in (h.0, h.1, h.2, h.3, subst (λ (js : List J). IsPermutation (jobs h.0) js) (sym same) h.4));
         once = subst (λ (js : List J). NoneTwice js) (sym same) r.once;
@@ -121,7 +123,7 @@ module _ {S F E J : Type 0} (fixed : S → F) (entries : S → List E) (jobs : S
     record v { told = [] },
     keeps,
     tt,
-    subst (λ (ws : List ℕ). IsKept fixed entries jobs start record { words = ws; homes = s.homes; views = set s.views id (record v { told = [] }) }) (sym (set-get_or s.words 0 0)) (looked start s r id v at is),
+    subst (λ (ws : List ℕ). IsKept fixed entries jobs start record { words = ws; homes = s.homes; views = set s.views id (record v { told = [] }) }) (sym (set-get_or s.words 0 0)) (looked start s r id v at is v.seen [] (begins_itself v.seen) (r.seen id v at).0 (v.seen, refl)),
     (refl, (r.seen id v at).1),
   )
 

@@ -4,6 +4,7 @@ pub mod Beginnings
 pub mod JobLists
 pub mod Keeping
 pub mod Claiming
+pub mod Counting
 pub mod Releasing
 pub mod Splitting
 pub mod Joining

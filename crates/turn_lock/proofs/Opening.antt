@@ -1,5 +1,5 @@
 -- The rule at the beginning, and what it says at the end.
-use Rattle.std.proofs.Common.{◌≡◌, ℕ, zero, suc, ◌==◌, ◌||◌, List, [], ◌∷◌, ◌++◌, refl, ap, sym, ◌∙◌, subst, arith, true, false, inl, ◌⊎◌, Option, Some, IsPermutation}
+use Rattle.std.proofs.Common.{◌≡◌, ℕ, zero, suc, ◌==◌, ◌||◌, List, [], ◌∷◌, ◌++◌, length, refl, ap, sym, ◌∙◌, subst, arith, true, false, inl, ◌⊎◌, Option, Some, IsPermutation}
 use Rattle.std.proofs.lemmas.List.{append-nil}
 use Rattle.std.proofs.lemmas.List.Sorted.{IsPermutation-refl, IsPermutation-sym, IsPermutation-trans}
 use Rattle.std.proofs.Math.Dec.{eqb-suc-zero}
@@ -27,10 +27,10 @@ module _ {F E J : Type 0} where
   root_first v (suc k) live empty = rw (empty, eqb-suc-zero k) refl
 
 module _ {S F E J : Type 0} (fixed : S → F) (entries : S → List E) (jobs : S → List J) where
-  pub begins : (value : S) → jobs value ≡ [] → IsKept fixed entries jobs (fixed value) (opening (0 ∷ []) (Some value ∷ []) (root_view {J = J} (fixed value) (entries value)))
-  begins value idle = let v : View F E J = root_view (fixed value) (entries value) in record {
+  pub begins : (value : S) (count : ℕ) → jobs value ≡ [] → length (entries value) ≡ count → IsKept fixed entries jobs (fixed value) (opening (0 ∷ count ∷ []) (Some value ∷ []) (root_view {J = J} (fixed value) (entries value)))
+  begins value count idle counted = let v : View F E J = root_view (fixed value) (entries value) in record {
     history = entries value;
-    word = refl;
+    words = ap (λ (n : ℕ). 0 ∷ n ∷ []) (sym counted);
     one = omega arith;
     seen = only (λ j u. IsPrefix u.seen (entries value) × IsPrefix u.told u.seen) v (begins_itself (entries value), (entries value, refl));
     longest = (0, v, refl, refl, refl);

@@ -1,5 +1,5 @@
 -- The rule that a turnstile keeps between any two steps of any threads.
--- The table has one word and one slot. Seats are numbered as they were made, and so are their views. A view is live
+-- The table has two words and one slot. Seats are numbered as they were made, and so are their views. A view is live
 -- until a join spends it.
 use Rattle.std.specs.Prelude.{◌≡◌, ◌≢◌, ℕ, ◌≤◌, ◌==◌, ◌||◌, ◌⊎◌, true, List, [], ◌∷◌, length, Option, Some, IsPermutation, AllPairs}
 use mathlib.Core.Option.{none, some}
@@ -18,8 +18,9 @@ module _ {S F E J : Type 0} (fixed : S → F) (entries : S → List E) (jobs : S
   pub record IsKept (start : F) (s : State (Option S) (View F E J)) : Type 0 where
     -- the longest list of entries that a live view has seen
     pub history : List E
-    -- 1. The word is 1 where just one view holds the turn, 0 where none does, and nothing else. There is no other word
-    pub word : s.words ≡ turns s.views ∷ []
+    -- 1. The first word is 1 where just one view holds the turn, 0 where none does, and nothing else. The second is the
+    -- number of entries of the history. There is no other word
+    pub words : s.words ≡ turns s.views ∷ length history ∷ []
     pub one : turns s.views ≤ 1
     -- 2. What the views have seen are beginnings of the history. Who holds the turn has seen all of it, and knows the
     -- jobs of the others. What the root was told at its last join begins what it has seen

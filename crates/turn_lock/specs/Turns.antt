@@ -1,5 +1,5 @@
 -- What the calls of a turnstile say of a seat's view: v before, w after.
-use Rattle.std.specs.Prelude.{◌≡◌, ◌+◌, true, false, List, [], ◌∷◌, ◌++◌, IsPermutation, Contains}
+use Rattle.std.specs.Prelude.{◌≡◌, ℕ, ◌+◌, true, false, List, [], ◌∷◌, ◌++◌, length, IsPermutation, Contains}
 use mathlib.Core.List.{IsPrefix}
 use Rattle.turn_lock.specs.declared.view.View.{View}
 use Rattle.turn_lock.specs.Views.{without, longer}
@@ -30,6 +30,14 @@ module _ {F E J : Type 0} where
     pub is : w ≡ record v { seen = longer v.seen u.seen; others = without u.number v.others; told = [] }
     pub own : IsPrefix v.seen w.seen
     pub other : IsPrefix u.seen w.seen
+
+  -- the seat has looked: it has seen a history with so many entries, which begins with all that it had seen
+  pub record Looks (v : View F E J) (count : ℕ) (w : View F E J) : Type 0 where
+    pub is : w ≡ record v { seen = w.seen }
+    pub begins : IsPrefix v.seen w.seen
+    pub many : length w.seen ≡ count
+    -- where the root is alone, nobody added to it
+    pub alone : v.number ≡ 0 → v.others ≡ [] → w.seen ≡ v.seen
 
 module _ {S F E J : Type 0} (fixed : S → F) (entries : S → List E) (jobs : S → List J) (start : F) where
   -- the seat has the turn, and the value

@@ -1,6 +1,6 @@
 //! The steps of threads at a turnstile, as the table sees them.
 // The rule of the table, and what each step on it tells.
-ghost use Rattle.turn_lock.specs.Steps.{Claims, Releases, Compares, joining};
+ghost use Rattle.turn_lock.specs.Steps.{Claims, Tells, Releases, Counts, Compares, joining};
 ghost use Rattle.turn_lock.specs.Turns.{splitting, split_off};
 ghost use Rattle.turn_lock.specs.Views.{spent};
 
@@ -21,14 +21,21 @@ impl<S: Kept> TableRule<Option<S>, View<S::Fixed, S::Entry, S::Job>, Snapshot<S>
     ghost first = { λ key. root_view (S.fixed key.value) (S.entries key.value) };
 }
 
-// The word goes from 0 to 1, where it was 0.
+// The first word goes from 0 to 1, where it was 0.
 pub(crate) struct Claim;
 
 impl<S: Kept> Play<Option<S>, View<S::Fixed, S::Entry, S::Job>> for Claim {
     ghost then = { Claims S.fixed S.entries S.jobs };
 }
 
-// The word goes from 1 to 0.
+// The second word becomes the number of entries of the value that the holder leaves.
+pub(crate) struct Tell;
+
+impl<S: Kept> Play<Option<S>, View<S::Fixed, S::Entry, S::Job>> for Tell {
+    ghost then = { Tells S.entries };
+}
+
+// The first word goes from 1 to 0.
 pub(crate) struct Release;
 
 impl<S: Kept> Play<Option<S>, View<S::Fixed, S::Entry, S::Job>> for Release {
@@ -53,7 +60,14 @@ impl<F, E, J> Join<View<F, E, J>> for Glue {
     ghost spent = { spent };
 }
 
-// A look at the word, by which the root learns that of the two histories of a join the shorter begins the longer.
+// A look at the second word, by which the seat learns how many entries the history has.
+pub(crate) struct Count;
+
+impl<S, F, E, J> Play<Option<S>, View<F, E, J>> for Count {
+    ghost then = { Counts };
+}
+
+// A look at the first word, by which the root learns that of the two histories of a join the shorter begins the longer.
 pub(crate) struct Look;
 
 impl<S, F, E, J> Play<Option<S>, View<F, E, J>> for Look {

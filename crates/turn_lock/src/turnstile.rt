@@ -1,4 +1,4 @@
-//! The turnstile: enter, leave, split, join and close.
+//! The turnstile: enter, leave, count, split, join and close.
 ghost use Rattle.std.specs.Prelude.{◌≡◌};
 
 use crate::kept::Kept;
@@ -8,11 +8,12 @@ use atomic_table::Table;
 use std::alloc::Global;
 use std::snapshot::Snapshot;
 
+mod looks;
 mod seats;
 mod turns;
 
 /// A lock whose holder learns the history of the value that it keeps. It is spent by `close`.
 pub struct Turnstile<S: Kept> {
     table: Table<Option<S>, View<S::Fixed, S::Entry, S::Job>, Snapshot<S>, Rule, Global>,
-    ghost sized: { (table.shared.table_id.words ≡ 1) × (table.shared.table_id.slots ≡ 1) },
+    ghost sized: { (table.shared.table_id.words ≡ 2) × (table.shared.table_id.slots ≡ 1) },
 }

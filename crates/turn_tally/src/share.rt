@@ -28,7 +28,8 @@ pub fn add_both<R: Threads + Wait + Sync>(
     ensures first { IfSome result.1 (λ place. slice_get result.0.entries.items place ≡ Some x) }
     ensures second { IfSome result.2 (λ place. slice_get result.0.entries.items place ≡ Some y) }
 {
-    let (turnstile, mut root) = match Turnstile::new(alloc, tally) {
+    let count = tally.count();
+    let (turnstile, mut root) = match Turnstile::new(alloc, tally, count) {
         Ok(made) => made,
         Err(tally) => return (tally, None, None),
     };

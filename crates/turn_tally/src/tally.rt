@@ -1,5 +1,5 @@
 //! Numbers that threads add, with tickets.
-ghost use Rattle.std.specs.Prelude.{◌≡◌, [], ◌∷◌, ◌++◌, IsPermutation, Contains, OnErr, IfOk, MatchBool, vec_len};
+ghost use Rattle.std.specs.Prelude.{◌≡◌, [], ◌∷◌, ◌++◌, IsPermutation, Contains, OnErr, IfOk, MatchBool, length, vec_len};
 ghost use mathlib.Core.List.{IsPrefix};
 
 use std::alloc::{AllocError, Global};
@@ -50,6 +50,13 @@ impl Tally {
         ensures { result.now ≡ self.now.entries.items }
     {
         self.entries.as_slice()
+    }
+
+    /// How many numbers were added.
+    pub fn count(&self) -> u64
+        ensures { result ≡ length self.now.entries.items }
+    {
+        self.entries.len() as u64
     }
 
     /// Adds a number, and tells its place.

@@ -26,7 +26,8 @@ pub fn add_turn<R: Wait>(
 {
     let mut held = turnstile.enter(rt, seat);
     let place = held.value.add(entry);
-    turnstile.leave(seat, held);
+    let count = held.value.count();
+    turnstile.leave(seat, held, count);
     place
 }
 
@@ -47,7 +48,8 @@ pub fn lend_turn<R: Wait>(
 {
     let mut held = turnstile.enter(rt, seat);
     let lent = held.value.lend(ticket);
-    turnstile.leave(seat, held);
+    let count = held.value.count();
+    turnstile.leave(seat, held, count);
     lent
 }
 
@@ -66,7 +68,8 @@ pub fn return_turn<R: Wait>(
 {
     let mut held = turnstile.enter(rt, seat);
     held.value.take_back(ticket);
-    turnstile.leave(seat, held);
+    let count = held.value.count();
+    turnstile.leave(seat, held, count);
 }
 
 /// Adds the numbers `from`, `from + 1` and so on, each in a turn of its own, and tells their places.

@@ -1,5 +1,5 @@
 //! Making a turnstile, splitting and joining its seats, and closing it.
-ghost use Rattle.std.specs.Prelude.{◌≡◌, [], false, IfOk, IfErr, IsPermutation};
+ghost use Rattle.std.specs.Prelude.{◌≡◌, [], false, IfOk, IfErr, IsPermutation, length};
 ghost use Rattle.turn_lock.specs.Rule.{NoneTwice};
 ghost use Rattle.turn_lock.specs.Seats.{view, fixed_of, IsSeatOf};
 ghost use Rattle.turn_lock.specs.Views.{root_view};
@@ -14,9 +14,11 @@ use std::alloc::Global;
 use std::snapshot::Snapshot;
 
 impl<S: Kept> Turnstile<S> {
-    /// A turnstile round the value, and its root. `Err` comes only for want of memory, and gives the value back.
-    pub fn new(alloc: Global, value: S) -> Result<(Turnstile<S>, Seat<S>), S>
-        requires { S.jobs value ≡ [] }
+    /// A turnstile round the value, which has so many entries, and its root. `Err` comes only for want of memory, and
+    /// gives the value back.
+    pub fn new(alloc: Global, value: S, count: u64) -> Result<(Turnstile<S>, Seat<S>), S>
+        requires idle { S.jobs value ≡ [] }
+        requires count { length (S.entries value) ≡ count }
         ensures made { IfOk result (λ t. IsSeatOf S.fixed t.0 t.1 × (fixed_of S.fixed t.0 ≡ S.fixed value)) }
         ensures root { IfOk result (λ t. view t.1 ≡ root_view (S.fixed value) (S.entries value)) }
         ensures back { IfErr result (λ same. same ≡ value) }
@@ -26,7 +28,7 @@ impl<S: Kept> Turnstile<S> {
             return Err(value);
         };
         slots.push_reserved(Some(value));
-        match Table::new(alloc, &[0], slots, &about) {
+        match Table::new(alloc, &[0, count], slots, &about) {
             Ok((table, place)) => Ok((Turnstile { table }, Seat { place })),
             Err(Refused { mut slots }) => {
                 let slot = slots.pop();

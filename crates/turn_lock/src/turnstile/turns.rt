@@ -1,11 +1,11 @@
 //! Taking turns.
-ghost use Rattle.std.specs.Prelude.{◌≡◌, true, false, MatchBool};
+ghost use Rattle.std.specs.Prelude.{◌≡◌, true, false, MatchBool, length};
 ghost use Rattle.turn_lock.specs.Seats.{view, fixed_of, Carries, IsOf, IsSeatOf};
 ghost use Rattle.turn_lock.specs.Turns.{Enters, MayLeave, Leaves};
 
 use super::Turnstile;
 use crate::kept::Kept;
-use crate::plays::{Claim, Release};
+use crate::plays::{Claim, Release, Tell};
 use crate::seat::{Held, Seat};
 use std::marker::PhantomData;
 use std::sync::Wait;
@@ -31,16 +31,18 @@ impl<S: Kept> Turnstile<S> {
         unreachable!()
     }
 
-    /// Puts the value back, and gives up the turn.
-    pub fn leave(&self, seat: &mut Seat<S>, held: Held<S>)
+    /// Puts the value back, which has so many entries, and gives up the turn.
+    pub fn leave(&self, seat: &mut Seat<S>, held: Held<S>, count: u64)
         requires seat { IsSeatOf S.fixed self.now seat.old }
         requires turn { (view seat.old).holds ≡ true }
         requires value { MayLeave S.fixed S.entries S.jobs (fixed_of S.fixed self.now) (view seat.old) held.value }
+        requires count { length (S.entries held.value) ≡ count }
         ensures seat { IsSeatOf S.fixed self.now seat.new }
         ensures turn { Leaves S.entries S.jobs (view seat.old) held.value (view seat.new) }
     {
         let Held { value, turn: _ } = held;
         self.put_back(seat, value);
+        self.tell(seat, count);
         self.release(seat);
         self.table.shared.wake_one(0);
     }
@@ -85,12 +87,27 @@ impl<S: Kept> Turnstile<S> {
         let None = empty else { unreachable!() };
     }
 
-    // Gives up the turn, and the slot with the value.
+    // Tells how many entries the value in the slot has.
+    fn tell(&self, seat: &mut Seat<S>, count: u64)
+        requires seat { IsOf S.fixed self.now seat.old }
+        requires turn { (view seat.old).holds ≡ true }
+        requires value { (value : S) × Carries seat.old value
+            × MayLeave S.fixed S.entries S.jobs (fixed_of S.fixed self.now) (view seat.old) value
+            × (length (S.entries value) ≡ count) }
+        ensures seat { IsOf S.fixed self.now seat.new }
+        ensures value { (value : S) → Carries seat.old value →
+            Carries seat.new value × (view seat.new ≡ record (view seat.old) { seen = S.entries value }) }
+    {
+        self.table.shared.store::<Tell>(&mut seat.place, 1, count);
+    }
+
+    // Gives up the turn, and the slot with the value, whose entries were told.
     fn release(&self, seat: &mut Seat<S>)
         requires seat { IsOf S.fixed self.now seat.old }
         requires turn { (view seat.old).holds ≡ true }
         requires value { (value : S) × Carries seat.old value
-            × MayLeave S.fixed S.entries S.jobs (fixed_of S.fixed self.now) (view seat.old) value }
+            × MayLeave S.fixed S.entries S.jobs (fixed_of S.fixed self.now) (view seat.old) value
+            × ((view seat.old).seen ≡ S.entries value) }
         ensures seat { IsSeatOf S.fixed self.now seat.new }
         ensures turn { (value : S) → Carries seat.old value →
             Leaves S.entries S.jobs (view seat.old) value (view seat.new) }

@@ -1,5 +1,5 @@
 use Rattle.shared_camera.proofs.Outs.{none-out}
 use Rattle.shared_camera.proofs.shared.Shared.new.Goals as goal
 
-pub new-requires : goal.new-requires
-new-requires c = none-out c.args.service.script c.args.service.history c.is_a_run.ensures.run c.requires
+pub new-requires-clause-idle : goal.new-requires-clause-idle
+new-requires-clause-idle c = none-out c.args.service.script c.args.service.history c.is_a_run.ensures.run c.requires
