@@ -1,0 +1,4 @@
+pub mod Fronts
+pub mod Names
+pub mod Hexadecimal
+pub mod Drafts

@@ -1,0 +1,20 @@
+//! Hal logs read from their text: what a text means as a hal log, and `read`, which finds it.
+#![tactic(auto)]
+
+mod begun;
+mod call;
+mod callback;
+mod cause;
+mod kind;
+mod line;
+mod list;
+mod log;
+mod reading;
+mod refusal;
+mod value;
+mod word;
+
+pub use cause::{Cause, LogRefused};
+pub use log::HalLog;
+pub use reading::{HAL_BYTES, read};
+pub use refusal::refused_text;
