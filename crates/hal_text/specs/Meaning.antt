@@ -62,3 +62,8 @@ log_from before n (line ∷ lines) = at_line n (after n before line) (λ next. l
 -- the log that a text means, or the first line that has a cause, counted from 1, and the first of its causes
 unfoldable pub log_of : List ℕ → Result HalLog LogRefused
 log_of text = if nat_lt text_limit (length text) then Err (Bad 0 TooLong) else log_from None 1 (lines_of text)
+
+-- the partial result count and the events of what a text means, without the numbers of lines
+abbrev pub said : Result HalLog LogRefused → Result (ℕ × List HalEvent) LogRefused
+said (Ok log) = Ok (log.parts, log.events)
+said (Err refused) = Err refused
