@@ -6,7 +6,7 @@ use Rattle.hal_model.specs.declared.event.ErrorName.{ErrorName}
 use Rattle.hal_model.specs.declared.event.HalError.{HalError}
 use Rattle.hal_model.specs.declared.event.HalError.TheVariants.{NoDevice, Other}
 use Rattle.hal_model.specs.declared.event.HalEvent.{HalEvent}
-use Rattle.hal_model.specs.declared.event.HalEvent.TheVariants.{OpenBegin, OpenOk, OpenError, InitBegin, InitOk, InitError, TemplateBegin, TemplateOk, TemplateNull, ConfigureBegin, ConfigureOk, ConfigureError, RequestBegin, RequestOk, RequestError, Shutter, ErrorRequest, ErrorResult, ErrorBuffer, ErrorDevice, Results, FlushBegin, FlushOk, FlushError, CloseBegin, CloseEnd}
+use Rattle.hal_model.specs.declared.event.HalEvent.TheVariants.{OpenOk, OpenError, InitOk, InitError, TemplateBegin, TemplateOk, TemplateNull, ConfigureBegin, ConfigureOk, ConfigureError, RequestBegin, RequestOk, RequestError, Shutter, ErrorRequest, ErrorResult, ErrorBuffer, Results, FlushOk, FlushError, CloseEnd}
 use Rattle.hal_model.specs.declared.event.HalFence.{HalFence}
 use Rattle.hal_model.specs.declared.event.HalFence.TheVariants as fence
 use Rattle.hal_model.specs.declared.event.HalFormat.{HalFormat}

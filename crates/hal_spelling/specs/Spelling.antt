@@ -1,5 +1,5 @@
 -- The one spelling of a hal log. (docs/FORMATS.md, hal log)
-use Rattle.std.specs.Prelude.{ℕ, ◌==◌, Bool, true, false, List, [], ◌∷◌, ◌++◌, take, map, Option, Some, None, option_to_list, if◌then◌else◌, codes, decimal}
+use Rattle.std.specs.Prelude.{ℕ, ◌==◌, Bool, true, List, [], ◌∷◌, ◌++◌, take, map, Option, Some, None, option_to_list, if◌then◌else◌, codes, decimal}
 use Rattle.std.specs.Fmt.{digits}
 use Rattle.std.specs.List.{flat_map}
 use Rattle.hal_model.specs.declared.event.Direction.{Direction}

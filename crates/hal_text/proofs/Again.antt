@@ -1,8 +1,7 @@
 -- The text that is spelled is read again.
-use Rattle.std.proofs.Common.{◌≡◌, ℕ, ◌+◌, ◌<◌, ◌≤◌, ◌^◌, Bool, true, false, ◌&&◌, List, [], ◌∷◌, ◌++◌, length, Option, None, Some, Ok, refl, sym, ap, ◌∙◌, arith, append_assoc, leb}
-use Rattle.std.specs.Prelude.{codes, decimal}
-use Rattle.std.specs.List.{flat_map, join_by, list_all}
-use Rattle.std.proofs.lemmas.Bool.{and_parts, and_from, leb-true, le-ltb}
+use Rattle.std.proofs.Common.{◌≡◌, ℕ, ◌+◌, ◌<◌, ◌≤◌, true, List, [], ◌∷◌, ◌++◌, length, Option, None, Some, Ok, refl, sym, ap, ◌∙◌, arith, append_assoc, leb}
+use Rattle.std.specs.List.{flat_map, list_all}
+use Rattle.std.proofs.lemmas.Bool.{and_parts, leb-true, le-ltb}
 use Rattle.std.proofs.lemmas.Bool.Decides.{nat_tests}
 use Rattle.std.proofs.lemmas.List.{append-nil}
 use Rattle.hal_model.specs.declared.event.HalEvent.{HalEvent}
@@ -12,7 +11,7 @@ use Rattle.hal_spelling.specs.Spelling.{event_line, event_words, first_words, te
 use Rattle.hal_text.specs.declared.log.HalLog.{HalLog}
 use Rattle.hal_text.specs.Lines.{count_of}
 use Rattle.hal_text.specs.Meaning.{added, after, after_line, after_words, empty_log, log_from, log_of, said, text_limit}
-use Rattle.hal_text.specs.Values.{◌>>=◌, count}
+use Rattle.hal_text.specs.Values.{◌>>=◌}
 use Rattle.hal_text.proofs.AgainLines.{event-again, event-are-words, event_by_words}
 use Rattle.line_reading.specs.Lines.{is_printable}
 use Rattle.text_parts.specs.Lines.{line_text, lines_of}

@@ -1,10 +1,10 @@
 -- The words that are spelled are read again: numbers, names, streams, targets and buffers that come back.
-use Rattle.std.proofs.Common.{◌≡◌, ℕ, zero, suc, ◌-◌, ◌<◌, ◌≤◌, ◌^◌, Bool, true, false, ◌&&◌, not, cond, eqb, ltb, leb, List, [], ◌∷◌, ◌++◌, length, take, drop, Option, None, Some, Ok, refl, sym, ap, ◌∙◌, inl, inr, arith}
+use Rattle.std.proofs.Common.{◌≡◌, ℕ, zero, suc, ◌-◌, ◌<◌, ◌≤◌, ◌^◌, Bool, true, false, ◌&&◌, not, cond, eqb, ltb, leb, List, [], ◌∷◌, ◌++◌, length, take, drop, Option, None, Some, Ok, refl, sym, ap, ◌∙◌, arith}
 use Rattle.std.specs.Prelude.{bytes_eq, codes, decimal, replicate}
 use Rattle.std.specs.Char.{is_ascii_digit}
-use Rattle.std.specs.Fmt.{digit_glyph, digits}
+use Rattle.std.specs.Fmt.{digit_glyph}
 use Rattle.std.specs.List.{list_all}
-use Rattle.std.proofs.lemmas.Bool.{and_parts, and_from, cases_Bool, eqb-true, ltb-true, leb-true, not-true}
+use Rattle.std.proofs.lemmas.Bool.{and_parts, eqb-true, ltb-true, leb-true, not-true}
 use Rattle.std.proofs.lemmas.Bool.Decides.{nat_tests}
 use Rattle.std.proofs.lemmas.List.{append-nil, length-drop, length-take, take-append-drop}
 use Rattle.basic_lemmas.proofs.Lists.{all-where}
@@ -26,7 +26,7 @@ use Rattle.hal_model.specs.declared.event.StreamMax.{StreamMax}
 use Rattle.hal_spelling.specs.Fits.{error_fits, is_error_name, is_format_typed, is_letter, is_max_typed, is_release_typed, is_returned_typed, is_small, is_small_or_none, is_stream_typed, is_target_typed, name_fits}
 use Rattle.hal_spelling.specs.Spelling.{acquire_text, direction_text, error_text, format_text, max_text, number_or, release_text, returned_text, rotation_text, size_text, status_text, stream_text, target_text}
 use Rattle.hal_text.specs.Lines.{is_mark}
-use Rattle.hal_text.specs.Values.{acquire, acquired_of, behind, both, direction_by, error_of, fences_by, format_of, known, large, max_of, release, returned_of, rotation, size_by, small, status_of, stream_of, target_of, turned_by}
+use Rattle.hal_text.specs.Values.{acquire, direction_by, error_of, fences_by, format_of, known, large, max_of, release, returned_of, size_by, small, status_of, stream_of, target_of, turned_by}
 use Rattle.hal_text.proofs.HexadecimalAgain.{hexadecimal-again, hexadecimal-all}
 use Rattle.text_parts.specs.Cuts.{parts_at}
 use Rattle.text_parts.specs.Words.{is_plain, is_word}
@@ -414,10 +414,10 @@ error-again (Other name) h =
     let f = fits-name name h in
     let n : length (take name.count name.letters) ≡ name.count = omega (arith, length-take name.count name.letters, f.long, f.short) in
     let rest : drop name.count name.letters ≡ replicate (15 - name.count) 0 =
-        all-zero (drop name.count name.letters) f.zeros ∙ ap (λ k. replicate k 0) (omega (arith, length-drop name.count name.letters, f.long)) in
+    all-zero (drop name.count name.letters) f.zeros ∙ ap (λ k. replicate k 0) (omega (arith, length-drop name.count name.letters, f.long)) in
     let padded : take name.count name.letters ++ drop (length (take name.count name.letters)) (replicate 15 0) ≡ name.letters =
-        ap (λ k. take name.count name.letters ++ k) (drop-zeros (length (take name.count name.letters)) 15 ∙ ap (λ k. replicate (15 - k) 0) n ∙ sym rest)
-        ∙ take-append-drop name.count name.letters in
+    ap (λ k. take name.count name.letters ++ k) (drop-zeros (length (take name.count name.letters)) 15 ∙ ap (λ k. replicate (15 - k) 0) n ∙ sym rest)
+    ∙ take-append-drop name.count name.letters in
     rw (f.named, f.other) (ap Ok (other-same name _ _ n padded))
 
 letter-plain : (b : ℕ) → is_letter b ≡ true → is_plain b ≡ true

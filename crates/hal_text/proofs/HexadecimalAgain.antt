@@ -1,11 +1,10 @@
 -- What a hexadecimal number spells is that number.
-use Rattle.std.proofs.Common.{◌≡◌, ◌≢◌, ℕ, zero, suc, ◌+◌, ◌*◌, ◌/◌, ◌%◌, ◌<◌, ◌≤◌, ◌^◌, Bool, true, false, ◌&&◌, not, cond, eqb, ltb, leb, List, [], ◌∷◌, length, get_or, Ok, refl, sym, ap, ◌∙◌, inl, inr, arith}
+use Rattle.std.proofs.Common.{◌≡◌, ℕ, zero, suc, ◌+◌, ◌*◌, ◌/◌, ◌%◌, ◌<◌, ◌≤◌, ◌^◌, Bool, true, false, eqb, List, [], ◌∷◌, length, get_or, Ok, refl, ap, ◌∙◌, inl, inr, arith}
 use Rattle.std.specs.Char.{digit_value}
 use Rattle.std.specs.Fmt.{digit_glyph, digits, digits_onto}
 use Rattle.std.specs.List.{list_all}
 use Rattle.std.specs.Str.Parse.{digits_value, digits_value_after}
-use Rattle.std.proofs.Math.Nat.{pow-le-pow_right}
-use Rattle.std.proofs.lemmas.Bool.{and_parts, and_from, cases_Bool, cases_eq, eqb-true, ltb-true, le-leb, not-true}
+use Rattle.std.proofs.lemmas.Bool.{and_parts, and_from, cases_Bool, cases_eq, eqb-true, le-leb}
 use Rattle.std.proofs.lemmas.Bool.Decides.{nat_tests}
 use Rattle.hal_text.specs.Values.{hexadecimal, is_hexadecimal, is_hexadecimal_number}
 
@@ -71,9 +70,9 @@ onto-first (suc k) n acc l s = elim (cases_Bool (eqb (n / 16) 0)) [
       let z = eqb-true (n / 16) 0 t in
       rw t (glyph-some (n % 16) (omega arith) (omega (arith, z, s)))
   | inr f ↦ rw f (onto-first k (n / 16) (digit_glyph true (n % 16) ∷ acc) (omega (arith, l)) (elim (cases_eq (n / 16) 0) [
-      | inl e ↦ absurd (let k = rw e at f in cc)
-      | inr ne ↦ omega (arith, ne)
-    ]))
+    | inl e ↦ absurd (let k = rw e at f in cc)
+    | inr ne ↦ omega (arith, ne)
+  ]))
 ]
 
 number-from : (w : List ℕ) → list_all is_hexadecimal w ≡ true → length w ≤ 8 → 0 < length w → eqb (get_or w 0 0) 48 ≡ false → is_hexadecimal_number w ≡ true

@@ -1,10 +1,8 @@
 -- The name of an error, with zeros past it.
-use Rattle.std.proofs.Common.{◌≡◌, ℕ, zero, suc, ◌≤◌, Bool, true, false, ◌&&◌, not, eqb, leb, List, [], ◌∷◌, ◌++◌, length, take, drop, refl, ap, ◌∙◌, arith}
+use Rattle.std.proofs.Common.{◌≡◌, ℕ, zero, suc, ◌≤◌, Bool, true, false, eqb, leb, List, [], ◌∷◌, ◌++◌, length, take, drop, refl, ap, arith}
 use Rattle.std.specs.Prelude.{bytes_eq, codes, replicate}
 use Rattle.std.specs.List.{list_all}
-use Rattle.std.proofs.lemmas.Bool.{and_parts, and_from, leb-true, le-leb, eq-eqb}
-use Rattle.std.proofs.lemmas.Bool.Decides.{nat_tests}
-use Rattle.std.proofs.lemmas.Grind.{common_steps}
+use Rattle.std.proofs.lemmas.Bool.{and_parts, leb-true, eq-eqb}
 use Rattle.std.proofs.lemmas.List.{length-append, length-drop}
 use Rattle.hal_spelling.specs.Fits.{is_error_name, is_letter, name_fits}
 

@@ -1,6 +1,5 @@
 -- What a line means as an event, by its words. (docs/FORMATS.md, hal log)
 use Rattle.std.specs.Prelude.{ℕ, Bool, true, false, ◌&&◌, ◌||◌, List, [], ◌∷◌, length, nat_lt, Option, Some, None, Result, Ok, Err, if◌then◌else◌, codes, bytes_eq}
-use Rattle.hal_model.specs.declared.event.HalError.{HalError}
 use Rattle.hal_model.specs.declared.event.HalEvent.{HalEvent}
 use Rattle.hal_model.specs.declared.event.HalEvent.TheVariants.{OpenBegin, OpenOk, OpenError, InitBegin, InitOk, InitError, TemplateBegin, TemplateOk, TemplateNull, ConfigureBegin, ConfigureOk, ConfigureError, RequestBegin, RequestOk, RequestError, Shutter, ErrorRequest, ErrorResult, ErrorBuffer, ErrorDevice, Results, FlushBegin, FlushOk, FlushError, CloseBegin, CloseEnd}
 use Rattle.hal_spelling.specs.Fits.{part_limit}
@@ -12,7 +11,7 @@ use Rattle.hal_text.specs.declared.kind.TemplateStage.{TemplateStage}
 use Rattle.hal_text.specs.declared.kind.TemplateStage.TheVariants as stage
 use Rattle.hal_text.specs.declared.kind.Ending.{Ending}
 use Rattle.hal_text.specs.declared.kind.Ending.TheVariants as ending
-use Rattle.hal_text.specs.Values.{◌>>=◌, both, small, large, count, known, error_of, pack_of, settings_of, stream_of, max_of, target_of, returned_of, mode_of, buffer_of}
+use Rattle.hal_text.specs.Values.{◌>>=◌, both, small, large, count, error_of, pack_of, settings_of, stream_of, max_of, target_of, returned_of, mode_of, buffer_of}
 
 -- ---- so many words
 

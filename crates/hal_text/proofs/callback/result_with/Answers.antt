@@ -1,4 +1,4 @@
-use Rattle.std.proofs.Common.{◌≡◌, refl}
+use Rattle.std.proofs.Common.{refl}
 use Rattle.hal_text.proofs.callback.result_with.Goals as goal
 
 pub returns-in-Err-clause-value : goal.returns-in-Err-clause-value

@@ -1,6 +1,5 @@
-use Rattle.std.proofs.Common.{◌≡◌, true, ◌++◌, ◌∷◌, [], rules, arith}
+use Rattle.std.proofs.Common.{◌≡◌, true, rules, arith}
 use Rattle.hal_spelling.specs.Fits.{has_begin}
-use Rattle.hal_text.specs.Begun.{Knows}
 use Rattle.hal_text.proofs.Drafts.{knows-same, sound-more}
 use Rattle.hal_text.proofs.reading.with_event.Goals as goal
 

@@ -1,4 +1,4 @@
-use Rattle.std.proofs.Common.{◌≡◌, ◌∙◌}
+use Rattle.std.proofs.Common.{◌∙◌}
 use Rattle.hal_text.proofs.begun.Begun.has_begin.Goals as goal
 
 pub returns-in-RequestError : goal.returns-in-RequestError
