@@ -169,7 +169,8 @@ fn write_request(
     ensures text { OnOk result
         (string_bytes out.new ≡ string_bytes out.old
         ++ event_line (HalEvent.RequestBegin frame same targets.now no_handle bad_settings)) }
-    ensures typed { OnOk result (is_typed (HalEvent.RequestBegin frame same targets.now no_handle bad_settings) ≡ true) }
+    ensures typed { OnOk result
+        (is_typed (HalEvent.RequestBegin frame same targets.now no_handle bad_settings) ≡ true) }
 {
     write_settings(out, frame, same)?;
     write_targets(out, targets)?;

@@ -22,7 +22,8 @@ nothing x _ = Err BadLine
 
 -- the words that may stand behind those of a list, and are none of it
 abbrev pub is_mark : List ℕ → Bool
-is_mark word = bytes_eq word (codes "nohandle") || (bytes_eq word (codes "badsettings") || bytes_eq word (codes "input"))
+is_mark word =
+    bytes_eq word (codes "nohandle") || (bytes_eq word (codes "badsettings") || bytes_eq word (codes "input"))
 
 -- the words of a list, and the words from the first mark on
 abbrev pub before_marks : List (List ℕ) → List (List ℕ)

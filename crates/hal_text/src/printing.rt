@@ -9,8 +9,8 @@ use cam_types::NoMemory;
 use hal_model::HalEvent;
 use std::alloc::Global;
 
-/// The text of a valid log, as `docs/FORMATS.md` has it. `read` turns it back into the count and the events where it has
-/// at most 134,217,728 bytes.
+/// The text of a valid log, as `docs/FORMATS.md` has it. `read` turns it back into the count and the events where it
+/// has at most 134,217,728 bytes.
 pub fn print(alloc: Global, parts: u32, events: &[HalEvent]) -> Result<Vec<u8>, NoMemory>
     requires { IsTrue (is_valid parts events.now) }
     ensures text { IfOk result (λ text. text.items ≡ text_of parts events.now) }
