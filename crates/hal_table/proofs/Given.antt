@@ -2,6 +2,7 @@
 use Rattle.std.proofs.Common.{◌≡◌, ◌∙◌, ℕ, ◌==◌, Bool, true, false, ◌&&◌, ◌||◌, List, [], ◌∷◌, Option, Some, None, refl, sym, ap, inl, inr, arith, length, map, if◌then◌else◌}
 use Rattle.std.specs.List.{list_any}
 use Rattle.std.proofs.lemmas.Bool.{cases_Bool, false≢true}
+use Rattle.basic_lemmas.proofs.Lists.{map-same}
 use Rattle.hal_model.specs.declared.event.HalEvent.{HalEvent}
 use Rattle.hal_model.specs.declared.event.HalEvent.TheVariants.{ErrorBuffer, Results}
 use Rattle.hal_model.specs.declared.event.Pack.TheVariants.{Entries, Empty, Absent}
@@ -21,10 +22,6 @@ given-reads q n b (Results m j pack buffers input) = by (m == n)
     by false = refl
 given-reads q n b _ = refl
 
-same-map : {X Y : Type 0} (f g : X → Y) (xs : List X) → ((x : X) → f x ≡ g x) → map f xs ≡ map g xs
-same-map f g [] same = refl
-same-map f g (x ∷ xs) same = rw (same x, same-map f g xs same) refl
-
 own-map : {X : Type 0} (f : X → X) (xs : List X) → ((x : X) → f x ≡ x) → map f xs ≡ xs
 own-map f [] same = refl
 own-map f (x ∷ xs) same = rw (same x, own-map f xs same) refl
@@ -34,7 +31,7 @@ target-noted n flushing e t =
     rw (given-reads is_any n t.target.buffer e, given-reads is_filled n t.target.buffer e, given-reads is_good n t.target.buffer e, given-reads is_failed_buffer n t.target.buffer e, given-reads (λ r. is_any r && is_orderly_in flushing r) n t.target.buffer e, given-reads (λ r. is_not_filled r && is_orderly_in flushing r) n t.target.buffer e) refl
 
 pub targets_noted : (n : ℕ) (flushing : Bool) (e : HalEvent) (ts : List TargetRow) → map (with_buffers (buffers_of n e) flushing) ts ≡ map (note_target n flushing e) ts
-targets_noted n flushing e ts = same-map (with_buffers (buffers_of n e) flushing) (note_target n flushing e) ts (target-noted n flushing e)
+targets_noted n flushing e ts = map-same (with_buffers (buffers_of n e) flushing) (note_target n flushing e) ts (target-noted n flushing e)
 
 pub targets_kept : (n : ℕ) (flushing : Bool) (e : HalEvent) (ts : List TargetRow) → buffers_of n e ≡ [] → map (note_target n flushing e) ts ≡ ts
 targets_kept n flushing e ts none = sym (targets_noted n flushing e ts) ∙ rw none (own-map (with_buffers [] flushing) ts (λ t. refl))
@@ -68,7 +65,7 @@ part-kept n (Results m i Absent buffers input) p h = refl
 part-kept n _ p h = refl
 
 pub parts_noted : (n j : ℕ) (e : HalEvent) (ps : List PartRow) → part_in n e ≡ Some j → map (with_part j) ps ≡ map (note_part n e) ps
-parts_noted n j e ps h = same-map (with_part j) (note_part n e) ps (λ p. part-noted n j e p h)
+parts_noted n j e ps h = map-same (with_part j) (note_part n e) ps (λ p. part-noted n j e p h)
 
 pub parts_kept : (n : ℕ) (e : HalEvent) (ps : List PartRow) → part_in n e ≡ None → map (note_part n e) ps ≡ ps
 parts_kept n e ps h = own-map (note_part n e) ps (λ p. part-kept n e p h)

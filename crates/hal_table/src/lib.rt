@@ -6,8 +6,10 @@ pub mod buffer;
 mod device;
 mod order;
 pub mod row;
+mod rows;
+mod table;
 mod target;
 pub mod word;
 
-pub use order::Top;
+pub use table::HalTable;
 pub use target::has_number;
