@@ -1,6 +1,6 @@
-use Rattle.std.proofs.Common.{◌==◌, not, rules}
-use Rattle.std.proofs.lemmas.List.Elements.{filter_from_retain}
+use Rattle.std.proofs.Common.{rules}
+use Rattle.std.proofs.lemmas.Fn.{filter_same}
 use Rattle.hal_table.proofs.rows.drop_row.Goals as goal
 
 pub returns : goal.returns
-returns c = filter_from_retain _ (λ r. not (r.frame == c.args.frame)) (λ p x b q h. search rules) _ _ _ c.retain.ensures.filtered
+returns c = filter_same _ _ _ (λ x b f' k. search rules) _ _ c.retain.ensures.filtered
