@@ -13,7 +13,8 @@ use Rattle.hal_model.specs.declared.rule.Rule.TheVariants.{InitOrder, InitTwice,
 use Rattle.hal_model.specs.Callbacks.{has_acquire, is_fence_of, is_for, is_of, is_some_listed, is_unclear}
 use Rattle.hal_model.specs.Device.{is_idle_most, is_unnamed}
 use Rattle.hal_model.specs.Framework.{has_no_output, has_two_inputs, is_empty, is_past, is_twice_buffer, is_twice_stream, puts_out}
-use Rattle.hal_model.specs.Rules.{Fault, at, at_buffers, at_stream, at_targets, frame_in, ordered, plain}
+use Rattle.hal_model.specs.declared.rule.Fault.{Fault}
+use Rattle.hal_model.specs.Rules.{at, at_buffers, at_stream, at_targets, frame_in, ordered, plain}
 use Rattle.hal_model.specs.Words.{has_stream, is_absent, is_begin, is_callback, is_failed_buffer, is_filled, is_no_device, is_number, is_point, is_same_number}
 use Rattle.hal_rows.specs.declared.device.Device.{Device}
 use Rattle.hal_rows.specs.declared.row.Row.{Row}
