@@ -1,0 +1,5 @@
+//! The judge of hal logs.
+#![tactic(auto)]
+
+mod later;
+mod said;
