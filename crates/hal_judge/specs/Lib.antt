@@ -1,1 +1,1 @@
-pub mod Packs
+pub mod Onto

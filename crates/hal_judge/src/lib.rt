@@ -2,5 +2,9 @@
 #![tactic(auto)]
 
 mod back;
+mod fault;
 mod later;
+mod rule;
 mod said;
+
+pub use rule::breaks;

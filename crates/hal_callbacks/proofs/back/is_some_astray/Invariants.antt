@@ -1,6 +1,6 @@
 use Rattle.std.proofs.Common.{◌≡◌, [], drop, reverse, take}
 use Rattle.hal_rows.specs.Judged.{row_astray}
-use Rattle.hal_judge.proofs.back.is_some_astray.Given as goal
+use Rattle.hal_callbacks.proofs.back.is_some_astray.Given as goal
 
 -- none of the buffers so far is astray
 abbrev pub invariant-loop-place : goal.invariant-loop-place

@@ -16,7 +16,7 @@ use hal_table::{HalTable, has_number};
 // ---- status and acquire fence
 
 /// Whether the status is neither ok nor error.
-pub(crate) fn is_unclear(buffer: &Returned) -> bool
+pub fn is_unclear(buffer: &Returned) -> bool
     ensures { result ≡ is_unclear buffer.now }
 {
     !(is_filled(buffer) || is_failed_buffer(buffer))
@@ -29,7 +29,7 @@ fn is_some_unclear(buffers: &[Returned]) -> bool
 }
 
 /// Whether a buffer's status is neither ok nor error.
-pub(crate) fn buffer_status(event: &HalEvent, table: &HalTable) -> bool
+pub fn buffer_status(event: &HalEvent, table: &HalTable) -> bool
     ensures { result ≡ buffer_status_at event.now (state_of table.now) }
 {
     match event {
@@ -39,7 +39,7 @@ pub(crate) fn buffer_status(event: &HalEvent, table: &HalTable) -> bool
 }
 
 /// Whether the buffer carries an acquire fence.
-pub(crate) fn has_acquire(buffer: &Returned) -> bool
+pub fn has_acquire(buffer: &Returned) -> bool
     ensures { result ≡ has_acquire buffer.now }
 {
     buffer.acquire
@@ -52,7 +52,7 @@ fn is_some_acquire(buffers: &[Returned]) -> bool
 }
 
 /// Whether a buffer carries an acquire fence.
-pub(crate) fn acquire_fence(event: &HalEvent, table: &HalTable) -> bool
+pub fn acquire_fence(event: &HalEvent, table: &HalTable) -> bool
     ensures { result ≡ acquire_fence_at event.now (state_of table.now) }
 {
     match event {
@@ -96,7 +96,7 @@ fn is_earlier(earlier: &[Returned], buffer: &Returned) -> bool
 
 /// Whether the buffer isn't at the device, or stands before in the same result.
 #[tactic(auto, using(crate::proofs::Astray::any_turned))]
-pub(crate) fn is_astray(row: &Row, earlier: &[Returned], buffer: &Returned) -> bool
+pub fn is_astray(row: &Row, earlier: &[Returned], buffer: &Returned) -> bool
     ensures { result ≡ is_row_astray row.now (reverse earlier.now) buffer.now }
 {
     !is_at_device(row.targets.as_slice(), buffer) || is_earlier(earlier, buffer)
@@ -123,7 +123,7 @@ fn has_astray(buffers: &[Returned], row: Option<&Row>) -> bool
 }
 
 /// Whether a buffer comes back that isn't at the device.
-pub(crate) fn not_at_device(event: &HalEvent, table: &HalTable) -> bool
+pub fn not_at_device(event: &HalEvent, table: &HalTable) -> bool
     ensures { result ≡ not_at_device_at event.now (state_of table.now) }
 {
     match event {
@@ -146,7 +146,7 @@ fn is_overtaken_for(stream: Option<u32>, row: &Row, table: &HalTable) -> bool
 }
 
 /// Whether the buffer is ok, and an ok one of a later request is back.
-pub(crate) fn is_overtaken(row: &Row, table: &HalTable, buffer: &Returned) -> bool
+pub fn is_overtaken(row: &Row, table: &HalTable, buffer: &Returned) -> bool
     ensures { result ≡ is_row_overtaken (state_of table.now) row.now buffer.now }
 {
     is_filled(buffer) && is_overtaken_for(buffer.stream, row, table)
@@ -171,7 +171,7 @@ fn has_overtaken(buffers: &[Returned], row: Option<&Row>, table: &HalTable) -> b
 }
 
 /// Whether an ok buffer comes back after one of a later request.
-pub(crate) fn buffer_order(event: &HalEvent, table: &HalTable) -> bool
+pub fn buffer_order(event: &HalEvent, table: &HalTable) -> bool
     ensures { result ≡ buffer_order_at event.now (state_of table.now) }
 {
     match event {
@@ -198,7 +198,7 @@ fn is_disorderly_for(buffer: &Returned, row: &Row, table: &HalTable) -> bool
 }
 
 /// Whether the buffer comes out of the strict order.
-pub(crate) fn is_disorderly(row: &Row, table: &HalTable, buffer: &Returned) -> bool
+pub fn is_disorderly(row: &Row, table: &HalTable, buffer: &Returned) -> bool
     ensures { result ≡ is_row_disorderly (state_of table.now) row.now buffer.now }
 {
     is_orderly(table.device().flush.out, buffer) && is_disorderly_for(buffer, row, table)
@@ -223,7 +223,7 @@ fn has_disorderly(buffers: &[Returned], row: Option<&Row>, table: &HalTable) -> 
 }
 
 /// Whether a buffer comes back out of the strict order.
-pub(crate) fn failed_buffer_order(event: &HalEvent, table: &HalTable) -> bool
+pub fn failed_buffer_order(event: &HalEvent, table: &HalTable) -> bool
     ensures { result ≡ failed_buffer_order_at event.now (state_of table.now) }
 {
     match event {
@@ -246,7 +246,7 @@ fn is_announced_for(row: &Row, stream: Option<u32>) -> bool
 }
 
 /// Whether the buffer is ok that was said to be in error.
-pub(crate) fn is_wrongly_filled(row: &Row, buffer: &Returned) -> bool
+pub fn is_wrongly_filled(row: &Row, buffer: &Returned) -> bool
     ensures { result ≡ is_row_wrongly_filled row.now buffer.now }
 {
     is_filled(buffer) && (row.failed || is_announced_for(row, buffer.stream))
@@ -268,7 +268,7 @@ fn has_wrongly_filled(buffers: &[Returned], row: Option<&Row>) -> bool
 }
 
 /// Whether an ok buffer comes back that was said to be in error.
-pub(crate) fn good_after_error(event: &HalEvent, table: &HalTable) -> bool
+pub fn good_after_error(event: &HalEvent, table: &HalTable) -> bool
     ensures { result ≡ good_after_error_at event.now (state_of table.now) }
 {
     match event {
@@ -307,7 +307,7 @@ fn has_own_fence(targets: &[TargetRow], buffer: &Returned) -> bool
 }
 
 /// Whether the failed buffer has a release fence other than its acquire fence.
-pub(crate) fn is_wrongly_fenced(row: &Row, buffer: &Returned) -> bool
+pub fn is_wrongly_fenced(row: &Row, buffer: &Returned) -> bool
     ensures { result ≡ is_row_wrongly_fenced row.now buffer.now }
 {
     is_failed_buffer(buffer)
@@ -330,7 +330,7 @@ fn has_wrongly_fenced(buffers: &[Returned], row: Option<&Row>) -> bool
 }
 
 /// Whether a failed buffer comes back with a release fence other than its acquire fence.
-pub(crate) fn release_fence(event: &HalEvent, table: &HalTable) -> bool
+pub fn release_fence(event: &HalEvent, table: &HalTable) -> bool
     ensures { result ≡ release_fence_at event.now (state_of table.now) }
 {
     match event {

@@ -6,7 +6,7 @@ ghost use Rattle.hal_model.specs.Framework.{is_empty};
 ghost use Rattle.hal_model.specs.Words.{is_callback};
 ghost use Rattle.hal_rows.specs.Judged.{callback_after_close_at, callback_after_failure_at, empty_result_at, error_beside_request_error_at, error_for_good_buffer_at, error_twice_at, error_unknown_stream_at, is_last_word_at, is_row_back_good, is_row_for, is_row_part_seen, is_row_told_of, metadata_after_request_error_at, metadata_order_at, of_found, partial_number_at, partial_twice_at, request_error_late_at, shutter_after_request_error_at, shutter_twice_at, unknown_frame_at};
 ghost use Rattle.hal_rows.specs.State.{later_at};
-ghost use Rattle.hal_judge.specs.Packs.{is_absent_pack, is_entries, is_last_result, is_wrong_number};
+ghost use Rattle.hal_callbacks.specs.Packs.{is_absent_pack, is_entries, is_last_result, is_wrong_number};
 ghost use Rattle.hal_table.specs.State.{state_of};
 
 use crate::later::is_later;
@@ -52,7 +52,7 @@ fn is_without_buffer(buffers: &[Returned]) -> bool
 }
 
 /// Whether a callback names a request that isn't live, and isn't what may come last of one.
-pub(crate) fn unknown_frame(event: &HalEvent, table: &HalTable) -> bool
+pub fn unknown_frame(event: &HalEvent, table: &HalTable) -> bool
     ensures { result ≡ unknown_frame_at event.now (state_of table.now) }
 {
     table.names_idle(event) && !is_last_word(event, table)
@@ -73,14 +73,14 @@ fn is_callback(event: &HalEvent) -> bool
 }
 
 /// Whether a callback is made after a close returned.
-pub(crate) fn callback_after_close(event: &HalEvent, table: &HalTable) -> bool
+pub fn callback_after_close(event: &HalEvent, table: &HalTable) -> bool
     ensures { result ≡ callback_after_close_at event.now (state_of table.now) }
 {
     is_callback(event) && table.device().closed
 }
 
 /// Whether a callback is made after the device failed.
-pub(crate) fn callback_after_failure(event: &HalEvent, table: &HalTable) -> bool
+pub fn callback_after_failure(event: &HalEvent, table: &HalTable) -> bool
     ensures { result ≡ callback_after_failure_at event.now (state_of table.now) }
 {
     is_callback(event) && table.device().failed
@@ -109,7 +109,7 @@ fn is_failed(row: Option<&Row>) -> bool
 }
 
 /// Whether a shutter comes a second time.
-pub(crate) fn shutter_twice(event: &HalEvent, table: &HalTable) -> bool
+pub fn shutter_twice(event: &HalEvent, table: &HalTable) -> bool
     ensures { result ≡ shutter_twice_at event.now (state_of table.now) }
 {
     match event {
@@ -119,7 +119,7 @@ pub(crate) fn shutter_twice(event: &HalEvent, table: &HalTable) -> bool
 }
 
 /// Whether a shutter comes of a request that failed.
-pub(crate) fn shutter_after_request_error(event: &HalEvent, table: &HalTable) -> bool
+pub fn shutter_after_request_error(event: &HalEvent, table: &HalTable) -> bool
     ensures { result ≡ shutter_after_request_error_at event.now (state_of table.now) }
 {
     match event {
@@ -137,7 +137,7 @@ fn is_absent(pack: Pack) -> bool
 }
 
 /// Whether a result brings nothing.
-pub(crate) fn empty_result(event: &HalEvent, table: &HalTable) -> bool
+pub fn empty_result(event: &HalEvent, table: &HalTable) -> bool
     ensures { result ≡ empty_result_at event.now (state_of table.now) }
 {
     match event {
@@ -163,7 +163,7 @@ fn is_wrong_number(parts: u32, partial: u32, pack: Pack) -> bool
 }
 
 /// Whether a result has a number that it may not have.
-pub(crate) fn partial_number(parts: u32, event: &HalEvent, table: &HalTable) -> bool
+pub fn partial_number(parts: u32, event: &HalEvent, table: &HalTable) -> bool
     ensures { result ≡ partial_number_at parts event.now (state_of table.now) }
 {
     match event {
@@ -194,7 +194,7 @@ fn is_entries(pack: Pack) -> bool
 }
 
 /// Whether a part of metadata comes a second time.
-pub(crate) fn partial_twice(event: &HalEvent, table: &HalTable) -> bool
+pub fn partial_twice(event: &HalEvent, table: &HalTable) -> bool
     ensures { result ≡ partial_twice_at event.now (state_of table.now) }
 {
     match event {
@@ -209,7 +209,7 @@ pub(crate) fn partial_twice(event: &HalEvent, table: &HalTable) -> bool
 }
 
 /// Whether metadata comes of a request that failed.
-pub(crate) fn metadata_after_request_error(event: &HalEvent, table: &HalTable) -> bool
+pub fn metadata_after_request_error(event: &HalEvent, table: &HalTable) -> bool
     ensures { result ≡ metadata_after_request_error_at event.now (state_of table.now) }
 {
     match event {
@@ -234,7 +234,7 @@ fn is_part_overtaken(parts: u32, partial: u32, row: Option<&Row>, table: &HalTab
 }
 
 /// Whether the last part of a later request stands.
-pub(crate) fn metadata_order(parts: u32, event: &HalEvent, table: &HalTable) -> bool
+pub fn metadata_order(parts: u32, event: &HalEvent, table: &HalTable) -> bool
     ensures { result ≡ metadata_order_at parts event.now (state_of table.now) }
 {
     match event {
@@ -298,7 +298,7 @@ fn has_result_error(row: Option<&Row>) -> bool
 }
 
 /// Whether an error comes a second time.
-pub(crate) fn error_twice(event: &HalEvent, table: &HalTable) -> bool
+pub fn error_twice(event: &HalEvent, table: &HalTable) -> bool
     ensures { result ≡ error_twice_at event.now (state_of table.now) }
 {
     match event {
@@ -310,7 +310,7 @@ pub(crate) fn error_twice(event: &HalEvent, table: &HalTable) -> bool
 }
 
 /// Whether an error comes of a part of a request that failed.
-pub(crate) fn error_beside_request_error(event: &HalEvent, table: &HalTable) -> bool
+pub fn error_beside_request_error(event: &HalEvent, table: &HalTable) -> bool
     ensures { result ≡ error_beside_request_error_at event.now (state_of table.now) }
 {
     match event {
@@ -330,7 +330,7 @@ fn is_begun_well(row: Option<&Row>) -> bool
 }
 
 /// Whether a request fails of which something good or another error stands.
-pub(crate) fn request_error_late(event: &HalEvent, table: &HalTable) -> bool
+pub fn request_error_late(event: &HalEvent, table: &HalTable) -> bool
     ensures { result ≡ request_error_late_at event.now (state_of table.now) }
 {
     match event {
@@ -357,7 +357,7 @@ fn is_back_good(stream: Option<u32>, row: Option<&Row>) -> bool
 }
 
 /// Whether an error comes of a buffer that is back good.
-pub(crate) fn error_for_good_buffer(event: &HalEvent, table: &HalTable) -> bool
+pub fn error_for_good_buffer(event: &HalEvent, table: &HalTable) -> bool
     ensures { result ≡ error_for_good_buffer_at event.now (state_of table.now) }
 {
     match event {
@@ -376,7 +376,7 @@ fn is_without_target_for(stream: Option<u32>, row: Option<&Row>) -> bool
 }
 
 /// Whether an error comes of a stream of which the request has no buffer.
-pub(crate) fn error_unknown_stream(event: &HalEvent, table: &HalTable) -> bool
+pub fn error_unknown_stream(event: &HalEvent, table: &HalTable) -> bool
     ensures { result ≡ error_unknown_stream_at event.now (state_of table.now) }
 {
     match event {
