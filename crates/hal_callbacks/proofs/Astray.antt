@@ -34,12 +34,3 @@ any_turned p (x ∷ xs) =
     by true false = refl
     by false true = refl
     by false false = refl
-
--- one more buffer
-pub astray_from : (r : Row) (bs : List Returned) (i : ℕ) (d : Returned) → i < length bs → row_astray r (reverse (take i bs)) (drop i bs) ≡ (if is_row_astray r (reverse (take i bs)) (get_or bs i d) then (get_or bs i d).stream ∷ row_astray r (reverse (take (i + 1) bs)) (drop (i + 1) bs) else row_astray r (reverse (take (i + 1) bs)) (drop (i + 1) bs))
-astray_from r bs i d l =
-    let s : i + 1 ≡ suc i = omega arith in
-    rw (s, drop-cons bs i d l, take-suc bs i d l, reverse-append (take i bs) (get_or bs i d ∷ [])) refl
-
-pub astray_none : (r : Row) (bs : List Returned) (i : ℕ) (d : Returned) → i < length bs → is_row_astray r (reverse (take i bs)) (get_or bs i d) ≡ false → row_astray r (reverse (take i bs)) (drop i bs) ≡ row_astray r (reverse (take (i + 1) bs)) (drop (i + 1) bs)
-astray_none r bs i d l no' = astray_from r bs i d l ∙ rw no' refl

@@ -1,3 +1,3 @@
-pub mod Astray
 pub mod Faults
-pub mod Packed
+pub mod Ordered
+pub mod Reported

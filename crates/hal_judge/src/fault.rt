@@ -1,11 +1,12 @@
 //! What an event is at fault in that breaks a rule.
-ghost use Rattle.std.specs.Prelude.{◌≡◌, ◌==◌, ◌&&◌, ◌∷◌, [], ◌++◌, None, Some, filter, map, not, option_copied, IfOk};
-ghost use Rattle.hal_model.specs.Rules.{at, at_buffers, at_stream, at_targets, frame_in, plain};
+ghost use Rattle.std.specs.Prelude.{◌≡◌, ◌==◌, ◌&&◌, ◌∷◌, [], ◌++◌, None, Some, filter, map, not, option_copied, IfOk, OnOk, if◌then◌else◌};
+ghost use Rattle.hal_model.specs.Rules.{at, at_buffers, at_frames, at_stream, at_targets, frame_in, plain};
 ghost use Rattle.hal_model.specs.Callbacks.{has_acquire, is_unclear};
 ghost use Rattle.hal_model.specs.Device.{is_idle_most, is_unnamed};
 ghost use Rattle.hal_model.specs.Framework.{is_twice_stream};
 ghost use Rattle.hal_rows.specs.Judged.{at_rows, at_target_rows, is_held_target_at, is_row_disorderly, is_row_in_flight, is_row_left_by_flush, is_row_overtaken, is_row_silent, is_row_unlit, is_row_wrongly_fenced, is_row_wrongly_filled, is_target_unknown_in, is_too_many_at, is_unknown_in, row_astray, row_silences};
 ghost use Rattle.hal_rows.specs.Row.{is_row_outstanding, is_row_unannounced_at};
+ghost use Rattle.hal_judge.specs.Meant.{frame_of, is_meant, silence_of};
 ghost use Rattle.hal_table.specs.State.{state_of};
 
 use cam_types::NoMemory;
@@ -83,50 +84,70 @@ pub(crate) fn one(alloc: Global, fault: Fault) -> Result<Vec<Fault>, NoMemory>
 
 // ---- rows
 
-fn at_row(row: &Row) -> Fault
-    ensures { result ≡ at row.now.frame None }
-{
-    at(row.frame, None)
+/// Which requests are meant.
+#[derive(Clone, Copy, Debug, PartialEq, Eq)]
+pub(crate) enum Which {
+    InFlight,
+    Outstanding,
+    Left,
+    Unlit,
 }
 
-pub(crate) fn rows_in_flight(alloc: Global, rows: &[Row]) -> Result<Vec<Fault>, NoMemory>
-    ensures { IfOk result (λ faults. faults.items ≡ at_rows (filter is_row_in_flight rows.now)) }
+fn is_meant(which: Which, event: &HalEvent, row: &Row) -> bool
+    ensures { result ≡ is_meant which event.now row.now }
 {
-    rows.iter()
-        .filter(|row| is_in_flight(row))
-        .map(|row| at_row(row))
-        .collect(alloc)
+    match which {
+        Which::InFlight => is_in_flight(row),
+        Which::Outstanding => is_outstanding(row),
+        Which::Left => is_left_by_flush(row),
+        Which::Unlit => is_unlit(event, row),
+    }
 }
 
-pub(crate) fn rows_outstanding(alloc: Global, rows: &[Row]) -> Result<Vec<Fault>, NoMemory>
-    ensures { IfOk result (λ faults. faults.items ≡ at_rows (filter is_row_outstanding rows.now)) }
+fn add_frame(wanted: bool, frame: u32, frames: &mut Vec<u32>) -> Result<(), NoMemory>
+    ensures { OnOk result (frames.new.items ≡ frames.old.items ++ (if wanted then frame ∷ [] else [])) }
 {
-    rows.iter()
-        .filter(|row| is_outstanding(row))
-        .map(|row| at_row(row))
-        .collect(alloc)
+    if wanted {
+        frames.push(frame)?;
+    }
+    Ok(())
 }
 
-pub(crate) fn rows_left(alloc: Global, rows: &[Row]) -> Result<Vec<Fault>, NoMemory>
-    ensures { IfOk result (λ faults. faults.items ≡ at_rows (filter is_row_left_by_flush rows.now)) }
-{
-    rows.iter()
-        .filter(|row| is_left_by_flush(row))
-        .map(|row| at_row(row))
-        .collect(alloc)
-}
-
-pub(crate) fn rows_unlit(
+/// The numbers of the requests that are meant.
+pub(crate) fn frames_meant(
     alloc: Global,
+    which: Which,
+    event: &HalEvent,
+    rows: &[Row],
+) -> Result<Vec<u32>, NoMemory>
+    ensures { IfOk result (λ frames. frames.items ≡ map frame_of (filter (is_meant which event.now) rows.now)) }
+{
+    let mut frames = Vec::new(alloc);
+    for row in rows {
+        let wanted = is_meant(which, event, row);
+        add_frame(wanted, row.frame, &mut frames)?;
+    }
+    Ok(frames)
+}
+
+fn at_frames(alloc: Global, frames: &[u32]) -> Result<Vec<Fault>, NoMemory>
+    ensures { IfOk result (λ faults. faults.items ≡ at_frames frames.now) }
+{
+    frames.iter().map(|frame| at(*frame, None)).collect(alloc)
+}
+
+/// The requests that are meant, each as a fault.
+#[tactic(auto, using(crate::proofs::Faults::rows_told))]
+pub(crate) fn rows_meant(
+    alloc: Global,
+    which: Which,
     event: &HalEvent,
     rows: &[Row],
 ) -> Result<Vec<Fault>, NoMemory>
-    ensures { IfOk result (λ faults. faults.items ≡ at_rows (filter (is_row_unlit event.now) rows.now)) }
+    ensures { IfOk result (λ faults. faults.items ≡ at_rows (filter (is_meant which event.now) rows.now)) }
 {
-    rows.iter()
-        .filter(|row| is_unlit(event, row))
-        .map(|row| at_row(row))
-        .collect(alloc)
+    let frames = frames_meant(alloc, which, event, rows)?;
+    at_frames(alloc, frames.as_slice())
 }
 
 fn at_target_row(frame: u32, target: &TargetRow) -> Fault
@@ -150,6 +171,22 @@ fn targets_silent(
         .collect(alloc)
 }
 
+/// Adds the buffers in error without their notices of a request, where one is told of it.
+fn add_silent(
+    alloc: Global,
+    event: &HalEvent,
+    row: &Row,
+    faults: &mut Vec<Fault>,
+) -> Result<(), NoMemory>
+    ensures { OnOk result (faults.new.items ≡ faults.old.items ++ silence_of event.now row.now) }
+{
+    if is_silent(event, row) {
+        let more = targets_silent(alloc, row, row.targets.as_slice())?;
+        faults.extend_from_slice(more.as_slice())?;
+    }
+    Ok(())
+}
+
 /// The buffers in error without their notices of those requests of which one is told.
 pub(crate) fn rows_silent(
     alloc: Global,
@@ -160,10 +197,7 @@ pub(crate) fn rows_silent(
 {
     let mut faults = Vec::new(alloc);
     for row in rows {
-        if is_silent(event, row) {
-            let more = targets_silent(alloc, row, row.targets.as_slice())?;
-            faults.extend_from_slice(more.as_slice())?;
-        }
+        add_silent(alloc, event, row, &mut faults)?;
     }
     Ok(faults)
 }
@@ -207,6 +241,19 @@ fn at_all(
         .collect(alloc)
 }
 
+fn add_target(
+    wanted: bool,
+    target: HalTarget,
+    targets: &mut Vec<HalTarget>,
+) -> Result<(), NoMemory>
+    ensures { OnOk result (targets.new.items ≡ targets.old.items ++ (if wanted then target ∷ [] else [])) }
+{
+    if wanted {
+        targets.push(target)?;
+    }
+    Ok(())
+}
+
 fn held(
     alloc: Global,
     targets: &[HalTarget],
@@ -215,11 +262,12 @@ fn held(
     ensures { IfOk result (λ held.
         held.items ≡ filter (is_held_target_at targets.now (state_of table.now)) targets.now) }
 {
-    targets
-        .iter()
-        .copied()
-        .filter(|target| is_held_target(targets, table, target))
-        .collect(alloc)
+    let mut held = Vec::new(alloc);
+    for target in targets {
+        let wanted = is_held_target(targets, table, target);
+        add_target(wanted, *target, &mut held)?;
+    }
+    Ok(held)
 }
 
 pub(crate) fn targets_held(
@@ -265,11 +313,12 @@ fn too_many(
     ensures { IfOk result (λ too_many.
         too_many.items ≡ filter (is_too_many_at targets.now (state_of table.now)) targets.now) }
 {
-    targets
-        .iter()
-        .copied()
-        .filter(|target| is_too_many(targets, table, target))
-        .collect(alloc)
+    let mut too_many = Vec::new(alloc);
+    for target in targets {
+        let wanted = is_too_many(targets, table, target);
+        add_target(wanted, *target, &mut too_many)?;
+    }
+    Ok(too_many)
 }
 
 pub(crate) fn targets_too_many(

@@ -1,13 +1,14 @@
 //! What an event breaks: the rules in their order, each with what is at fault.
-ghost use Rattle.std.specs.Prelude.{◌≡◌, ◌∷◌, ◌++◌, [], filter, map, option_copied, IfOk, OnOk, if◌then◌else◌};
-ghost use Rattle.hal_model.specs.Rules.{at, at_buffers, plain_rules, rules};
+ghost use Rattle.std.specs.Prelude.{◌≡◌, ◌∷◌, ◌++◌, [], None, filter, map, option_copied, IfOk, OnOk};
+ghost use Rattle.hal_model.specs.Rules.{at, at_buffers, frame_in};
+ghost use Rattle.hal_judge.specs.Judged.{named_in};
 ghost use Rattle.hal_rows.specs.Judged.{all_breaches_at, at_target_rows, breach_of, breaches_at, faults_at, for_row, is_row_disorderly, is_row_overtaken, is_row_wrongly_fenced, is_row_wrongly_filled, is_target_unknown_in, row_astray};
 ghost use Rattle.hal_table.specs.State.{state_of};
 
 use crate::fault::{
-    at, buffers_astray, buffers_disorderly, buffers_overtaken, buffers_unclear,
+    Which, at, buffers_astray, buffers_disorderly, buffers_overtaken, buffers_unclear,
     buffers_with_acquire, buffers_wrongly_fenced, buffers_wrongly_filled, frame_in, one, plain,
-    rows_in_flight, rows_left, rows_outstanding, rows_silent, rows_unlit, streams_wrong,
+    rows_meant, rows_silent, streams_wrong,
     target_rows_unknown, targets_held, targets_too_many, targets_twice, targets_unknown,
 };
 use crate::order::ordered;
@@ -355,7 +356,7 @@ fn named(event: &HalEvent) -> Fault
 // ---- all rules
 
 /// What is at fault where the event breaks the rule.
-#[tactic(auto, using(crate::proofs::Faults::named_reads))]
+
 fn faults(
     alloc: Global,
     rule: Rule,
@@ -371,7 +372,7 @@ fn faults(
         Rule::NoOutput => own(alloc, event),
         Rule::NoSettings => own(alloc, event),
         Rule::TwoInputs => one(alloc, plain()),
-        Rule::ConfigureInFlight => rows_in_flight(alloc, table.rows()),
+        Rule::ConfigureInFlight => rows_meant(alloc, Which::InFlight, event, table.rows()),
         Rule::OverlappingCalls => one(alloc, plain()),
         Rule::CallAfterClose => one(alloc, plain()),
         Rule::FrameNumber => own(alloc, event),
@@ -392,7 +393,7 @@ fn faults(
         Rule::UnknownFrame => own(alloc, event),
         Rule::CallbackAfterClose => own(alloc, event),
         Rule::CallbackAfterFailure => own(alloc, event),
-        Rule::FailedWithFrames => rows_outstanding(alloc, table.rows()),
+        Rule::FailedWithFrames => rows_meant(alloc, Which::Outstanding, event, table.rows()),
         Rule::ShutterTwice => own(alloc, event),
         Rule::ShutterAfterRequestError => own(alloc, event),
         Rule::EmptyResult => own(alloc, event),
@@ -412,10 +413,10 @@ fn faults(
         Rule::RequestErrorLate => own(alloc, event),
         Rule::ErrorForGoodBuffer => one(alloc, named(event)),
         Rule::ErrorUnknownStream => one(alloc, named(event)),
-        Rule::FlushLeft => rows_left(alloc, table.rows()),
-        Rule::CloseLeft => rows_outstanding(alloc, table.rows()),
+        Rule::FlushLeft => rows_meant(alloc, Which::Left, event, table.rows()),
+        Rule::CloseLeft => rows_meant(alloc, Which::Outstanding, event, table.rows()),
         Rule::FailedWithoutNotice => rows_silent(alloc, event, table.rows()),
-        Rule::NoShutter => rows_unlit(alloc, event, table.rows()),
+        Rule::NoShutter => rows_meant(alloc, Which::Unlit, event, table.rows()),
     }
 }
 
