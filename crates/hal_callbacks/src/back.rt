@@ -185,7 +185,11 @@ pub fn buffer_order(event: &HalEvent, table: &HalTable) -> bool
 fn other_order(buffer: &Returned, stream: u32) -> Order
     ensures { result ≡ other_order buffer.now stream }
 {
-    if is_filled(buffer) { Order::Other(stream) } else { Order::Orderly(stream) }
+    if is_filled(buffer) {
+        Order::Other(stream)
+    } else {
+        Order::Orderly(stream)
+    }
 }
 
 fn is_disorderly_for(buffer: &Returned, row: &Row, table: &HalTable) -> bool

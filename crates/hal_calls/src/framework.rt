@@ -5,7 +5,6 @@ ghost use Rattle.hal_model.specs.Framework.{has_no_output, has_two_inputs, is_pa
 ghost use Rattle.hal_model.specs.Words.{is_begin};
 ghost use Rattle.hal_rows.specs.Row.{is_row_in_call};
 ghost use Rattle.hal_rows.specs.Judged.{call_after_close_at, configure_in_flight_at, excused_at, frame_number_at, held_buffer_at, held_count_at, init_order_at, init_twice_at, is_flawed_at, is_held_at, is_held_target_at, is_holding, is_holding_for, is_in_other_call_at, is_output_in, is_requesting_at, is_row_awaited, is_row_called_from, is_row_in_flight, is_too_many_at, is_unknown_in, no_configuration_at, no_output_at, no_settings_at, overlapping_calls_at, repeated_stream_at, too_many_buffers_at, two_inputs_at, unknown_stream_at};
-
 ghost use Rattle.hal_table.specs.State.{state_of};
 
 use crate::stream::{
@@ -152,8 +151,7 @@ fn is_in_other_call(device: &Device) -> bool
     ensures { result ≡ is_in_other_call_at device.now }
 {
     device.opening.out
-        || (device.init.out
-            || (device.template.out || (device.flush.out || device.close.out)))
+        || (device.init.out || (device.template.out || (device.flush.out || device.close.out)))
 }
 
 /// Whether a call begins while another one is out.

@@ -134,9 +134,7 @@ pub fn is_target_unknown_in(streams: &[HalStream], target: &TargetRow) -> bool
 pub(crate) fn is_output_in(streams: &[HalStream], target: &HalTarget) -> bool
     ensures { result ≡ is_output_in streams.now target.now }
 {
-    streams
-        .iter()
-        .any(|stream| stream.stream == target.stream && puts_out(stream.direction))
+    streams.iter().any(|stream| stream.stream == target.stream && puts_out(stream.direction))
 }
 
 /// Whether each target's is.

@@ -1,5 +1,5 @@
 -- The report, one rule and one event after the other.
-use Rattle.std.proofs.Common.{◌≡◌, ◌∙◌, ℕ, zero, suc, ◌+◌, ◌<◌, List, [], ◌∷◌, ◌++◌, refl, sym, ap, arith, drop, filter, get_or, length, map, reverse, take}
+use Rattle.std.proofs.Common.{◌≡◌, ◌∙◌, ℕ, zero, suc, ◌+◌, ◌<◌, ◌≤◌, List, [], ◌∷◌, ◌++◌, refl, sym, ap, arith, filter, get_or, length, map, reverse, take}
 use Rattle.std.proofs.Math.Seq.{take-suc}
 use Rattle.std.proofs.lemmas.Grind.{common_steps}
 use Rattle.std.proofs.lemmas.List.{reverse-append}
@@ -60,3 +60,23 @@ report_more k some es i d s old new l state before' now' =
     told =
         ap (λ n. all_breaches_at k n (get_or es i d) s some) (sym (long-turned es i l))
         ∙ ap (λ t. all_breaches_at k (length (reverse (take i es))) (get_or es i d) t some) state
+
+-- ---- the same of an event that is owned, and at the end
+
+pub state_item : (k : ℕ) (es : List HalEvent) (i : ℕ) (e : HalEvent) (s s' : HalState) → i < length es → e ≡ get_or es i e → s ≡ hal_state k (known k (reverse (take i es))) → s' ≡ next_state k e s → s' ≡ hal_state k (known k (reverse (take (i + 1) es)))
+state_item k es i e s s' l item before' now' = state_more k es i e s s' l before' (now' ∙ ap (λ z. next_state k z s) item)
+
+pub report_item : (k : ℕ) (some : List Rule) (es : List HalEvent) (i : ℕ) (e : HalEvent) (s : HalState) (old new : List Breach) → i < length es → e ≡ get_or es i e → s ≡ hal_state k (known k (reverse (take i es))) → old ≡ report_by some k (reverse (take i es)) → new ≡ old ++ all_breaches_at k i e s some → new ≡ report_by some k (reverse (take (i + 1) es))
+report_item k some es i e s old new l item state before' now' =
+    report_more k some es i e s old new l state before' (now' ∙ ap (λ z. old ++ all_breaches_at k i z s some) item)
+
+take-all : (es : List HalEvent) (i : ℕ) → length es ≤ i → take i es ≡ es
+take-all [] zero l = refl
+take-all [] (suc i) l = refl
+take-all (e ∷ es) zero l = absurd (omega arith)
+take-all (e ∷ es) (suc i) l = ap (λ z. e ∷ z) (take-all es i (omega arith))
+
+pub left_reads : (k : ℕ) (es : List HalEvent) (i : ℕ) (s : HalState) (left : List ℕ) → length es ≤ i → s ≡ hal_state k (known k (reverse (take i es))) → left ≡ ascending (map (λ r. r.frame) (filter is_row_outstanding s.rows)) → left ≡ open_requests k (reverse es)
+left_reads k es i s left l state now' =
+    now' ∙ (ap (λ t. ascending (map (λ r. r.frame) (filter is_row_outstanding t.rows))) state
+    ∙ (sym (open_reads k (reverse (take i es))) ∙ ap (λ z. open_requests k (reverse z)) (take-all es i l)))

@@ -156,11 +156,7 @@ fn at_target_row(frame: u32, target: &TargetRow) -> Fault
     at(frame, Some(target.target.stream))
 }
 
-fn targets_silent(
-    alloc: Global,
-    row: &Row,
-    targets: &[TargetRow],
-) -> Result<Vec<Fault>, NoMemory>
+fn targets_silent(alloc: Global, row: &Row, targets: &[TargetRow]) -> Result<Vec<Fault>, NoMemory>
     ensures { IfOk result (λ faults. faults.items ≡
         at_target_rows row.now.frame (filter (is_row_unannounced_at row.now) targets.now)) }
 {
@@ -228,11 +224,7 @@ fn at_target(frame: u32, target: &HalTarget) -> Fault
 }
 
 /// The targets, as faults of the request.
-fn at_all(
-    alloc: Global,
-    frame: u32,
-    targets: &[HalTarget],
-) -> Result<Vec<Fault>, NoMemory>
+fn at_all(alloc: Global, frame: u32, targets: &[HalTarget]) -> Result<Vec<Fault>, NoMemory>
     ensures { IfOk result (λ faults. faults.items ≡ at_targets frame targets.now) }
 {
     targets
@@ -241,11 +233,7 @@ fn at_all(
         .collect(alloc)
 }
 
-fn add_target(
-    wanted: bool,
-    target: HalTarget,
-    targets: &mut Vec<HalTarget>,
-) -> Result<(), NoMemory>
+fn add_target(wanted: bool, target: HalTarget, targets: &mut Vec<HalTarget>) -> Result<(), NoMemory>
     ensures { OnOk result (targets.new.items ≡ targets.old.items ++ (if wanted then target ∷ [] else [])) }
 {
     if wanted {
@@ -254,11 +242,7 @@ fn add_target(
     Ok(())
 }
 
-fn held(
-    alloc: Global,
-    targets: &[HalTarget],
-    table: &HalTable,
-) -> Result<Vec<HalTarget>, NoMemory>
+fn held(alloc: Global, targets: &[HalTarget], table: &HalTable) -> Result<Vec<HalTarget>, NoMemory>
     ensures { IfOk result (λ held.
         held.items ≡ filter (is_held_target_at targets.now (state_of table.now)) targets.now) }
 {
@@ -369,11 +353,7 @@ fn at_most(most: &StreamMax) -> Fault
     at_stream(most.stream)
 }
 
-fn most_idle(
-    alloc: Global,
-    asked: &[HalStream],
-    most: &[StreamMax],
-) -> Result<Vec<Fault>, NoMemory>
+fn most_idle(alloc: Global, asked: &[HalStream], most: &[StreamMax]) -> Result<Vec<Fault>, NoMemory>
     ensures { IfOk result (λ faults. faults.items ≡
         map (λ x. at_stream x.stream) (filter (is_idle_most asked.now) most.now)) }
 {

@@ -8,8 +8,8 @@ ghost use Rattle.hal_table.specs.State.{state_of};
 use crate::fault::{
     Which, at, buffers_astray, buffers_disorderly, buffers_overtaken, buffers_unclear,
     buffers_with_acquire, buffers_wrongly_fenced, buffers_wrongly_filled, frame_in, one, plain,
-    rows_meant, rows_silent, streams_wrong,
-    target_rows_unknown, targets_held, targets_too_many, targets_twice, targets_unknown,
+    rows_meant, rows_silent, streams_wrong, target_rows_unknown, targets_held, targets_too_many,
+    targets_twice, targets_unknown,
 };
 use crate::order::ordered;
 use crate::rule::breaks;
@@ -34,11 +34,7 @@ fn own(alloc: Global, event: &HalEvent) -> Result<Vec<Fault>, NoMemory>
 
 // ---- the targets of a request that begins
 
-fn held_buffer(
-    alloc: Global,
-    event: &HalEvent,
-    table: &HalTable,
-) -> Result<Vec<Fault>, NoMemory>
+fn held_buffer(alloc: Global, event: &HalEvent, table: &HalTable) -> Result<Vec<Fault>, NoMemory>
     ensures { IfOk result (λ faults. faults.items ≡ faults_at Rule.HeldBuffer event.now (state_of table.now)) }
 {
     match event {
@@ -79,11 +75,7 @@ fn too_many_buffers(
     }
 }
 
-fn unknown_stream(
-    alloc: Global,
-    event: &HalEvent,
-    table: &HalTable,
-) -> Result<Vec<Fault>, NoMemory>
+fn unknown_stream(alloc: Global, event: &HalEvent, table: &HalTable) -> Result<Vec<Fault>, NoMemory>
     ensures { IfOk result (λ faults. faults.items ≡ faults_at Rule.UnknownStream event.now (state_of table.now)) }
 {
     match event {
@@ -129,11 +121,7 @@ fn accepted_unknown_stream(
     }
 }
 
-fn no_max_buffers(
-    alloc: Global,
-    event: &HalEvent,
-    table: &HalTable,
-) -> Result<Vec<Fault>, NoMemory>
+fn no_max_buffers(alloc: Global, event: &HalEvent, table: &HalTable) -> Result<Vec<Fault>, NoMemory>
     ensures { IfOk result (λ faults. faults.items ≡ faults_at Rule.NoMaxBuffers event.now (state_of table.now)) }
 {
     match event {
@@ -161,11 +149,7 @@ fn astray_of(
     }
 }
 
-fn not_at_device(
-    alloc: Global,
-    event: &HalEvent,
-    table: &HalTable,
-) -> Result<Vec<Fault>, NoMemory>
+fn not_at_device(alloc: Global, event: &HalEvent, table: &HalTable) -> Result<Vec<Fault>, NoMemory>
     ensures { IfOk result (λ faults. faults.items ≡ faults_at Rule.NotAtDevice event.now (state_of table.now)) }
 {
     match event {
@@ -176,11 +160,7 @@ fn not_at_device(
     }
 }
 
-fn buffer_status(
-    alloc: Global,
-    event: &HalEvent,
-    table: &HalTable,
-) -> Result<Vec<Fault>, NoMemory>
+fn buffer_status(alloc: Global, event: &HalEvent, table: &HalTable) -> Result<Vec<Fault>, NoMemory>
     ensures { IfOk result (λ faults. faults.items ≡ faults_at Rule.BufferStatus event.now (state_of table.now)) }
 {
     match event {
@@ -191,11 +171,7 @@ fn buffer_status(
     }
 }
 
-fn acquire_fence(
-    alloc: Global,
-    event: &HalEvent,
-    table: &HalTable,
-) -> Result<Vec<Fault>, NoMemory>
+fn acquire_fence(alloc: Global, event: &HalEvent, table: &HalTable) -> Result<Vec<Fault>, NoMemory>
     ensures { IfOk result (λ faults. faults.items ≡ faults_at Rule.AcquireFence event.now (state_of table.now)) }
 {
     match event {
@@ -223,11 +199,7 @@ fn overtaken_of(
     }
 }
 
-fn buffer_order(
-    alloc: Global,
-    event: &HalEvent,
-    table: &HalTable,
-) -> Result<Vec<Fault>, NoMemory>
+fn buffer_order(alloc: Global, event: &HalEvent, table: &HalTable) -> Result<Vec<Fault>, NoMemory>
     ensures { IfOk result (λ faults. faults.items ≡ faults_at Rule.BufferOrder event.now (state_of table.now)) }
 {
     match event {
@@ -323,11 +295,7 @@ fn wrongly_fenced_of(
     }
 }
 
-fn release_fence(
-    alloc: Global,
-    event: &HalEvent,
-    table: &HalTable,
-) -> Result<Vec<Fault>, NoMemory>
+fn release_fence(alloc: Global, event: &HalEvent, table: &HalTable) -> Result<Vec<Fault>, NoMemory>
     ensures { IfOk result (λ faults. faults.items ≡ faults_at Rule.ReleaseFence event.now (state_of table.now)) }
 {
     match event {

@@ -81,9 +81,7 @@ pub(crate) fn is_back_good(number: u32, buffers: &[Returned]) -> bool
 pub(crate) fn is_back_failed(number: u32, buffers: &[Returned]) -> bool
     ensures { result ≡ list_any (λ r. is_failed_buffer r && is_number number r.buffer) buffers.now }
 {
-    buffers
-        .iter()
-        .any(|back| is_failed_buffer(back) && is_number(number, back.buffer))
+    buffers.iter().any(|back| is_failed_buffer(back) && is_number(number, back.buffer))
 }
 
 /// Whether the strict order counts it.
@@ -91,9 +89,7 @@ pub(crate) fn is_back_orderly(flushing: bool, number: u32, buffers: &[Returned])
     ensures { result ≡
         list_any (λ r. (is_any r && is_orderly_in flushing r) && is_number number r.buffer) buffers.now }
 {
-    buffers
-        .iter()
-        .any(|back| is_orderly(flushing, back) && is_number(number, back.buffer))
+    buffers.iter().any(|back| is_orderly(flushing, back) && is_number(number, back.buffer))
 }
 
 fn is_other(flushing: bool, buffer: &Returned) -> bool
@@ -107,7 +103,5 @@ pub(crate) fn is_back_other(flushing: bool, number: u32, buffers: &[Returned]) -
     ensures { result ≡
         list_any (λ r. (is_not_filled r && is_orderly_in flushing r) && is_number number r.buffer) buffers.now }
 {
-    buffers
-        .iter()
-        .any(|back| is_other(flushing, back) && is_number(number, back.buffer))
+    buffers.iter().any(|back| is_other(flushing, back) && is_number(number, back.buffer))
 }

@@ -111,11 +111,7 @@ fn note_asked(
     }
 }
 
-fn note_most(
-    alloc: Global,
-    event: &HalEvent,
-    most: &mut Listing<StreamMax>,
-) -> Result<(), NoMemory>
+fn note_most(alloc: Global, event: &HalEvent, most: &mut Listing<StreamMax>) -> Result<(), NoMemory>
     ensures { OnOk result (most.new ≡ most_after event.now most.old) }
 {
     match event {
@@ -217,14 +213,42 @@ pub(crate) fn note_device(
     device.configured = stands(configures(event), device.configured);
     device.settings = settings_after(event, device.settings);
     device.top = top_after(event, device.top);
-    device.opening = note_call(opens(event), opened(event), initialized, dead, device.opening);
+    device.opening = note_call(
+        opens(event),
+        opened(event),
+        initialized,
+        dead,
+        device.opening,
+    );
     device.init = note_call(inits(event), inited(event), initialized, dead, device.init);
-    device.template =
-        note_call(templates(event), templated(event), initialized, dead, device.template);
-    device.configure =
-        note_call(begins_configure(event), ends_configure(event), initialized, dead, device.configure);
-    device.flush = note_call(begins_flush(event), ends_flush(event), initialized, dead, device.flush);
-    device.close = note_call(begins_close(event), ends_close(event), initialized, dead, device.close);
+    device.template = note_call(
+        templates(event),
+        templated(event),
+        initialized,
+        dead,
+        device.template,
+    );
+    device.configure = note_call(
+        begins_configure(event),
+        ends_configure(event),
+        initialized,
+        dead,
+        device.configure,
+    );
+    device.flush = note_call(
+        begins_flush(event),
+        ends_flush(event),
+        initialized,
+        dead,
+        device.flush,
+    );
+    device.close = note_call(
+        begins_close(event),
+        ends_close(event),
+        initialized,
+        dead,
+        device.close,
+    );
     device.begun = begun_after(event, device.begun)?;
     note_streams(alloc, event, &device.asked, &mut device.streams)?;
     note_asked(alloc, event, &mut device.asked)?;

@@ -68,12 +68,7 @@ pub(crate) fn raise(tops: &mut Vec<Top>, order: Order, rank: u32) -> Result<(), 
 }
 
 /// Raises the number of an order above a rank, where the target brought back what it asks for.
-fn raise_if(
-    tops: &mut Vec<Top>,
-    wanted: bool,
-    order: Order,
-    rank: u32,
-) -> Result<(), NoMemory>
+fn raise_if(tops: &mut Vec<Top>, wanted: bool, order: Order, rank: u32) -> Result<(), NoMemory>
     ensures { OnOk result (IsRaised rank (λ o. wanted && is_same_order order o) tops.old.items tops.new.items) }
 {
     if wanted {
@@ -94,11 +89,7 @@ fn raise_target(tops: &mut Vec<Top>, target: &TargetRow, rank: u32) -> Result<()
 }
 
 /// Raises the numbers of what targets brought back.
-fn raise_targets(
-    tops: &mut Vec<Top>,
-    targets: &[TargetRow],
-    rank: u32,
-) -> Result<(), NoMemory>
+fn raise_targets(tops: &mut Vec<Top>, targets: &[TargetRow], rank: u32) -> Result<(), NoMemory>
     ensures { OnOk result (IsRaised rank (targets_bring targets.now) tops.old.items tops.new.items) }
 {
     for target in targets {

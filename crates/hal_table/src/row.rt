@@ -144,7 +144,11 @@ fn is_flushed(event: &HalEvent, row: &Row) -> bool
 fn is_before_flush(event: &HalEvent, row: &Row) -> bool
     ensures { result ≡ (if begins_flush event.now then row.now.accepted else row.now.before_flush) }
 {
-    if begins_flush(event) { row.accepted } else { row.before_flush }
+    if begins_flush(event) {
+        row.accepted
+    } else {
+        row.before_flush
+    }
 }
 
 /// Notes an event in the row of a request that it doesn't begin.

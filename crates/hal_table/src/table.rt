@@ -123,12 +123,7 @@ impl HalTable {
     /// Notes the next event. `parts` is the device's partial result count; `excused` says what excuses a refusal of the
     /// request that the event begins. The answer is an error only where memory runs out, or where 4,294,967,295 requests
     /// were begun; the table is of no use then.
-    pub fn note(
-        &mut self,
-        parts: u32,
-        event: &HalEvent,
-        excused: bool,
-    ) -> Result<(), NoMemory>
+    pub fn note(&mut self, parts: u32, event: &HalEvent, excused: bool) -> Result<(), NoMemory>
         requires { excused ≡ excused_at event.now (state_of self.old) }
         ensures { OnOk result (state_of self.new ≡ next_state parts event.now (state_of self.old)) }
     {
@@ -143,12 +138,7 @@ impl HalTable {
     }
 
     /// Notes an event that is heard.
-    fn note_heard(
-        &mut self,
-        parts: u32,
-        event: &HalEvent,
-        excused: bool,
-    ) -> Result<(), NoMemory>
+    fn note_heard(&mut self, parts: u32, event: &HalEvent, excused: bool) -> Result<(), NoMemory>
         requires { excused ≡ excused_at event.now (state_of self.old) }
         ensures { OnOk result (state_of self.new ≡ noted parts event.now (state_of self.old)) }
     {
@@ -173,7 +163,14 @@ impl HalTable {
             }
             _ => {
                 let flushing = self.device.flush.out;
-                note_rows(self.alloc, parts, flushing, event, &mut self.rows, &mut self.tops)?;
+                note_rows(
+                    self.alloc,
+                    parts,
+                    flushing,
+                    event,
+                    &mut self.rows,
+                    &mut self.tops,
+                )?;
                 note_device(self.alloc, event, &mut self.device)?;
                 Ok(())
             }

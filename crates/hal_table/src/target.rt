@@ -83,8 +83,16 @@ fn buffers_of<'e>(frame: u32, event: &'e HalEvent) -> &'e [Returned]
 {
     match event {
         HalEvent::Results {
-            frame: of, buffers, ..
-        } => { if *of == frame { buffers.as_slice() } else { &[] } }
+            frame: of,
+            buffers,
+            ..
+        } => {
+            if *of == frame {
+                buffers.as_slice()
+            } else {
+                &[]
+            }
+        }
         _ => &[],
     }
 }
@@ -166,7 +174,13 @@ fn part_in(frame: u32, event: &HalEvent) -> Option<u32>
             partial,
             pack,
             ..
-        } => { if *of == frame && is_entries(*pack) { Some(*partial) } else { None } }
+        } => {
+            if *of == frame && is_entries(*pack) {
+                Some(*partial)
+            } else {
+                None
+            }
+        }
         _ => None,
     }
 }
