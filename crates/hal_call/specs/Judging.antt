@@ -1,9 +1,9 @@
 -- What `hal` answers and writes for tools. (docs/FORMATS.md, hal log)
-use Rattle.std.specs.Prelude.{◌≡◌, ℕ, Bool, List, [], ◌∷◌, Result, Ok, Err, reverse, if◌then◌else◌}
+use Rattle.std.specs.Prelude.{◌≡◌, ℕ, Bool, List, [], ◌∷◌, Result, Ok, Err, reverse}
 use Rattle.io_edge.specs.States.{SinkState, Writes}
-use Rattle.hal_model.specs.Rules.{open_requests, plain_rules, report_by, rules}
+use Rattle.hal_judge.specs.Judged.{rules_for}
+use Rattle.hal_model.specs.Rules.{open_requests, report_by}
 use Rattle.hal_model.specs.declared.rule.Breach.{Breach}
-use Rattle.hal_model.specs.declared.rule.Rule.{Rule}
 use Rattle.hal_text.specs.Meaning.{log_of}
 use Rattle.hal_text.specs.Refusal.{refused_text}
 use Rattle.hal_text.specs.declared.cause.LogRefused.{LogRefused}
@@ -11,13 +11,9 @@ use Rattle.hal_text.specs.declared.cause.LogRefused.TheVariants.{Bad, NoMemory}
 use Rattle.hal_text.specs.declared.log.HalLog.{HalLog}
 use Rattle.hal_report.specs.Plain.{plain_text}
 
--- the rules that are judged: the strict ones where they are asked for
-abbrev pub judged_rules : Bool → List Rule
-judged_rules strict = if strict then rules else plain_rules
-
 -- the breaches of a log, and the requests that are outstanding at its end
 abbrev pub breaches : Bool → HalLog → List Breach
-breaches strict log = report_by (judged_rules strict) log.parts (reverse log.events)
+breaches strict log = report_by (rules_for strict) log.parts (reverse log.events)
 
 abbrev pub outstanding : HalLog → List ℕ
 outstanding log = open_requests log.parts (reverse log.events)

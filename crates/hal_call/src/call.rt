@@ -1,37 +1,20 @@
 //! `hal`: a hal log is read and judged, and its plain report is written.
-ghost use Rattle.std.specs.Prelude.{◌≡◌, ◌≢◌, ◌≤◌, [], IfOk, IfSome, Result, length, reverse};
+ghost use Rattle.std.specs.Prelude.{◌≡◌, ◌≢◌, ◌≤◌, [], IfSome, Result, length};
 ghost use Rattle.std.specs.Io.KnownBytes.{IsAtEnd};
 ghost use Rattle.io_edge.specs.Faults.{Rose};
 ghost use Rattle.io_edge.specs.States.{WritesNothing};
 ghost use Rattle.call_status.specs.Answers.{AnswersWithMemory, Tells, TellsBy, Untouched};
-ghost use Rattle.hal_model.specs.Rules.{open_requests, report_by};
 ghost use Rattle.hal_text.specs.Meaning.{log_of};
 ghost use Rattle.hal_text.specs.Refusal.{refused_text};
-ghost use Rattle.hal_call.specs.Judging.{IsUnbroken, Judges, JudgesLog, judged_rules, report_status};
+ghost use Rattle.hal_call.specs.Judging.{IsUnbroken, Judges, JudgesLog, report_status};
 
 use call_status::{Status, answer};
-use cam_types::{Listing, NoMemory};
-use hal_model::{Breach, HalEvent};
+use hal_judge::report_of;
+use hal_model::Breach;
 use hal_report::{each_breach_has_its_line, plain_text};
 use hal_text::{Cause, HAL_BYTES, HalLog, LogRefused, read, refused_text};
 use io_edge::{ReadBytes, ReadFault, Sink, Source, read_all};
-use std::alloc::{AllocError, Global};
-
-/// Stub.
-#[derive(Drop)]
-pub struct Judged {
-    pub breaches: Listing<Breach>,
-    pub outstanding: Listing<u32>,
-}
-
-/// Stub.
-fn judge(alloc: Global, parts: u32, events: &[HalEvent], strict: bool) -> Result<Judged, NoMemory>
-    ensures breaches { IfOk result (λ told.
-        told.breaches ≡ report_by (judged_rules strict) parts (reverse events.now)) }
-    ensures outstanding { IfOk result (λ told. told.outstanding ≡ open_requests parts (reverse events.now)) }
-{
-    Err(AllocError)
-}
+use std::alloc::Global;
 
 /// Reads a hal log, judges it, strictly where that is asked for, and writes its plain report.
 pub fn hal_call<S: Source, K: Sink>(
@@ -90,17 +73,12 @@ fn judge_log<K: Sink>(alloc: Global, log: &HalLog, strict: bool, sink: &mut K) -
     ensures { TellsBy (JudgesLog strict (Result.Ok log.now)) result.number (K.state sink.old) (K.state sink.new) }
 {
     each_breach_has_its_line();
-    let told = match judge(alloc, log.parts, log.events.as_slice(), strict) {
-        Ok(told) => told,
+    let report = match report_of(alloc, log.parts, strict, &log.events) {
+        Ok(report) => report,
         Err(_) => return Status::NO_MEMORY,
     };
-    let breaches = told.breaches.as_slice();
-    match plain_text(
-        alloc,
-        log.lines.as_slice(),
-        breaches,
-        told.outstanding.as_slice(),
-    ) {
+    let breaches = report.breaches.as_slice();
+    match plain_text(alloc, log.lines.as_slice(), breaches, report.left.as_slice()) {
         Ok(text) => answer(sink, text.as_slice(), status_of(breaches)),
         Err(_) => Status::NO_MEMORY,
     }
