@@ -7,7 +7,8 @@ use Rattle.hal_model.specs.declared.event.HalEvent.TheVariants.{OpenOk}
 use Rattle.hal_model.specs.declared.rule.Breach.{Breach}
 use Rattle.hal_model.specs.declared.rule.Rule.{Rule}
 use Rattle.hal_model.specs.Callbacks.{ends_again, heard, names_idle}
-use Rattle.hal_model.specs.Rules.{Fault, breaches_in, breaks, faults, known, ordered, plain_rules, report_by}
+use Rattle.hal_model.specs.declared.rule.Fault.{Fault}
+use Rattle.hal_model.specs.Rules.{breaches_in, breaks, faults, known, ordered, plain_rules, report_by}
 use Rattle.hal_model.specs.Words.{is_open_ok, session}
 use Rattle.hal_rows.specs.Laws.{is_told}
 use Rattle.hal_rows.proofs.Told.{each_told}

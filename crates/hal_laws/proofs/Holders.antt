@@ -14,7 +14,9 @@ use Rattle.hal_model.specs.Framework.{is_held_target, is_twice_buffer}
 use Rattle.hal_model.specs.Rules.{known}
 use Rattle.hal_model.specs.Words.{frames, is_dead, is_flushing, is_held, is_initialized, is_live, is_out, targets_of}
 use Rattle.hal_rows.specs.Judged.{is_holding}
-use Rattle.hal_rows.specs.Row.{Row, TargetRow, begun_count, fresh_row, fresh_target, is_row_live, note_row, note_rows, note_target, row_of, rows, rows_but, target_row}
+use Rattle.hal_rows.specs.declared.row.Row.{Row}
+use Rattle.hal_rows.specs.declared.row.TargetRow.{TargetRow}
+use Rattle.hal_rows.specs.Row.{begun_count, fresh_row, fresh_target, is_row_live, note_row, note_rows, note_target, row_of, rows, rows_but, target_row}
 use Rattle.hal_rows.proofs.Begun.{rows_begun}
 use Rattle.hal_rows.proofs.Rows.{rows_noted}
 use Rattle.hal_laws.specs.Promised.{KeepsRules, OneHolder, holds}

@@ -5,9 +5,10 @@ use Rattle.std.proofs.lemmas.Bool.{and_from, cases_Bool}
 use Rattle.std.proofs.lemmas.Bool.Decides.{nat_tests}
 use Rattle.std.proofs.lemmas.List.Folds.{list_all-append}
 use Rattle.basic_lemmas.proofs.Lists.{all-where}
-use Rattle.hal_model.specs.Rules.{Fault, breaches_in, breaches_of, breaks, faults, known, ordered, report_by}
+use Rattle.hal_model.specs.Rules.{breaches_in, breaches_of, breaks, faults, known, ordered, report_by}
 use Rattle.hal_model.specs.declared.event.HalEvent.{HalEvent}
 use Rattle.hal_model.specs.declared.rule.Breach.{Breach}
+use Rattle.hal_model.specs.declared.rule.Fault.{Fault}
 use Rattle.hal_model.specs.declared.rule.Rule.{Rule}
 use Rattle.hal_report.specs.Plain.{has_line}
 

@@ -9,7 +9,8 @@ use Rattle.hal_model.specs.declared.event.Pack.TheVariants.{Entries, Empty, Abse
 use Rattle.hal_model.specs.declared.event.Returned.{Returned}
 use Rattle.hal_model.specs.Callbacks.{has_sound_part, is_back_filled, is_back_orderly, is_not_filled}
 use Rattle.hal_model.specs.Words.{gives, is_any, is_filled, is_part, targets_of}
-use Rattle.hal_rows.specs.Row.{TargetRow, is_orderly_in, note_target, target_row}
+use Rattle.hal_rows.specs.declared.row.TargetRow.{TargetRow}
+use Rattle.hal_rows.specs.Row.{is_orderly_in, note_target, target_row}
 use Rattle.hal_rows.specs.State.{has_filled, has_orderly, has_other, has_sound}
 use Rattle.hal_rows.proofs.Later.{IsOfRow, is_given}
 use Rattle.hal_rows.proofs.Noted.{any-agree}

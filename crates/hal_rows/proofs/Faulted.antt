@@ -11,11 +11,14 @@ use Rattle.hal_model.specs.Callbacks.{astray, is_disorderly, is_overtaken, is_so
 use Rattle.hal_model.specs.Device.{is_left_by_flush}
 use Rattle.hal_model.specs.Framework.{is_held_target, is_in_flight, is_too_many, is_unknown_to}
 use Rattle.hal_model.specs.Points.{is_silent, is_unlit}
-use Rattle.hal_model.specs.Rules.{Fault, all_unannounced, at, at_buffers, at_frames, at_targets}
+use Rattle.hal_model.specs.declared.rule.Fault.{Fault}
+use Rattle.hal_model.specs.Rules.{all_unannounced, at, at_buffers, at_frames, at_targets}
 use Rattle.hal_model.specs.Words.{frames, is_begun, is_in_call, is_live, is_outstanding, is_unannounced_at, streams, targets_of}
 use Rattle.hal_rows.specs.Judged.{at_rows, at_target_rows, is_held_target_at, is_row_disorderly, is_row_in_flight, is_row_left_by_flush, is_row_overtaken, is_row_silent, is_row_unlit, is_row_wrongly_fenced, is_row_wrongly_filled, is_target_unknown_in, is_too_many_at, of_row, row_astray, row_silences}
 use Rattle.hal_rows.specs.Laws.{FaultsRead, IsHeard}
-use Rattle.hal_rows.specs.Row.{Row, TargetRow, is_row_outstanding, is_row_unannounced_at, row_of, rows, target_row}
+use Rattle.hal_rows.specs.declared.row.Row.{Row}
+use Rattle.hal_rows.specs.declared.row.TargetRow.{TargetRow}
+use Rattle.hal_rows.specs.Row.{is_row_outstanding, is_row_unannounced_at, row_of, rows, target_row}
 use Rattle.hal_rows.specs.State.{hal_state}
 use Rattle.hal_rows.proofs.Called.{held-target, too-many}
 use Rattle.hal_rows.proofs.Found.{filter-rows, row-found}

@@ -6,7 +6,8 @@ use Rattle.basic_lemmas.proofs.Lists.{find-mapped}
 use Rattle.hal_model.specs.declared.event.HalEvent.{HalEvent}
 use Rattle.hal_model.specs.declared.event.HalEvent.TheVariants.{RequestBegin}
 use Rattle.hal_model.specs.Words.{frames, is_begun, is_live}
-use Rattle.hal_rows.specs.Row.{Row, row_for, row_of, rows}
+use Rattle.hal_rows.specs.declared.row.Row.{Row}
+use Rattle.hal_rows.specs.Row.{row_for, row_of, rows}
 use Rattle.hal_rows.proofs.Rows.{frames-begun}
 
 -- ---- any, filter and sum

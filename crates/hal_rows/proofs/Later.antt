@@ -11,8 +11,9 @@ use Rattle.hal_model.specs.declared.event.HalEvent.TheVariants.{RequestBegin, Re
 use Rattle.hal_model.specs.Words.{accepts, before, begins, frames, had_later, has_later, is_begun, is_done, is_flushing, is_in_call, is_later_with, is_live, is_refused, stands}
 use Rattle.hal_rows.specs.Judged.{of_found}
 use Rattle.hal_rows.specs.Laws.{IsHeard}
-use Rattle.hal_rows.specs.Row.{Row, begun_count, note_row, rank_of, row_for, row_of, rows}
-use Rattle.hal_rows.specs.State.{hal_state, if_accepted, is_later_in_call, later_at, raised, settled, top}
+use Rattle.hal_rows.specs.declared.row.Row.{Row}
+use Rattle.hal_rows.specs.Row.{begun_count, note_row, rank_of, row_for, row_of, rows}
+use Rattle.hal_rows.specs.State.{if_accepted, is_later_by, is_later_in_call, raised, settled, top}
 use Rattle.hal_rows.proofs.Begun.{row-kept}
 use Rattle.hal_rows.proofs.Found.{any-rows, frames-have, row-found, row-none}
 use Rattle.hal_rows.proofs.Noted.{row_noted}
@@ -467,7 +468,7 @@ called-reads k test t own n past begun =
         by : (b a r s x c y : Bool) → b ≡ true → s ≡ c → x ≡ y → ((b && (not (b && a) && not r)) && (s && x)) ≡ ((not a && not r) && (c && y))
         by b a r s x c y h i j = rw (h, i, j) refl
 
-pub later-reads : (k : ℕ) (test : ℕ → List HalEvent → Bool) (t : Row → Bool) → IsOfRow k test t → (n : ℕ) (past : List HalEvent) → IsHeard k past → is_begun n past ≡ true → has_later test n past ≡ later_at t (row_of k past n) (hal_state k past)
+pub later-reads : (k : ℕ) (test : ℕ → List HalEvent → Bool) (t : Row → Bool) → IsOfRow k test t → (n : ℕ) (past : List HalEvent) → IsHeard k past → is_begun n past ≡ true → has_later test n past ≡ is_later_by t (row_of k past n) (top t k past) (rows k past)
 later-reads k test t own n past heard begun =
     rw (split-later k test n past heard)
     (turned (list_any (is_settled_later test n past) (frames past)) (list_any (is_called_later test n past) (frames past)) (had_later test n past) (nat_lt (suc (rank_of n past)) (top t k past)) (list_any (is_later_in_call t (row_of k past n)) (rows k past))

@@ -12,6 +12,7 @@ use Rattle.hal_model.specs.Words.{gives_something, has_later, has_notice, has_sh
 use Rattle.hal_rows.specs.Judged.{acquire_fence_at, buffer_order_at, buffer_status_at, callback_after_close_at, callback_after_failure_at, empty_result_at, ends_again_at, error_beside_request_error_at, error_for_good_buffer_at, error_twice_at, error_unknown_stream_at, failed_buffer_order_at, good_after_error_at, is_last_word_at, is_row_announced_for, is_row_astray, is_row_back_good, is_row_disorderly, is_row_disorderly_for, is_row_for, is_row_overtaken, is_row_overtaken_for, is_row_part_seen, is_row_told_of, is_row_wrongly_fenced, is_row_wrongly_filled, metadata_after_request_error_at, metadata_order_at, names_idle_at, not_at_device_at, partial_number_at, partial_twice_at, release_fence_at, request_error_late_at, row_astray, shutter_after_request_error_at, shutter_twice_at, unknown_frame_at}
 use Rattle.hal_rows.specs.Laws.{IsHeard}
 use Rattle.hal_rows.specs.Row.{row_of, target_row}
+use Rattle.hal_rows.specs.declared.order.Order.TheVariants.{Sound}
 use Rattle.hal_rows.specs.State.{hal_state, has_filled, has_orderly, has_other, has_sound, later_at}
 use Rattle.hal_rows.proofs.Brought.{filled-own, orderly-own, other-own, sound-own}
 use Rattle.hal_rows.proofs.Later.{later-reads, live-begun}
@@ -84,7 +85,7 @@ metadata-after-request-error k _ past = refl
 pub metadata-order : (k : ℕ) (e : HalEvent) (past : List HalEvent) → IsHeard k past → metadata_order k e past ≡ metadata_order_at k e (hal_state k past)
 metadata-order k (Results n j Entries buffers input) past heard =
     again (is_live k n past) ((j == k) && not (stands n (is_end_error n) past)) (has_later (has_sound_part k) n past)
-    ∙ of-live k n past (((j == k) && not (stands n (is_end_error n) past)) && has_later (has_sound_part k) n past) (λ r. ((j == k) && not (r.result_error || r.failed)) && later_at has_sound r (hal_state k past)) read
+    ∙ of-live k n past (((j == k) && not (stands n (is_end_error n) past)) && has_later (has_sound_part k) n past) (λ r. ((j == k) && not (r.result_error || r.failed)) && later_at Sound r (hal_state k past)) read
   where
     again : (a b c : Bool) → ((a && b) && c) ≡ (a && (b && c))
     again true b c = refl
@@ -93,7 +94,7 @@ metadata-order k (Results n j Entries buffers input) past heard =
     both : (a b c x y : Bool) → b ≡ x → c ≡ y → ((a && not b) && c) ≡ ((a && not x) && y)
     both a b c x y h i = rw (h, i) refl
 
-    read : is_live k n past ≡ true → (((j == k) && not (stands n (is_end_error n) past)) && has_later (has_sound_part k) n past) ≡ (((j == k) && not (stands n (is_error_result n) past || stands n (is_error_request n) past)) && later_at has_sound (row_of k past n) (hal_state k past))
+    read : is_live k n past ≡ true → (((j == k) && not (stands n (is_end_error n) past)) && has_later (has_sound_part k) n past) ≡ (((j == k) && not (stands n (is_error_result n) past || stands n (is_error_request n) past)) && later_at Sound (row_of k past n) (hal_state k past))
     read live = both (j == k) (stands n (is_end_error n) past) (has_later (has_sound_part k) n past) _ _ (any-or (is_error_result n) (is_error_request n) (since n past)) (later-reads k (has_sound_part k) has_sound (sound-own k) n past heard (live-begun k n past live))
 metadata-order k _ past heard = refl
 

@@ -12,7 +12,8 @@ use Rattle.hal_model.specs.Device.{is_left_by_flush}
 use Rattle.hal_model.specs.Words.{accepts, begins_flush, frames, has_shutter, held_by, held_count, is_accepted, is_accepted_before, is_all_back, is_begun, is_complete, is_done, is_ended, is_failed, is_held, is_in_call, is_in_time, is_last_empty, is_live, is_metadata_ended, is_out, is_outstanding, is_part, is_refused, is_requesting, is_some_outstanding, is_unannounced, numbers, since, stands, targets_of}
 use Rattle.hal_rows.specs.Judged.{held_count_at, is_held_at, is_holding, is_holding_for, is_requesting_at, is_row, is_row_awaited, is_row_called_from, is_row_in_flight, is_row_left_by_flush, is_row_newly_complete, is_row_part_seen, is_row_silent, is_row_unlit, of_called, of_live}
 use Rattle.hal_rows.specs.Laws.{IsHeard}
-use Rattle.hal_rows.specs.Row.{Row, is_row_complete, is_row_done, is_row_ended, is_row_in_call, is_row_outstanding, is_row_unannounced, part_row, row_of, rows, target_row}
+use Rattle.hal_rows.specs.declared.row.Row.{Row}
+use Rattle.hal_rows.specs.Row.{is_row_complete, is_row_done, is_row_ended, is_row_in_call, is_row_outstanding, is_row_unannounced, part_row, row_of, rows, target_row}
 use Rattle.hal_rows.specs.State.{hal_state}
 use Rattle.hal_rows.proofs.Found.{any-rows, row-found, row-none, sum-rows}
 use Rattle.hal_rows.proofs.Later.{live-begun}

@@ -13,11 +13,16 @@ use Rattle.hal_model.specs.declared.rule.Rule.TheVariants.{InitOrder, InitTwice,
 use Rattle.hal_model.specs.Callbacks.{has_acquire, is_fence_of, is_for, is_of, is_some_listed, is_unclear}
 use Rattle.hal_model.specs.Device.{is_idle_most, is_unnamed}
 use Rattle.hal_model.specs.Framework.{has_no_output, has_two_inputs, is_empty, is_past, is_twice_buffer, is_twice_stream, puts_out}
-use Rattle.hal_model.specs.Rules.{Fault, at, at_buffers, at_stream, at_targets, frame_in, ordered, plain}
+use Rattle.hal_model.specs.declared.rule.Fault.{Fault}
+use Rattle.hal_model.specs.Rules.{at, at_buffers, at_stream, at_targets, frame_in, ordered, plain}
 use Rattle.hal_model.specs.Words.{has_stream, is_absent, is_begin, is_callback, is_failed_buffer, is_filled, is_no_device, is_number, is_point, is_same_number}
-use Rattle.hal_rows.specs.Device.{Device}
-use Rattle.hal_rows.specs.Row.{Row, TargetRow, has_number, is_orderly_in, is_row_complete, is_row_done, is_row_in_call, is_row_in_time, is_row_outstanding, is_row_unannounced, is_row_unannounced_at, row_for}
-use Rattle.hal_rows.specs.State.{HalState, has_filled, has_orderly, has_other, has_sound, later_at}
+use Rattle.hal_rows.specs.declared.device.Device.{Device}
+use Rattle.hal_rows.specs.declared.row.Row.{Row}
+use Rattle.hal_rows.specs.declared.row.TargetRow.{TargetRow}
+use Rattle.hal_rows.specs.Row.{has_number, is_orderly_in, is_row_complete, is_row_done, is_row_in_call, is_row_in_time, is_row_outstanding, is_row_unannounced, is_row_unannounced_at, row_for}
+use Rattle.hal_rows.specs.declared.order.Order.{Order}
+use Rattle.hal_rows.specs.declared.order.Order.TheVariants.{Sound, Filled, Orderly, Other}
+use Rattle.hal_rows.specs.State.{HalState, later_at}
 
 abbrev pub of_found : (Row → Bool) → Option Row → Bool
 of_found test (Some r) = test r
@@ -307,7 +312,7 @@ metadata_after_request_error_at _ s = false
 
 abbrev pub metadata_order_at : ℕ → HalEvent → HalState → Bool
 metadata_order_at k (Results n j Entries _ _) s =
-    of_live (λ r. ((j == k) && not (r.result_error || r.failed)) && later_at has_sound r s) n s
+    of_live (λ r. ((j == k) && not (r.result_error || r.failed)) && later_at Sound r s) n s
 metadata_order_at k _ s = false
 
 abbrev pub is_row_astray : Row → List Returned → Returned → Bool
@@ -330,7 +335,7 @@ buffer_status_at (Results _ _ _ buffers _) s = list_any is_unclear buffers
 buffer_status_at _ s = false
 
 abbrev pub is_row_overtaken_for : HalState → Row → Option ℕ → Bool
-is_row_overtaken_for s r (Some x) = later_at (has_filled x) r s
+is_row_overtaken_for s r (Some x) = later_at (Filled x) r s
 is_row_overtaken_for s r None = false
 
 abbrev pub is_row_overtaken : HalState → Row → Returned → Bool
@@ -340,11 +345,11 @@ abbrev pub buffer_order_at : HalEvent → HalState → Bool
 buffer_order_at (Results n _ _ buffers _) s = of_live (λ r. list_any (is_row_overtaken s r) buffers) n s
 buffer_order_at _ s = false
 
-abbrev pub other_row : Returned → ℕ → Row → Bool
-other_row b = if is_filled b then has_other else has_orderly
+abbrev pub other_order : Returned → ℕ → Order
+other_order b x = if is_filled b then Other x else Orderly x
 
 abbrev pub is_row_disorderly_for : HalState → Row → Returned → Option ℕ → Bool
-is_row_disorderly_for s r b (Some x) = later_at (other_row b x) r s
+is_row_disorderly_for s r b (Some x) = later_at (other_order b x) r s
 is_row_disorderly_for s r b None = false
 
 abbrev pub is_row_disorderly : HalState → Row → Returned → Bool

@@ -5,8 +5,9 @@ use Rattle.hal_model.specs.declared.event.HalEvent.TheVariants.{OpenOk, RequestB
 use Rattle.hal_model.specs.Words.{is_open_ok}
 use Rattle.hal_rows.specs.Device.{note_device}
 use Rattle.hal_rows.specs.Judged.{ends_again_at, excused_at, names_idle_at}
-use Rattle.hal_rows.specs.Row.{Row, fresh_row, note_rows, rows_but}
-use Rattle.hal_rows.specs.State.{HalState, hal_state, raised, settled}
+use Rattle.hal_rows.specs.declared.row.Row.{Row}
+use Rattle.hal_rows.specs.Row.{fresh_row, note_rows, rows_but}
+use Rattle.hal_rows.specs.State.{HalState, brings, hal_state, raised, settled}
 
 -- a request that begins has a fresh row, in place of the one of its number
 abbrev pub rows_after : ℕ → HalEvent → HalState → List Row
@@ -20,7 +21,7 @@ abbrev pub noted : ℕ → HalEvent → HalState → HalState
 noted k e s = record {
   device = note_device e s.device;
   rows = rows_after k e s;
-  top = λ test. raised test (settled k s.device.flush.out e s.rows) (s.top test);
+  top = λ order. raised (brings order) (settled k s.device.flush.out e s.rows) (s.top order);
 }
 
 -- an event that stands for nothing

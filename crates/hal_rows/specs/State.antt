@@ -6,8 +6,12 @@ use Rattle.std.specs.Option.{option_map}
 use Rattle.hal_model.specs.declared.event.HalEvent.{HalEvent}
 use Rattle.hal_model.specs.declared.event.HalEvent.TheVariants.{RequestBegin, RequestOk, Results}
 use Rattle.hal_model.specs.Words.{is_flushing}
-use Rattle.hal_rows.specs.Device.{Device, above, device_of}
-use Rattle.hal_rows.specs.Row.{Row, is_row_in_call, note_row, row_for, rows}
+use Rattle.hal_rows.specs.declared.device.Device.{Device}
+use Rattle.hal_rows.specs.declared.order.Order.{Order}
+use Rattle.hal_rows.specs.declared.order.Order.TheVariants.{Sound, Filled, Orderly, Other}
+use Rattle.hal_rows.specs.Device.{above, device_of}
+use Rattle.hal_rows.specs.declared.row.Row.{Row}
+use Rattle.hal_rows.specs.Row.{is_row_in_call, note_row, row_for, rows}
 
 -- ---- order: a later request that brought something back is live and in call, or its rank is below the top; of a
 -- request that is in call nothing counts here, since it may still be refused
@@ -48,19 +52,29 @@ has_orderly s r = list_any (λ t. (t.target.stream == s) && t.orderly) r.targets
 abbrev pub has_other : ℕ → Row → Bool
 has_other s r = list_any (λ t. (t.target.stream == s) && t.other) r.targets
 
+-- the row brought back what the order asks for
+abbrev pub brings : Order → Row → Bool
+brings Sound = has_sound
+brings (Filled s) = has_filled s
+brings (Orderly s) = has_orderly s
+brings (Other s) = has_other s
+
 -- ---- the state
 
 pub record HalState : Type 0 where
   pub device : Device
   pub rows : List Row
-  pub top : (Row → Bool) → ℕ
+  pub top : Order → ℕ
 
 abbrev pub hal_state : ℕ → List HalEvent → HalState
-hal_state k past = record { device = device_of past; rows = rows k past; top = λ test. top test k past }
+hal_state k past = record { device = device_of past; rows = rows k past; top = λ order. top (brings order) k past }
 
 -- a later request than the row's passes the test
 abbrev pub is_later_in_call : (Row → Bool) → Row → Row → Bool
 is_later_in_call test r q = is_row_in_call q && (nat_lt r.rank q.rank && test q)
 
-abbrev pub later_at : (Row → Bool) → Row → HalState → Bool
-later_at test r s = nat_lt (suc r.rank) (s.top test) || list_any (is_later_in_call test r) s.rows
+abbrev pub is_later_by : (Row → Bool) → Row → ℕ → List Row → Bool
+is_later_by test r top each = nat_lt (suc r.rank) top || list_any (is_later_in_call test r) each
+
+abbrev pub later_at : Order → Row → HalState → Bool
+later_at order r s = is_later_by (brings order) r (s.top order) s.rows

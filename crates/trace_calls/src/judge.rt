@@ -50,8 +50,9 @@ pub fn check_call<S: Source, K: Sink>(alloc: Global, source: &mut S, sink: &mut 
     }
 }
 
-/// Reads the script of an input, and judges its trace.
-fn judge_input<K: Sink>(alloc: Global, input: &[u8], sink: &mut K) -> Status
+/// Reads a script followed by a trace, judges the trace and writes the verdict: what `check` does of an input that is
+/// read.
+pub fn judge_input<K: Sink>(alloc: Global, input: &[u8], sink: &mut K) -> Status
     requires { length input.now ≤ 134217728 }
     ensures { TellsBy (JudgesWhole input.now) result.number (K.state sink.old) (K.state sink.new) }
 {

@@ -5,4 +5,4 @@ mod convert;
 mod judge;
 
 pub use convert::convert_call;
-pub use judge::check_call;
+pub use judge::{check_call, judge_input};

@@ -1,0 +1,346 @@
+//! The rules that bind the device in the buffers that come back.
+ghost use Rattle.std.specs.Prelude.{◌≡◌, ◌&&◌, ◌||◌, ◌∷◌, [], ◌++◌, List, Option, drop, length, not, option_copied, reverse, take, IfOk, IsTrue};
+ghost use Rattle.std.specs.List.{list_any};
+ghost use Rattle.hal_model.specs.Callbacks.{has_acquire, is_fence_of, is_of, is_some_listed, is_unclear};
+ghost use Rattle.hal_model.specs.Words.{is_number, is_same_number};
+ghost use Rattle.hal_rows.specs.Judged.{acquire_fence_at, buffer_order_at, buffer_status_at, failed_buffer_order_at, good_after_error_at, is_row_announced_for, is_row_astray, is_row_disorderly, is_row_disorderly_for, is_row_overtaken, is_row_overtaken_for, is_row_wrongly_fenced, is_row_wrongly_filled, not_at_device_at, of_found, other_order, release_fence_at, row_astray};
+ghost use Rattle.hal_table.specs.State.{state_of};
+
+use crate::later::is_later;
+use hal_model::{HalEvent, HalFence, HalTarget, Returned};
+use hal_rows::{Order, Row, TargetRow};
+use hal_table::buffer::{is_absent, is_failed_buffer, is_filled, is_orderly};
+use hal_table::word::{is_number, is_same_number};
+use hal_table::{HalTable, has_number};
+
+// ---- status and acquire fence
+
+/// Whether the status is neither ok nor error.
+pub fn is_unclear(buffer: &Returned) -> bool
+    ensures { result ≡ is_unclear buffer.now }
+{
+    !(is_filled(buffer) || is_failed_buffer(buffer))
+}
+
+fn is_some_unclear(buffers: &[Returned]) -> bool
+    ensures { result ≡ list_any is_unclear buffers.now }
+{
+    buffers.iter().any(|buffer| is_unclear(buffer))
+}
+
+/// Whether a buffer's status is neither ok nor error.
+pub fn buffer_status(event: &HalEvent, table: &HalTable) -> bool
+    ensures { result ≡ buffer_status_at event.now (state_of table.now) }
+{
+    match event {
+        HalEvent::Results { buffers, .. } => is_some_unclear(buffers.as_slice()),
+        _ => false,
+    }
+}
+
+/// Whether the buffer carries an acquire fence.
+pub fn has_acquire(buffer: &Returned) -> bool
+    ensures { result ≡ has_acquire buffer.now }
+{
+    buffer.acquire
+}
+
+fn is_some_acquire(buffers: &[Returned]) -> bool
+    ensures { result ≡ list_any has_acquire buffers.now }
+{
+    buffers.iter().any(|buffer| has_acquire(buffer))
+}
+
+/// Whether a buffer carries an acquire fence.
+pub fn acquire_fence(event: &HalEvent, table: &HalTable) -> bool
+    ensures { result ≡ acquire_fence_at event.now (state_of table.now) }
+{
+    match event {
+        HalEvent::Results { buffers, .. } => is_some_acquire(buffers.as_slice()),
+        _ => false,
+    }
+}
+
+// ---- buffers that aren't at the device
+
+fn is_of(target: &HalTarget, buffer: &Returned) -> bool
+    ensures { result ≡ is_of target.now buffer.now }
+{
+    is_number(target.stream, buffer.stream) && is_number(target.buffer, buffer.buffer)
+}
+
+fn is_out_as(buffer: &Returned, target: &TargetRow) -> bool
+    ensures { result ≡ (is_of target.now.target buffer.now && not target.now.back) }
+{
+    is_of(&target.target, buffer) && !target.back
+}
+
+fn is_at_device(targets: &[TargetRow], buffer: &Returned) -> bool
+    ensures { result ≡ list_any (λ t. is_of t.target buffer.now && not t.back) targets.now }
+{
+    targets.iter().any(|target| is_out_as(buffer, target))
+}
+
+fn is_same_buffer(a: &Returned, b: &Returned) -> bool
+    ensures { result ≡ is_same_number a.now.buffer b.now.buffer }
+{
+    is_same_number(a.buffer, b.buffer)
+}
+
+/// Whether a buffer is one of the earlier ones.
+fn is_earlier(earlier: &[Returned], buffer: &Returned) -> bool
+    ensures { result ≡ list_any (λ q. is_same_number q.buffer buffer.now.buffer) earlier.now }
+{
+    earlier.iter().any(|other| is_same_buffer(other, buffer))
+}
+
+/// Whether the buffer isn't at the device, or stands before in the same result.
+#[tactic(auto, using(crate::proofs::Astray::any_turned))]
+pub fn is_astray(row: &Row, earlier: &[Returned], buffer: &Returned) -> bool
+    ensures { result ≡ is_row_astray row.now (reverse earlier.now) buffer.now }
+{
+    !is_at_device(row.targets.as_slice(), buffer) || is_earlier(earlier, buffer)
+}
+
+fn is_some_astray(row: &Row, buffers: &[Returned]) -> bool
+    ensures { result ≡ is_some_listed (row_astray row.now [] buffers.now) }
+{
+    for (place, buffer) in buffers.iter().enumerate() {
+        if is_astray(row, &buffers[..place], buffer) {
+            return true;
+        }
+    }
+    false
+}
+
+fn has_astray(buffers: &[Returned], row: Option<&Row>) -> bool
+    ensures { result ≡ of_found (λ r. is_some_listed (row_astray r [] buffers.now)) (option_copied row.entry) }
+{
+    match row {
+        Some(row) => is_some_astray(row, buffers),
+        None => false,
+    }
+}
+
+/// Whether a buffer comes back that isn't at the device.
+pub fn not_at_device(event: &HalEvent, table: &HalTable) -> bool
+    ensures { result ≡ not_at_device_at event.now (state_of table.now) }
+{
+    match event {
+        HalEvent::Results { frame, buffers, .. } => {
+            has_astray(buffers.as_slice(), table.row_for(*frame))
+        }
+        _ => false,
+    }
+}
+
+// ---- order
+
+fn is_overtaken_for(stream: Option<u32>, row: &Row, table: &HalTable) -> bool
+    ensures { result ≡ is_row_overtaken_for (state_of table.now) row.now stream }
+{
+    match stream {
+        Some(stream) => is_later(Order::Filled(stream), row, table),
+        None => false,
+    }
+}
+
+/// Whether the buffer is ok, and an ok one of a later request is back.
+pub fn is_overtaken(row: &Row, table: &HalTable, buffer: &Returned) -> bool
+    ensures { result ≡ is_row_overtaken (state_of table.now) row.now buffer.now }
+{
+    is_filled(buffer) && is_overtaken_for(buffer.stream, row, table)
+}
+
+fn is_some_overtaken(row: &Row, table: &HalTable, buffers: &[Returned]) -> bool
+    ensures { result ≡ list_any (is_row_overtaken (state_of table.now) row.now) buffers.now }
+{
+    buffers
+        .iter()
+        .any(|buffer| is_overtaken(row, table, buffer))
+}
+
+fn has_overtaken(buffers: &[Returned], row: Option<&Row>, table: &HalTable) -> bool
+    ensures { result ≡ of_found (λ r. list_any (is_row_overtaken (state_of table.now) r) buffers.now)
+        (option_copied row.entry) }
+{
+    match row {
+        Some(row) => is_some_overtaken(row, table, buffers),
+        None => false,
+    }
+}
+
+/// Whether an ok buffer comes back after one of a later request.
+pub fn buffer_order(event: &HalEvent, table: &HalTable) -> bool
+    ensures { result ≡ buffer_order_at event.now (state_of table.now) }
+{
+    match event {
+        HalEvent::Results { frame, buffers, .. } => {
+            has_overtaken(buffers.as_slice(), table.row_for(*frame), table)
+        }
+        _ => false,
+    }
+}
+
+fn other_order(buffer: &Returned, stream: u32) -> Order
+    ensures { result ≡ other_order buffer.now stream }
+{
+    if is_filled(buffer) {
+        Order::Other(stream)
+    } else {
+        Order::Orderly(stream)
+    }
+}
+
+fn is_disorderly_for(buffer: &Returned, row: &Row, table: &HalTable) -> bool
+    ensures { result ≡ is_row_disorderly_for (state_of table.now) row.now buffer.now buffer.now.stream }
+{
+    match buffer.stream {
+        Some(stream) => is_later(other_order(buffer, stream), row, table),
+        None => false,
+    }
+}
+
+/// Whether the buffer comes out of the strict order.
+pub fn is_disorderly(row: &Row, table: &HalTable, buffer: &Returned) -> bool
+    ensures { result ≡ is_row_disorderly (state_of table.now) row.now buffer.now }
+{
+    is_orderly(table.device().flush.out, buffer) && is_disorderly_for(buffer, row, table)
+}
+
+fn is_some_disorderly(row: &Row, table: &HalTable, buffers: &[Returned]) -> bool
+    ensures { result ≡ list_any (is_row_disorderly (state_of table.now) row.now) buffers.now }
+{
+    buffers
+        .iter()
+        .any(|buffer| is_disorderly(row, table, buffer))
+}
+
+fn has_disorderly(buffers: &[Returned], row: Option<&Row>, table: &HalTable) -> bool
+    ensures { result ≡ of_found (λ r. list_any (is_row_disorderly (state_of table.now) r) buffers.now)
+        (option_copied row.entry) }
+{
+    match row {
+        Some(row) => is_some_disorderly(row, table, buffers),
+        None => false,
+    }
+}
+
+/// Whether a buffer comes back out of the strict order.
+pub fn failed_buffer_order(event: &HalEvent, table: &HalTable) -> bool
+    ensures { result ≡ failed_buffer_order_at event.now (state_of table.now) }
+{
+    match event {
+        HalEvent::Results { frame, buffers, .. } => {
+            has_disorderly(buffers.as_slice(), table.row_for(*frame), table)
+        }
+        _ => false,
+    }
+}
+
+// ---- buffers after an error
+
+fn is_announced_for(row: &Row, stream: Option<u32>) -> bool
+    ensures { result ≡ is_row_announced_for row.now stream }
+{
+    match stream {
+        Some(stream) => has_number(stream, row.notices.as_slice()),
+        None => false,
+    }
+}
+
+/// Whether the buffer is ok that was said to be in error.
+pub fn is_wrongly_filled(row: &Row, buffer: &Returned) -> bool
+    ensures { result ≡ is_row_wrongly_filled row.now buffer.now }
+{
+    is_filled(buffer) && (row.failed || is_announced_for(row, buffer.stream))
+}
+
+fn is_some_wrongly_filled(row: &Row, buffers: &[Returned]) -> bool
+    ensures { result ≡ list_any (is_row_wrongly_filled row.now) buffers.now }
+{
+    buffers.iter().any(|buffer| is_wrongly_filled(row, buffer))
+}
+
+fn has_wrongly_filled(buffers: &[Returned], row: Option<&Row>) -> bool
+    ensures { result ≡ of_found (λ r. list_any (is_row_wrongly_filled r) buffers.now) (option_copied row.entry) }
+{
+    match row {
+        Some(row) => is_some_wrongly_filled(row, buffers),
+        None => false,
+    }
+}
+
+/// Whether an ok buffer comes back that was said to be in error.
+pub fn good_after_error(event: &HalEvent, table: &HalTable) -> bool
+    ensures { result ≡ good_after_error_at event.now (state_of table.now) }
+{
+    match event {
+        HalEvent::Results { frame, buffers, .. } => {
+            has_wrongly_filled(buffers.as_slice(), table.row_for(*frame))
+        }
+        _ => false,
+    }
+}
+
+// ---- release fences
+
+fn is_fence_of(release: HalFence, acquire: Option<u32>) -> bool
+    ensures { result ≡ is_fence_of release acquire }
+{
+    match release {
+        HalFence::Absent => true,
+        HalFence::Number(release) => is_number(release, acquire),
+        HalFence::Foreign => false,
+    }
+}
+
+fn is_fenced_as(buffer: &Returned, target: &TargetRow) -> bool
+    ensures { result ≡ (is_number target.now.target.buffer buffer.now.buffer
+        && is_fence_of buffer.now.release target.now.target.fence) }
+{
+    is_number(target.target.buffer, buffer.buffer)
+        && is_fence_of(buffer.release, target.target.fence)
+}
+
+fn has_own_fence(targets: &[TargetRow], buffer: &Returned) -> bool
+    ensures { result ≡ list_any (λ t. is_number t.target.buffer buffer.now.buffer
+        && is_fence_of buffer.now.release t.target.fence) targets.now }
+{
+    targets.iter().any(|target| is_fenced_as(buffer, target))
+}
+
+/// Whether the failed buffer has a release fence other than its acquire fence.
+pub fn is_wrongly_fenced(row: &Row, buffer: &Returned) -> bool
+    ensures { result ≡ is_row_wrongly_fenced row.now buffer.now }
+{
+    is_failed_buffer(buffer)
+        && (!is_absent(buffer.release) && !has_own_fence(row.targets.as_slice(), buffer))
+}
+
+fn is_some_wrongly_fenced(row: &Row, buffers: &[Returned]) -> bool
+    ensures { result ≡ list_any (is_row_wrongly_fenced row.now) buffers.now }
+{
+    buffers.iter().any(|buffer| is_wrongly_fenced(row, buffer))
+}
+
+fn has_wrongly_fenced(buffers: &[Returned], row: Option<&Row>) -> bool
+    ensures { result ≡ of_found (λ r. list_any (is_row_wrongly_fenced r) buffers.now) (option_copied row.entry) }
+{
+    match row {
+        Some(row) => is_some_wrongly_fenced(row, buffers),
+        None => false,
+    }
+}
+
+/// Whether a failed buffer comes back with a release fence other than its acquire fence.
+pub fn release_fence(event: &HalEvent, table: &HalTable) -> bool
+    ensures { result ≡ release_fence_at event.now (state_of table.now) }
+{
+    match event {
+        HalEvent::Results { frame, buffers, .. } => {
+            has_wrongly_fenced(buffers.as_slice(), table.row_for(*frame))
+        }
+        _ => false,
+    }
+}

@@ -1,0 +1,396 @@
+//! The rules that bind the framework: whether an event breaks them.
+ghost use Rattle.std.specs.Prelude.{◌≡◌, ◌==◌, ◌+◌, ◌&&◌, ◌||◌, ℕ, count_by, find, min, nat_lt, not, option_copied, sum_by};
+ghost use Rattle.std.specs.List.{list_all, list_any};
+ghost use Rattle.hal_model.specs.Framework.{has_no_output, has_two_inputs, is_past, is_twice_stream};
+ghost use Rattle.hal_model.specs.Words.{is_begin};
+ghost use Rattle.hal_rows.specs.Row.{is_row_in_call};
+ghost use Rattle.hal_rows.specs.Judged.{call_after_close_at, configure_in_flight_at, excused_at, frame_number_at, held_buffer_at, held_count_at, init_order_at, init_twice_at, is_flawed_at, is_held_at, is_held_target_at, is_holding, is_holding_for, is_in_other_call_at, is_output_in, is_requesting_at, is_row_awaited, is_row_called_from, is_row_in_flight, is_too_many_at, is_unknown_in, no_configuration_at, no_output_at, no_settings_at, overlapping_calls_at, repeated_stream_at, too_many_buffers_at, two_inputs_at, unknown_stream_at};
+ghost use Rattle.hal_table.specs.State.{state_of};
+
+use crate::stream::{
+    are_outputs_in, find_most, has_no_output, has_two_inputs, is_twice_buffer, is_twice_stream,
+    is_unknown_in, is_without_target, stream_count,
+};
+use hal_model::{HalEvent, HalStream, HalTarget, StreamMax};
+use hal_rows::{Device, Row, TargetRow};
+use hal_table::HalTable;
+use hal_table::row::is_in_call;
+
+/// Whether a call begins.
+fn is_begin(event: &HalEvent) -> bool
+    ensures { result ≡ is_begin event.now }
+{
+    matches!(
+        event,
+        HalEvent::OpenBegin
+            | HalEvent::InitBegin
+            | HalEvent::TemplateBegin { .. }
+            | HalEvent::ConfigureBegin { .. }
+            | HalEvent::RequestBegin { .. }
+            | HalEvent::FlushBegin
+            | HalEvent::CloseBegin
+    )
+}
+
+// ---- calls
+
+/// Whether a call begins before the device is initialized.
+pub fn init_order(event: &HalEvent, table: &HalTable) -> bool
+    ensures { result ≡ init_order_at event.now (state_of table.now) }
+{
+    match event {
+        HalEvent::OpenBegin => false,
+        HalEvent::InitBegin => false,
+        HalEvent::CloseBegin => false,
+        _ => is_begin(event) && !table.device().initialized,
+    }
+}
+
+/// Whether initialize begins a second time.
+pub fn init_twice(event: &HalEvent, table: &HalTable) -> bool
+    ensures { result ≡ init_twice_at event.now (state_of table.now) }
+{
+    match event {
+        HalEvent::InitBegin => table.device().init_begun,
+        _ => false,
+    }
+}
+
+/// Whether a request begins where no configuration stands.
+pub fn no_configuration(event: &HalEvent, table: &HalTable) -> bool
+    ensures { result ≡ no_configuration_at event.now (state_of table.now) }
+{
+    match event {
+        HalEvent::RequestBegin { .. } => !table.device().configured,
+        _ => false,
+    }
+}
+
+/// Whether a request has no target, or a configuration no output.
+pub fn no_output(event: &HalEvent, table: &HalTable) -> bool
+    ensures { result ≡ no_output_at event.now (state_of table.now) }
+{
+    match event {
+        HalEvent::RequestBegin { targets, .. } => is_without_target(targets.as_slice()),
+        HalEvent::ConfigureBegin { streams, .. } => has_no_output(streams.as_slice()),
+        _ => false,
+    }
+}
+
+/// Whether a request has no settings where none are known.
+pub fn no_settings(event: &HalEvent, table: &HalTable) -> bool
+    ensures { result ≡ no_settings_at event.now (state_of table.now) }
+{
+    match event {
+        HalEvent::RequestBegin { same, .. } => *same && !table.device().settings,
+        _ => false,
+    }
+}
+
+/// Whether a configuration has two inputs.
+pub fn two_inputs(event: &HalEvent, table: &HalTable) -> bool
+    ensures { result ≡ two_inputs_at event.now (state_of table.now) }
+{
+    match event {
+        HalEvent::ConfigureBegin { streams, .. } => has_two_inputs(streams.as_slice()),
+        _ => false,
+    }
+}
+
+fn are_back(targets: &[TargetRow]) -> bool
+    ensures { result ≡ list_all (λ t. t.back) targets.now }
+{
+    targets.iter().all(|target| target.back)
+}
+
+fn is_awaited(row: &Row) -> bool
+    ensures { result ≡ is_row_awaited row.now }
+{
+    row.accepted
+        && !(((row.last_part || (row.result_error || row.failed)) || row.last_empty)
+            && are_back(row.targets.as_slice()))
+}
+
+/// Whether the request stands in the way of a configuration.
+pub fn is_in_flight(row: &Row) -> bool
+    ensures { result ≡ is_row_in_flight row.now }
+{
+    is_in_call(row) || (is_awaited(row) && !row.flushed)
+}
+
+fn is_some_in_flight(rows: &[Row]) -> bool
+    ensures { result ≡ list_any is_row_in_flight rows.now }
+{
+    rows.iter().any(|row| is_in_flight(row))
+}
+
+/// Whether a configuration begins while requests are in flight.
+pub fn configure_in_flight(event: &HalEvent, table: &HalTable) -> bool
+    ensures { result ≡ configure_in_flight_at event.now (state_of table.now) }
+{
+    match event {
+        HalEvent::ConfigureBegin { .. } => is_some_in_flight(table.rows()),
+        _ => false,
+    }
+}
+
+fn is_some_in_call(rows: &[Row]) -> bool
+    ensures { result ≡ list_any is_row_in_call rows.now }
+{
+    rows.iter().any(|row| is_in_call(row))
+}
+
+/// Whether a request or a configure is in call.
+fn is_calling(table: &HalTable) -> bool
+    ensures { result ≡ (is_requesting_at (state_of table.now) || table.now.device.configure.out) }
+{
+    is_some_in_call(table.rows()) || table.device().configure.out
+}
+
+fn is_in_other_call(device: &Device) -> bool
+    ensures { result ≡ is_in_other_call_at device.now }
+{
+    device.opening.out
+        || (device.init.out || (device.template.out || (device.flush.out || device.close.out)))
+}
+
+/// Whether a call begins while another one is out.
+pub fn overlapping_calls(event: &HalEvent, table: &HalTable) -> bool
+    ensures { result ≡ overlapping_calls_at event.now (state_of table.now) }
+{
+    match event {
+        HalEvent::RequestBegin { .. } => is_calling(table),
+        HalEvent::ConfigureBegin { .. } => is_calling(table),
+        HalEvent::CloseBegin => is_calling(table) || is_in_other_call(table.device()),
+        _ => false,
+    }
+}
+
+/// Whether a call begins after a close began.
+pub fn call_after_close(event: &HalEvent, table: &HalTable) -> bool
+    ensures { result ≡ call_after_close_at event.now (state_of table.now) }
+{
+    match event {
+        HalEvent::OpenBegin => false,
+        _ => is_begin(event) && table.device().closing,
+    }
+}
+
+// ---- requests
+
+fn is_called_from(frame: u32, row: &Row) -> bool
+    ensures { result ≡ is_row_called_from frame row.now }
+{
+    is_in_call(row) && row.frame >= frame
+}
+
+fn is_some_called_from(frame: u32, rows: &[Row]) -> bool
+    ensures { result ≡ list_any (is_row_called_from frame) rows.now }
+{
+    rows.iter().any(|row| is_called_from(frame, row))
+}
+
+/// Whether a request's number isn't above those before it.
+pub fn frame_number(event: &HalEvent, table: &HalTable) -> bool
+    ensures { result ≡ frame_number_at event.now (state_of table.now) }
+{
+    match event {
+        HalEvent::RequestBegin { frame, .. } => {
+            u64::from(*frame) < table.device().top || is_some_called_from(*frame, table.rows())
+        }
+        _ => false,
+    }
+}
+
+fn is_holding(number: u32, target: &TargetRow) -> bool
+    ensures { result ≡ is_holding number target.now }
+{
+    target.target.buffer == number && !target.back
+}
+
+fn is_held_in(number: u32, targets: &[TargetRow]) -> bool
+    ensures { result ≡ list_any (is_holding number) targets.now }
+{
+    targets.iter().any(|target| is_holding(number, target))
+}
+
+fn is_held_by(number: u32, row: &Row) -> bool
+    ensures { result ≡ list_any (is_holding number) row.now.targets }
+{
+    is_held_in(number, row.targets.as_slice())
+}
+
+fn is_held(number: u32, rows: &[Row]) -> bool
+    ensures { result ≡ is_held_at number rows.now }
+{
+    rows.iter().any(|row| is_held_by(number, row))
+}
+
+/// Whether the target's buffer is held, or stands twice among the targets.
+pub fn is_held_target(targets: &[HalTarget], table: &HalTable, target: &HalTarget) -> bool
+    ensures { result ≡ is_held_target_at targets.now (state_of table.now) target.now }
+{
+    is_held(target.buffer, table.rows()) || is_twice_buffer(targets, target)
+}
+
+fn is_some_held(targets: &[HalTarget], table: &HalTable) -> bool
+    ensures { result ≡ list_any (is_held_target_at targets.now (state_of table.now)) targets.now }
+{
+    targets
+        .iter()
+        .any(|target| is_held_target(targets, table, target))
+}
+
+/// Whether a request asks for a buffer that is held.
+pub fn held_buffer(event: &HalEvent, table: &HalTable) -> bool
+    ensures { result ≡ held_buffer_at event.now (state_of table.now) }
+{
+    match event {
+        HalEvent::RequestBegin { targets, .. } => is_some_held(targets.as_slice(), table),
+        _ => false,
+    }
+}
+
+fn is_some_twice(targets: &[HalTarget]) -> bool
+    ensures { result ≡ list_any (is_twice_stream targets.now) targets.now }
+{
+    targets
+        .iter()
+        .any(|target| is_twice_stream(targets, target))
+}
+
+/// Whether a request has two targets of a stream.
+pub fn repeated_stream(event: &HalEvent, table: &HalTable) -> bool
+    ensures { result ≡ repeated_stream_at event.now (state_of table.now) }
+{
+    match event {
+        HalEvent::RequestBegin { targets, .. } => is_some_twice(targets.as_slice()),
+        _ => false,
+    }
+}
+
+fn is_holding_for(number: u32, target: &TargetRow) -> bool
+    ensures { result ≡ is_holding_for number target.now }
+{
+    target.target.stream == number && !target.back
+}
+
+fn held_in(number: u32, targets: &[TargetRow]) -> usize
+    ensures { result ≡ count_by (is_holding_for number) targets.now }
+{
+    targets
+        .iter()
+        .filter(|target| is_holding_for(number, target))
+        .count()
+}
+
+/// How many buffers of the stream are held, or the greatest number that is kept.
+fn held_count(number: u32, rows: &[Row]) -> u64
+    ensures { result ≡ min (held_count_at number rows.now) u64.MAX }
+{
+    let mut count = 0u64;
+    for row in rows {
+        count = count.saturating_add(held_in(number, row.targets.as_slice()) as u64);
+    }
+    count
+}
+
+/// Whether the number is above what the device takes, unless that is 0.
+fn is_past(most: Option<&StreamMax>, count: u64) -> bool
+    ensures { (n : ℕ) → count ≡ min n u64.MAX → result ≡ is_past (option_copied most.entry) n }
+{
+    match most {
+        Some(most) => 0 < most.max && u64::from(most.max) < count,
+        None => false,
+    }
+}
+
+/// Whether with the targets more buffers of the target's stream are held than the device takes.
+pub fn is_too_many(targets: &[HalTarget], table: &HalTable, target: &HalTarget) -> bool
+    ensures { result ≡ is_too_many_at targets.now (state_of table.now) target.now }
+{
+    let held = held_count(target.stream, table.rows());
+    let count = held.saturating_add(stream_count(target.stream, targets) as u64);
+    is_past(
+        find_most(table.device().most.as_slice(), target.stream),
+        count,
+    )
+}
+
+fn is_some_too_many(targets: &[HalTarget], table: &HalTable) -> bool
+    ensures { result ≡ list_any (is_too_many_at targets.now (state_of table.now)) targets.now }
+{
+    targets
+        .iter()
+        .any(|target| is_too_many(targets, table, target))
+}
+
+/// Whether a request asks for more buffers than the device takes.
+pub fn too_many_buffers(event: &HalEvent, table: &HalTable) -> bool
+    ensures { result ≡ too_many_buffers_at event.now (state_of table.now) }
+{
+    match event {
+        HalEvent::RequestBegin { targets, .. } => is_some_too_many(targets.as_slice(), table),
+        _ => false,
+    }
+}
+
+fn is_some_unknown(streams: &[HalStream], targets: &[HalTarget]) -> bool
+    ensures { result ≡ list_any (is_unknown_in streams.now) targets.now }
+{
+    targets.iter().any(|target| is_unknown_in(streams, target))
+}
+
+/// Whether a request has a target of a stream that isn't configured.
+pub fn unknown_stream(event: &HalEvent, table: &HalTable) -> bool
+    ensures { result ≡ unknown_stream_at event.now (state_of table.now) }
+{
+    match event {
+        HalEvent::RequestBegin { targets, .. } => {
+            is_some_unknown(table.device().streams.as_slice(), targets.as_slice())
+        }
+        _ => false,
+    }
+}
+
+// ---- what excuses a refusal
+
+/// Whether the event breaks one of the rules on requests.
+fn is_flawed(event: &HalEvent, table: &HalTable) -> bool
+    ensures { result ≡ is_flawed_at event.now (state_of table.now) }
+{
+    ((init_order(event, table) || (no_configuration(event, table) || no_output(event, table)))
+        || (no_settings(event, table)
+            || (overlapping_calls(event, table) || call_after_close(event, table))))
+        || ((frame_number(event, table)
+            || (held_buffer(event, table) || repeated_stream(event, table)))
+            || (too_many_buffers(event, table) || unknown_stream(event, table)))
+}
+
+/// Whether the targets or the configuration excuse a refusal, or a flush.
+fn is_unfit(targets: &[HalTarget], device: &Device) -> bool
+    ensures { result ≡ ((not (list_all (is_output_in device.now.streams) targets.now)
+        || (has_no_output device.now.streams || has_two_inputs device.now.streams)) || device.now.flush.out) }
+{
+    let streams = device.streams.as_slice();
+    (!are_outputs_in(streams, targets) || (has_no_output(streams) || has_two_inputs(streams)))
+        || device.flush.out
+}
+
+/// Whether the begin of a request excuses its refusal.
+pub fn is_excused(event: &HalEvent, table: &HalTable) -> bool
+    ensures { result ≡ excused_at event.now (state_of table.now) }
+{
+    match event {
+        HalEvent::RequestBegin {
+            targets,
+            no_handle,
+            bad_settings,
+            ..
+        } => {
+            (is_flawed(event, table) || (*no_handle || *bad_settings))
+                || is_unfit(targets.as_slice(), table.device())
+        }
+        _ => true,
+    }
+}

@@ -1,0 +1,82 @@
+-- The report, one rule and one event after the other.
+use Rattle.std.proofs.Common.{◌≡◌, ◌∙◌, ℕ, zero, suc, ◌+◌, ◌<◌, ◌≤◌, List, [], ◌∷◌, ◌++◌, refl, sym, ap, arith, filter, get_or, length, map, reverse, take}
+use Rattle.std.proofs.Math.Seq.{take-suc}
+use Rattle.std.proofs.lemmas.Grind.{common_steps}
+use Rattle.std.proofs.lemmas.List.{reverse-append}
+use Rattle.hal_model.specs.declared.event.HalEvent.{HalEvent}
+use Rattle.hal_model.specs.declared.rule.Breach.{Breach}
+use Rattle.hal_model.specs.declared.rule.Rule.{Rule}
+use Rattle.hal_model.specs.Rules.{ascending, known, open_requests, report_by}
+use Rattle.hal_rows.specs.Judged.{all_breaches_at, breaches_at}
+use Rattle.hal_rows.specs.Noting.{next_state}
+use Rattle.hal_rows.specs.Row.{is_row_outstanding}
+use Rattle.hal_rows.specs.State.{HalState, hal_state}
+use Rattle.hal_rows.proofs.Whole.{log_noted, open_reads, report_reads}
+
+append-nil : {X : Type 0} (xs : List X) → xs ++ [] ≡ xs
+append-nil [] = refl
+append-nil {X} (x ∷ xs) = ap (λ (z : List X). x ∷ z) (append-nil xs)
+
+append-turned : {X : Type 0} (xs ys zs : List X) → (xs ++ ys) ++ zs ≡ xs ++ (ys ++ zs)
+append-turned [] ys zs = refl
+append-turned {X} (x ∷ xs) ys zs = ap (λ (r : List X). x ∷ r) (append-turned xs ys zs)
+
+-- ---- one more rule
+
+breaches-append : (k line : ℕ) (e : HalEvent) (s : HalState) (some : List Rule) (rule : Rule) → all_breaches_at k line e s (some ++ rule ∷ []) ≡ all_breaches_at k line e s some ++ breaches_at k line e s rule
+breaches-append k line e s [] rule = append-nil (breaches_at k line e s rule)
+breaches-append k line e s (first ∷ some) rule =
+    ap (λ z. breaches_at k line e s first ++ z) (breaches-append k line e s some rule)
+    ∙ sym (append-turned (breaches_at k line e s first) (all_breaches_at k line e s some) (breaches_at k line e s rule))
+
+pub breaches_more : (k line : ℕ) (e : HalEvent) (s : HalState) (some : List Rule) (i : ℕ) (d : Rule) (init old new : List Breach) → i < length some → old ≡ init ++ all_breaches_at k line e s (take i some) → new ≡ old ++ breaches_at k line e s (get_or some i d) → new ≡ init ++ all_breaches_at k line e s (take (i + 1) some)
+breaches_more k line e s some i d init old new l before' now' =
+    let n : i + 1 ≡ suc i = omega arith in
+    now' ∙ (ap (λ z. z ++ breaches_at k line e s (get_or some i d)) before'
+    ∙ (append-turned init (all_breaches_at k line e s (take i some)) (breaches_at k line e s (get_or some i d))
+    ∙ ap (λ z. init ++ z) (sym (rw (n, take-suc some i d l) (breaches-append k line e s (take i some) (get_or some i d))))))
+
+-- ---- one more event
+
+turned-more : (es : List HalEvent) (i : ℕ) (d : HalEvent) → i < length es → reverse (take (i + 1) es) ≡ get_or es i d ∷ reverse (take i es)
+turned-more es i d l =
+    let n : i + 1 ≡ suc i = omega arith in
+    rw (n, take-suc es i d l) (reverse-append (take i es) (get_or es i d ∷ []))
+
+pub state_more : (k : ℕ) (es : List HalEvent) (i : ℕ) (d : HalEvent) (s s' : HalState) → i < length es → s ≡ hal_state k (known k (reverse (take i es))) → s' ≡ next_state k (get_or es i d) s → s' ≡ hal_state k (known k (reverse (take (i + 1) es)))
+state_more k es i d s s' l before' now' =
+    now' ∙ (ap (next_state k (get_or es i d)) before' ∙ (sym (log_noted k (get_or es i d) (reverse (take i es))) ∙ ap (λ log. hal_state k (known k log)) (sym (turned-more es i d l))))
+
+long-turned : (es : List HalEvent) (i : ℕ) → i < length es → length (reverse (take i es)) ≡ i
+long-turned es i l = grind (arith, common_steps)
+
+pub report_more : (k : ℕ) (some : List Rule) (es : List HalEvent) (i : ℕ) (d : HalEvent) (s : HalState) (old new : List Breach) → i < length es → s ≡ hal_state k (known k (reverse (take i es))) → old ≡ report_by some k (reverse (take i es)) → new ≡ old ++ all_breaches_at k i (get_or es i d) s some → new ≡ report_by some k (reverse (take (i + 1) es))
+report_more k some es i d s old new l state before' now' =
+    now' ∙ (ap (λ z. z ++ all_breaches_at k i (get_or es i d) s some) before'
+    ∙ (ap (λ z. report_by some k (reverse (take i es)) ++ z) told
+    ∙ (sym (report_reads k (get_or es i d) (reverse (take i es)) some) ∙ ap (report_by some k) (sym (turned-more es i d l)))))
+  where
+    told : all_breaches_at k i (get_or es i d) s some ≡ all_breaches_at k (length (reverse (take i es))) (get_or es i d) (hal_state k (known k (reverse (take i es)))) some
+    told =
+        ap (λ n. all_breaches_at k n (get_or es i d) s some) (sym (long-turned es i l))
+        ∙ ap (λ t. all_breaches_at k (length (reverse (take i es))) (get_or es i d) t some) state
+
+-- ---- the same of an event that is owned, and at the end
+
+pub state_item : (k : ℕ) (es : List HalEvent) (i : ℕ) (e : HalEvent) (s s' : HalState) → i < length es → e ≡ get_or es i e → s ≡ hal_state k (known k (reverse (take i es))) → s' ≡ next_state k e s → s' ≡ hal_state k (known k (reverse (take (i + 1) es)))
+state_item k es i e s s' l item before' now' = state_more k es i e s s' l before' (now' ∙ ap (λ z. next_state k z s) item)
+
+pub report_item : (k : ℕ) (some : List Rule) (es : List HalEvent) (i : ℕ) (e : HalEvent) (s : HalState) (old new : List Breach) → i < length es → e ≡ get_or es i e → s ≡ hal_state k (known k (reverse (take i es))) → old ≡ report_by some k (reverse (take i es)) → new ≡ old ++ all_breaches_at k i e s some → new ≡ report_by some k (reverse (take (i + 1) es))
+report_item k some es i e s old new l item state before' now' =
+    report_more k some es i e s old new l state before' (now' ∙ ap (λ z. old ++ all_breaches_at k i z s some) item)
+
+take-all : (es : List HalEvent) (i : ℕ) → length es ≤ i → take i es ≡ es
+take-all [] zero l = refl
+take-all [] (suc i) l = refl
+take-all (e ∷ es) zero l = absurd (omega arith)
+take-all (e ∷ es) (suc i) l = ap (λ z. e ∷ z) (take-all es i (omega arith))
+
+pub left_reads : (k : ℕ) (es : List HalEvent) (i : ℕ) (s : HalState) (left : List ℕ) → length es ≤ i → s ≡ hal_state k (known k (reverse (take i es))) → left ≡ ascending (map (λ r. r.frame) (filter is_row_outstanding s.rows)) → left ≡ open_requests k (reverse es)
+left_reads k es i s left l state now' =
+    now' ∙ (ap (λ t. ascending (map (λ r. r.frame) (filter is_row_outstanding t.rows))) state
+    ∙ (sym (open_reads k (reverse (take i es))) ∙ ap (λ z. open_requests k (reverse z)) (take-all es i l)))

@@ -1,0 +1,53 @@
+//! `hal-of`: a script and a trace are read, the trace is judged, and its hal log is written.
+ghost use Rattle.std.specs.Prelude.{◌≡◌, ◌≢◌, ◌≤◌, IfSome, length};
+ghost use Rattle.std.specs.Io.KnownBytes.{IsAtEnd};
+ghost use Rattle.io_edge.specs.Faults.{Rose};
+ghost use Rattle.io_edge.specs.States.{WritesNothing};
+ghost use Rattle.call_status.specs.Answers.{Tells, TellsBy, Untouched};
+ghost use Rattle.hal_of_call.specs.Shown.{IsShown, Shows};
+
+use crate::input::log_of_input;
+use call_status::{Status, answer};
+use input_refusals::{TOO_LONG, refuse_trace};
+use io_edge::{ReadBytes, ReadFault, Sink, Source, read_all};
+use std::alloc::Global;
+use trace_calls::judge_input;
+use trace_reader::TRACE_BYTES;
+
+/// Reads a script followed by a trace, and writes the hal log of the trace where it is a legal one, complete or not;
+/// else it writes what `check` does.
+pub fn hal_of_call<S: Source, K: Sink>(alloc: Global, source: &mut S, sink: &mut K) -> Status
+    // At status 0 the source was read to its end, its bytes are a script and a legal trace of its profile, and the hal
+    // log of the trace was written, and nothing else.
+    ensures whole { result.number ≡ 0 → IsAtEnd (S.left source.new)
+        × IfSome (S.left source.old) (λ input. IsShown input (K.state sink.old) (K.state sink.new)) }
+    // Each status and each text has its cause in the input's meaning: where no end failed and memory was there, the
+    // status and the text are those that belong to it. At status 4 a front of that text is written.
+    ensures tells { Tells Shows (S.left source.old) result.number (K.state sink.old) (K.state sink.new) }
+    ensures source_failed { result.number ≡ 3 → Rose (S.faults source.old) (S.faults source.new)
+        × WritesNothing (K.state sink.old) (K.state sink.new) }
+    ensures sink_failed { result.number ≡ 4 → Rose (K.state sink.old).faults (K.state sink.new).faults }
+    ensures no_memory { result.number ≡ 5 → (S.faults source.new ≡ S.faults source.old)
+        × Untouched (K.state sink.old) (K.state sink.new) }
+    ensures known { result.number ≤ 5 }
+    ensures no_usage { result.number ≢ 2 }
+{
+    match read_all(alloc, source, TRACE_BYTES) {
+        Err(ReadFault::Failed) => Status::SOURCE_FAILED,
+        Err(ReadFault::NoMemory) => Status::NO_MEMORY,
+        Ok(ReadBytes::TooLong) => refuse_trace(alloc, 0, TOO_LONG, sink),
+        Ok(ReadBytes::Whole(bytes)) => show_input(alloc, bytes.as_slice(), sink),
+    }
+}
+
+/// Writes the hal log of an input, or what `check` says of it where it has none.
+fn show_input<K: Sink>(alloc: Global, input: &[u8], sink: &mut K) -> Status
+    requires { length input.now ≤ 134217728 }
+    ensures { TellsBy (Shows input.now) result.number (K.state sink.old) (K.state sink.new) }
+{
+    match log_of_input(alloc, input) {
+        Ok(Some(text)) => answer(sink, text.as_slice(), Status::DONE),
+        Ok(None) => judge_input(alloc, input, sink),
+        Err(_) => Status::NO_MEMORY,
+    }
+}

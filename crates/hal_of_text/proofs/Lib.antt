@@ -1,0 +1,4 @@
+mod Lists
+mod Short
+mod Begun
+mod Prints

@@ -1,0 +1,204 @@
+//! The words that stand for values: errors, streams, targets and buffers that come back.
+
+ghost use Rattle.std.specs.Prelude.{◌≡◌, ◌++◌, ◌∷◌, [], true, OnOk, IsTrue, map, string_bytes};
+ghost use Rattle.std.specs.List.{flat_map, list_all};
+ghost use Rattle.hal_spelling.specs.Fits.{error_fits, is_letter, is_format_typed, is_max_typed, is_release_typed, is_returned_typed, is_small, is_small_or_none, is_stream_typed, is_target_typed};
+ghost use Rattle.hal_spelling.specs.Spelling.{acquire_text, direction_text, error_text, format_text, max_text, number_or, release_text, returned_text, rotation_text, size_text, status_text, stream_text, target_text};
+
+use cam_types::NoMemory;
+use hal_model::{
+    Direction, HalError, HalFence, HalFormat, HalStream, HalTarget, Returned, Status, StreamMax,
+};
+
+/// A number of 32 bits is below 2^32.
+pub fn number_is_small(number: u32)
+    ensures { is_small number ≡ true }
+{}
+
+/// Writes a number, or what stands in the place of none.
+pub fn write_number_or(out: &mut String, sign: &str, number: Option<u32>) -> Result<(), NoMemory>
+    ensures text { OnOk result
+        (string_bytes out.new ≡ string_bytes out.old ++ number_or sign.now number) }
+    ensures typed { OnOk result (is_small_or_none number ≡ true) }
+{
+    match number {
+        None => out.push_str(sign),
+        Some(number) => {
+            number_is_small(number);
+            write!(out, "{number}")
+        }
+    }
+}
+
+/// Writes the name of an error.
+pub fn write_error(out: &mut String, error: HalError) -> Result<(), NoMemory>
+    requires { IsTrue (error_fits error) }
+    ensures { OnOk result (string_bytes out.new ≡ string_bytes out.old ++ error_text error) }
+{
+    match error {
+        HalError::NoDevice => out.push_str("ENODEV"),
+        HalError::Other(name) => write_letters(out, &name.letters[..usize::from(name.count)]),
+    }
+}
+
+/// Writes a format.
+fn write_format(out: &mut String, format: HalFormat) -> Result<(), NoMemory>
+    ensures text { OnOk result (string_bytes out.new ≡ string_bytes out.old ++ format_text format) }
+    ensures typed { OnOk result (is_format_typed format ≡ true) }
+{
+    match format {
+        HalFormat::Yuv => out.push_str("YUV"),
+        HalFormat::Implementation => out.push_str("IMPL"),
+        HalFormat::Blob => out.push_str("BLOB"),
+        HalFormat::Raw16 => out.push_str("RAW16"),
+        HalFormat::Number(number) => {
+            number_is_small(number);
+            write!(out, "H{number:X}")
+        }
+    }
+}
+
+/// Writes the rotation of a stream that is rotated.
+fn write_rotation(out: &mut String, degrees: u32) -> Result<(), NoMemory>
+    ensures text { OnOk result (string_bytes out.new ≡ string_bytes out.old ++ rotation_text degrees) }
+    ensures typed { OnOk result (is_small degrees ≡ true) }
+{
+    number_is_small(degrees);
+    if degrees == 0 {
+        return Ok(());
+    }
+    write!(out, ":r{degrees}")
+}
+
+/// Writes the direction of a stream that isn't an output alone.
+fn write_direction(out: &mut String, direction: Direction) -> Result<(), NoMemory>
+    ensures { OnOk result (string_bytes out.new ≡ string_bytes out.old ++ direction_text direction) }
+{
+    match direction {
+        Direction::Output => Ok(()),
+        Direction::Input => out.push_str(":in"),
+        Direction::Bidirectional => out.push_str(":bidi"),
+    }
+}
+
+/// Writes the format and the size of a stream.
+fn write_size(out: &mut String, stream: &HalStream) -> Result<(), NoMemory>
+    ensures text { OnOk result (string_bytes out.new ≡ string_bytes out.old ++ size_text stream.now) }
+    ensures format { OnOk result (is_format_typed stream.now.format ≡ true) }
+    ensures width { OnOk result (is_small stream.now.width ≡ true) }
+    ensures height { OnOk result (is_small stream.now.height ≡ true) }
+{
+    let HalStream {
+        format,
+        width,
+        height,
+        ..
+    } = *stream;
+    number_is_small(width);
+    number_is_small(height);
+    write_format(out, format)?;
+    write!(out, "x{width}x{height}")
+}
+
+/// Writes a stream.
+#[tactic(auto, unfolding(crate::specs::Spelling::stream_text))]
+pub fn write_stream(out: &mut String, stream: &HalStream) -> Result<(), NoMemory>
+    ensures text { OnOk result (string_bytes out.new ≡ string_bytes out.old ++ stream_text stream.now) }
+    ensures typed { OnOk result (is_stream_typed stream.now ≡ true) }
+{
+    let number = stream.stream;
+    number_is_small(number);
+    write!(out, "{number}:")?;
+    write_size(out, stream)?;
+    write_rotation(out, stream.rotation)?;
+    write_direction(out, stream.direction)
+}
+
+/// Writes how many buffers of a stream the device takes.
+pub fn write_max(out: &mut String, most: &StreamMax) -> Result<(), NoMemory>
+    ensures text { OnOk result (string_bytes out.new ≡ string_bytes out.old ++ max_text most.now) }
+    ensures typed { OnOk result (is_max_typed most.now ≡ true) }
+{
+    let StreamMax { stream, max } = *most;
+    number_is_small(stream);
+    number_is_small(max);
+    write!(out, "{stream}:{max}")
+}
+
+/// Writes a target.
+pub fn write_target(out: &mut String, target: &HalTarget) -> Result<(), NoMemory>
+    ensures text { OnOk result (string_bytes out.new ≡ string_bytes out.old ++ target_text target.now) }
+    ensures typed { OnOk result (is_target_typed target.now ≡ true) }
+{
+    let HalTarget {
+        stream,
+        buffer,
+        fence,
+    } = *target;
+    number_is_small(stream);
+    number_is_small(buffer);
+    write!(out, "{stream}:b{buffer}:")?;
+    write_number_or(out, "-", fence)
+}
+
+/// Writes a status between two colons.
+fn write_status(out: &mut String, status: Status) -> Result<(), NoMemory>
+    ensures { OnOk result (string_bytes out.new ≡ string_bytes out.old ++ 58 ∷ (status_text status ++ 58 ∷ [])) }
+{
+    match status {
+        Status::Filled => out.push_str(":ok:"),
+        Status::Failed => out.push_str(":error:"),
+        Status::Unknown => out.push_str(":?:"),
+    }
+}
+
+/// Writes a release fence.
+fn write_release(out: &mut String, fence: HalFence) -> Result<(), NoMemory>
+    ensures text { OnOk result (string_bytes out.new ≡ string_bytes out.old ++ release_text fence) }
+    ensures typed { OnOk result (is_release_typed fence ≡ true) }
+{
+    match fence {
+        HalFence::Absent => out.push_str("-"),
+        HalFence::Number(number) => {
+            number_is_small(number);
+            write!(out, "{number}")
+        }
+        HalFence::Foreign => out.push_str("?"),
+    }
+}
+
+/// Writes that the acquire fence wasn't -1, where it wasn't.
+fn write_acquire(out: &mut String, acquire: bool) -> Result<(), NoMemory>
+    ensures { OnOk result (string_bytes out.new ≡ string_bytes out.old ++ acquire_text acquire) }
+{
+    if acquire {
+        out.push_str(":acquire")
+    } else {
+        Ok(())
+    }
+}
+
+/// Writes a buffer that comes back.
+#[tactic(auto, unfolding(crate::specs::Spelling::returned_text))]
+pub fn write_returned(out: &mut String, returned: &Returned) -> Result<(), NoMemory>
+    ensures text { OnOk result (string_bytes out.new ≡ string_bytes out.old ++ returned_text returned.now) }
+    ensures typed { OnOk result (is_returned_typed returned.now ≡ true) }
+{
+    write_number_or(out, "?", returned.stream)?;
+    out.push_str(":b")?;
+    write_number_or(out, "?", returned.buffer)?;
+    write_status(out, returned.status)?;
+    write_release(out, returned.release)?;
+    write_acquire(out, returned.acquire)
+}
+
+/// Writes the letters of a name.
+fn write_letters(out: &mut String, letters: &[u8]) -> Result<(), NoMemory>
+    requires { IsTrue (list_all is_letter letters.now) }
+    ensures { OnOk result (string_bytes out.new ≡ string_bytes out.old ++ letters.now) }
+{
+    for letter in letters {
+        out.push(char::from(*letter))?;
+    }
+    Ok(())
+}

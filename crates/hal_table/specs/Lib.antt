@@ -1,0 +1,5 @@
+pub mod Devices
+pub mod Given
+pub mod Settled
+pub mod State
+pub mod Tops

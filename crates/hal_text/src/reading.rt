@@ -1,0 +1,155 @@
+//! A hal log read from its text.
+
+ghost use Rattle.std.specs.Prelude.{◌≡◌, ◌<◌, ◌≤◌, ◌+◌, IfOk, IsTrue, length};
+ghost use Rattle.text_parts.specs.Words.{loose_words};
+ghost use Rattle.hal_spelling.specs.Fits.{is_valid, is_well_made};
+ghost use Rattle.hal_text.specs.Begun.{Knows};
+ghost use Rattle.hal_text.specs.Drafts.{Stands, is_short};
+ghost use Rattle.hal_text.specs.Meaning.{added, after, after_words, at_end, log_of};
+ghost use Rattle.hal_text.specs.Reader.{Answers, GivesBy};
+
+use crate::begun::Begun;
+use crate::cause::{Cause, LineRefused, LogRefused, refused};
+use crate::line::{count_of, event_of};
+use crate::log::HalLog;
+use cam_types::Listing;
+use hal_model::HalEvent;
+use line_reading::is_printable;
+use std::alloc::Global;
+use text_parts::{next_loose_word, split_line};
+
+/// The most bytes of a text.
+pub const HAL_BYTES: usize = 134_217_728;
+
+/// What stands after some lines: nothing that counts, or a log; and which of its calls have begun.
+#[derive(Drop)]
+pub struct Draft {
+    pub log: Option<HalLog>,
+    pub begun: Begun,
+    pub ghost stands: { Stands log begun },
+}
+
+/// A log with one more event.
+fn with_event(
+    mut log: HalLog,
+    mut begun: Begun,
+    line: u32,
+    event: HalEvent,
+) -> Result<Draft, LineRefused>
+    requires knows { Knows begun log.events }
+    requires valid { IsTrue (is_valid log.parts log.events) }
+    requires event { IsTrue (is_well_made event) }
+    requires few { length log.events < line }
+    requires same { length log.lines ≡ length log.events }
+    ensures value { GivesBy (λ d. d.log) result (added line log event) }
+    ensures short { IfOk result (λ d. IsTrue (is_short d.log (line + 1))) }
+{
+    if !begun.has_begin(&event) {
+        return Err(LineRefused::Bad(Cause::BadLine));
+    }
+    begun.note(&event)?;
+    log.events.push(event)?;
+    log.lines.push(line)?;
+    Ok(Draft {
+        log: Some(log),
+        begun,
+    })
+}
+
+/// What stands after a line that isn't ignored.
+#[tactic(auto, unfolding(crate::specs::Meaning::after_words))]
+fn after_words(
+    alloc: Global,
+    before: Draft,
+    line: u32,
+    word: &[u8],
+    words: &[u8],
+) -> Result<Draft, LineRefused>
+    requires { IsTrue (is_short before.log line) }
+    ensures value { GivesBy (λ d. d.log) result (after_words line before.log word.now (loose_words words.now)) }
+    ensures short { IfOk result (λ d. IsTrue (is_short d.log (line + 1))) }
+{
+    let Draft { log, begun } = before;
+    match log {
+        None => {
+            let parts = count_of(word, words)?;
+            Ok(Draft {
+                log: Some(HalLog {
+                    parts,
+                    events: Listing::new(alloc),
+                    lines: Listing::new(alloc),
+                }),
+                begun,
+            })
+        }
+        Some(log) => {
+            let event = event_of(alloc, word, words)?;
+            with_event(log, begun, line, event)
+        }
+    }
+}
+
+/// What stands after a line.
+#[tactic(auto, unfolding(crate::specs::Meaning::after))]
+fn after(alloc: Global, before: Draft, number: u32, line: &[u8]) -> Result<Draft, LineRefused>
+    requires { IsTrue (is_short before.log number) }
+    ensures value { GivesBy (λ d. d.log) result (after number before.log line.now) }
+    ensures short { IfOk result (λ d. IsTrue (is_short d.log (number + 1))) }
+{
+    if !is_printable(line) {
+        return Err(LineRefused::Bad(Cause::BadLine));
+    }
+    match next_loose_word(line) {
+        None | Some(([b'#', ..], _)) => Ok(before),
+        Some((word, rest)) => after_words(alloc, before, number, word, rest),
+    }
+}
+
+/// What stands at the end of a text, of which a next line would have the number.
+fn finish(draft: Draft, line: u32) -> Result<HalLog, LogRefused>
+    ensures exact { Answers result (at_end line draft.log) }
+    ensures valid { IfOk result (λ log. IsTrue (is_valid log.parts log.events)) }
+{
+    let Draft { log, begun: _ } = draft;
+    log.ok_or(LogRefused::Bad {
+        line,
+        cause: Cause::Truncated,
+    })
+}
+
+/// Reads a hal log, as `docs/FORMATS.md` has it: its events, and of each the number of its line. It takes time in the
+/// length of the text, and memory for the log and for the numbers of its requests.
+///
+/// A refusal names the first line that has a cause, counted from 1, and the first of its causes. Line 0 stands for a
+/// text of more than 134,217,728 bytes.
+#[tactic(auto, unfolding(crate::specs::Meaning::log_of, crate::specs::Meaning::log_from))]
+pub fn read(alloc: Global, bytes: &[u8]) -> Result<HalLog, LogRefused>
+    // What the text means, unless memory ran out.
+    ensures exact { Answers result (log_of bytes.now) }
+    // Its lists are short, its errors have names, and each end has its begin.
+    ensures valid { IfOk result (λ log. IsTrue (is_valid log.parts log.events)) }
+    // Each event has the number of its line.
+    ensures lines { IfOk result (λ log. length log.lines ≡ length log.events) }
+{
+    if bytes.len() > HAL_BYTES {
+        return Err(LogRefused::Bad {
+            line: 0,
+            cause: Cause::TooLong,
+        });
+    }
+    let mut draft = Draft {
+        log: None,
+        begun: Begun::new(alloc),
+    };
+    let mut number = 1;
+    let mut rest = bytes;
+    while let Some((line, behind)) = split_line(rest) {
+        match after(alloc, draft, number, line) {
+            Ok(next) => draft = next,
+            Err(why) => return Err(refused(number, why)),
+        }
+        number += 1;
+        rest = behind;
+    }
+    finish(draft, number)
+}
