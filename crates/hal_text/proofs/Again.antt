@@ -11,8 +11,9 @@ use Rattle.hal_spelling.specs.Spelling.{event_line, event_words, first_words, te
 use Rattle.hal_text.specs.declared.log.HalLog.{HalLog}
 use Rattle.hal_text.specs.Lines.{count_of}
 use Rattle.hal_text.specs.Meaning.{added, after, after_line, after_words, empty_log, log_from, log_of, said, text_limit}
+use Rattle.hal_text.specs.Told.{event_by_words}
 use Rattle.hal_text.specs.Values.{◌>>=◌}
-use Rattle.hal_text.proofs.AgainLines.{event-again, event-are-words, event_by_words}
+use Rattle.hal_text.proofs.AgainLines.{event-again, event-are-words}
 use Rattle.line_reading.specs.Lines.{is_printable}
 use Rattle.text_parts.specs.Lines.{line_text, lines_of}
 use Rattle.text_parts.specs.Words.{is_plain, is_word}

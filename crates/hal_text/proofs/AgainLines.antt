@@ -1,5 +1,5 @@
 -- The lines that are spelled are read again.
-use Rattle.std.proofs.Common.{◌≡◌, ℕ, ◌≤◌, ◌^◌, Bool, true, false, ltb, List, [], ◌∷◌, ◌++◌, length, map, Option, None, Some, Result, Ok, Err, refl, sym, ap, ◌∙◌, arith}
+use Rattle.std.proofs.Common.{◌≡◌, ℕ, ◌≤◌, ◌^◌, Bool, true, false, ltb, List, [], ◌∷◌, ◌++◌, length, map, Option, None, Some, Result, Ok, refl, sym, ap, ◌∙◌, arith}
 use Rattle.std.specs.Prelude.{bytes_eq, codes, decimal}
 use Rattle.std.specs.List.{list_all}
 use Rattle.std.proofs.lemmas.Bool.{and_parts, and_from, leb-true, le-ltb, ltb-true}
@@ -15,9 +15,9 @@ use Rattle.hal_model.specs.declared.event.Pack.TheVariants as pack
 use Rattle.hal_spelling.specs.Fits.{error_fits, few, is_max_typed, is_returned_typed, is_small, is_small_or_none, is_stream_typed, is_target_typed, is_typed, is_well_made}
 use Rattle.hal_spelling.specs.Spelling.{error_text, event_words, mark_words, max_text, mode_words, number_or, pack_text, returned_text, settings_text, stream_text, target_text}
 use Rattle.hal_text.specs.declared.cause.Cause.{Cause}
-use Rattle.hal_text.specs.declared.cause.Cause.TheVariants.{BadLine}
 use Rattle.hal_text.specs.declared.kind.Ending.TheVariants as ending
 use Rattle.hal_text.specs.Lines.{asked_streams, before_marks, close_of, configure_end, configure_of, each, ending_of, event_in, event_of, flaws_of, from_marks, given_streams, input_of, is_mark, kind_of, list_of, notice_of, request_of, result_of, stage_of, streams_of, template_stage}
+use Rattle.hal_text.specs.Told.{event_by_words}
 use Rattle.hal_text.specs.Values.{buffer_of, max_of, mode_in, mode_of, pack_of, returned_of, settings_of, stream_of, target_of}
 use Rattle.hal_text.proofs.AgainValues.{below, error-again, error-word, known-again, large-again, max-again, max-no-mark, max-word, number-other, or-avoids, or-plain, returned-again, returned-no-mark, returned-word, small-again, small-word, stream-again, stream-no-mark, stream-word, target-again, target-no-mark, target-word}
 use Rattle.text_parts.specs.Cuts.{two_parts}
@@ -86,11 +86,6 @@ flaws-words false true = refl
 flaws-words false false = refl
 
 -- ---- the words of an event are read
-
--- an event by the words of its line
-abbrev pub event_by_words : List (List ℕ) → Result HalEvent Cause
-event_by_words [] = Err BadLine
-event_by_words (word ∷ words) = event_of word words
 
 typed-number : (s : HalStream) → is_stream_typed s ≡ true → is_small s.stream ≡ true
 typed-number s h = (and_parts (is_small s.stream) _ h).0

@@ -6,3 +6,4 @@ pub mod Drafts
 pub mod AgainValues
 pub mod AgainLines
 pub mod Again
+pub mod Told

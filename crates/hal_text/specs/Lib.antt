@@ -5,4 +5,5 @@ pub mod Meaning
 pub mod Begun
 pub mod Reader
 pub mod Refusal
+pub mod Told
 pub mod Drafts

@@ -17,7 +17,7 @@ mod value;
 mod word;
 
 pub use cause::{Cause, LogRefused};
-pub use laws::spelled_is_read;
+pub use laws::{read_is_on_its_line, spelled_is_read};
 pub use log::HalLog;
 pub use printing::print;
 pub use reading::{HAL_BYTES, read};

@@ -41,7 +41,7 @@ fn end_of(words: &[u8]) -> (usize, &[u8])
     (count, rest)
 }
 
-/// The first of the causes of words, if one has any.
+/// The first of the causes of words, if one has any. It calls itself once for each word; a list has 16 at most.
 fn are_words<T: Word>(words: &[u8]) -> Result<(), Cause>
     ensures { result ≡ are_read (each T.means (before_marks (loose_words words.now))) }
 {
