@@ -1,11 +1,7 @@
 -- Buffers that aren't at the device, in the order of a result.
-use Rattle.std.proofs.Common.{◌≡◌, ◌∙◌, ℕ, zero, suc, ◌+◌, ◌<◌, Bool, true, false, ◌||◌, not, List, [], ◌∷◌, ◌++◌, Option, refl, sym, ap, arith, reverse, take, drop, length, get_or, inl, inr, if◌then◌else◌}
+use Rattle.std.proofs.Common.{◌≡◌, Bool, true, false, ◌||◌, List, [], ◌∷◌, ◌++◌, refl, sym, reverse}
 use Rattle.std.specs.List.{list_any}
-use Rattle.std.proofs.Math.Seq.{drop-cons, take-suc}
 use Rattle.std.proofs.lemmas.List.{reverse-append}
-use Rattle.hal_model.specs.declared.event.Returned.{Returned}
-use Rattle.hal_rows.specs.declared.row.Row.{Row}
-use Rattle.hal_rows.specs.Judged.{is_row_astray, row_astray}
 
 or-turned : (a b c : Bool) → ((a || b) || c) ≡ (a || (b || c))
 or-turned true b c = refl

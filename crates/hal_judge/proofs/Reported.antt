@@ -6,12 +6,12 @@ use Rattle.std.proofs.lemmas.List.{reverse-append}
 use Rattle.hal_model.specs.declared.event.HalEvent.{HalEvent}
 use Rattle.hal_model.specs.declared.rule.Breach.{Breach}
 use Rattle.hal_model.specs.declared.rule.Rule.{Rule}
-use Rattle.hal_model.specs.Rules.{ascending, known, open_requests, report_by}
+use Rattle.hal_model.specs.Rules.{ascending, breaches_in, known, open_requests, report_by}
 use Rattle.hal_rows.specs.Judged.{all_breaches_at, breaches_at}
 use Rattle.hal_rows.specs.Noting.{next_state}
 use Rattle.hal_rows.specs.Row.{is_row_outstanding}
 use Rattle.hal_rows.specs.State.{HalState, hal_state}
-use Rattle.hal_rows.proofs.Whole.{log_noted, open_reads, report_reads}
+use Rattle.hal_rows.proofs.Whole.{breaches-read, log_noted, open_reads, report_reads}
 
 append-nil : {X : Type 0} (xs : List X) → xs ++ [] ≡ xs
 append-nil [] = refl
@@ -80,3 +80,17 @@ pub left_reads : (k : ℕ) (es : List HalEvent) (i : ℕ) (s : HalState) (left :
 left_reads k es i s left l state now' =
     now' ∙ (ap (λ t. ascending (map (λ r. r.frame) (filter is_row_outstanding t.rows))) state
     ∙ (sym (open_reads k (reverse (take i es))) ∙ ap (λ z. open_requests k (reverse z)) (take-all es i l)))
+
+-- ---- the same in the words of the log
+
+pub state_next : (k : ℕ) (e : HalEvent) (log : List HalEvent) (s s' : HalState) → s ≡ hal_state k (known k log) → s' ≡ next_state k e s → s' ≡ hal_state k (known k (e ∷ log))
+state_next k e log s s' state now' = now' ∙ (ap (next_state k e) state ∙ sym (log_noted k e log))
+
+pub told_next : (k line : ℕ) (e : HalEvent) (log : List HalEvent) (some : List Rule) (s : HalState) (old new : List Breach) → s ≡ hal_state k (known k log) → length log ≡ line → new ≡ old ++ all_breaches_at k line e s some → new ≡ old ++ breaches_in k e log some
+told_next k line e log some s old new state long now' =
+    now' ∙ ap (λ z. old ++ z) (ap (λ n. all_breaches_at k n e s some) (sym long)
+    ∙ (ap (λ t. all_breaches_at k (length log) e t some) state ∙ sym (breaches-read k e log some)))
+
+pub open_next : (k : ℕ) (log : List HalEvent) (s : HalState) (left : List ℕ) → s ≡ hal_state k (known k log) → left ≡ ascending (map (λ r. r.frame) (filter is_row_outstanding s.rows)) → left ≡ open_requests k log
+open_next k log s left state now' =
+    now' ∙ (ap (λ t. ascending (map (λ r. r.frame) (filter is_row_outstanding t.rows))) state ∙ sym (open_reads k log))

@@ -1,5 +1,5 @@
 -- What a judge has told of a log. k is the device's partial result count.
-use Rattle.std.specs.Prelude.{◌≡◌, ℕ, Bool, true, false, List, Option, None, if◌then◌else◌}
+use Rattle.std.specs.Prelude.{◌≡◌, ℕ, Bool, List, None, if◌then◌else◌}
 use Rattle.hal_model.specs.declared.event.HalEvent.{HalEvent}
 use Rattle.hal_model.specs.declared.event.HalEvent.TheVariants.{ErrorBuffer}
 use Rattle.hal_model.specs.declared.rule.Breach.{Breach}
@@ -7,7 +7,7 @@ use Rattle.hal_model.specs.declared.rule.Fault.{Fault}
 use Rattle.hal_model.specs.declared.rule.Rule.{Rule}
 use Rattle.hal_model.specs.declared.rule.Side.{Side}
 use Rattle.hal_model.specs.Names.{side_of}
-use Rattle.hal_model.specs.Rules.{at, frame_in, known, plain_rules, report_by, rules}
+use Rattle.hal_model.specs.Rules.{at, frame_in, known, plain_rules, rules}
 use Rattle.hal_rows.specs.State.{hal_state}
 use Rattle.hal_table.specs.declared.table.HalTable.{HalTable}
 use Rattle.hal_table.specs.State.{state_of}

@@ -1,14 +1,13 @@
 -- What an event does to a row's targets, parts and notices, of its own frame and of others.
-use Rattle.std.proofs.Common.{◌≡◌, ◌∙◌, ℕ, ◌==◌, Bool, true, false, ◌&&◌, ◌||◌, List, [], ◌∷◌, Option, Some, None, refl, sym, ap, inl, inr, arith, length, map, if◌then◌else◌}
+use Rattle.std.proofs.Common.{◌≡◌, ◌∙◌, ℕ, ◌==◌, Bool, true, false, ◌&&◌, List, [], ◌∷◌, Some, None, refl, sym, ap, arith, length, map, if◌then◌else◌}
 use Rattle.std.specs.List.{list_any}
-use Rattle.std.proofs.lemmas.Bool.{cases_Bool, false≢true}
 use Rattle.basic_lemmas.proofs.Lists.{map-same}
 use Rattle.hal_model.specs.declared.event.HalEvent.{HalEvent}
 use Rattle.hal_model.specs.declared.event.HalEvent.TheVariants.{ErrorBuffer, Results}
 use Rattle.hal_model.specs.declared.event.Pack.TheVariants.{Entries, Empty, Absent}
 use Rattle.hal_model.specs.declared.event.Returned.{Returned}
 use Rattle.hal_model.specs.Callbacks.{is_not_filled}
-use Rattle.hal_model.specs.Words.{gives, is_any, is_failed_buffer, is_filled, is_good, is_number, is_part}
+use Rattle.hal_model.specs.Words.{gives, is_any, is_failed_buffer, is_filled, is_good, is_number}
 use Rattle.hal_rows.specs.declared.row.PartRow.{PartRow}
 use Rattle.hal_rows.specs.declared.row.TargetRow.{TargetRow}
 use Rattle.hal_rows.specs.Row.{is_orderly_in, note_notice, note_part, note_target, with_number}

@@ -1,5 +1,5 @@
 -- Rows that are changed in place, and who is settled by an event.
-use Rattle.std.proofs.Common.{◌≡◌, ◌∙◌, ℕ, zero, suc, ◌+◌, ◌<◌, ◌==◌, Bool, true, false, List, [], ◌∷◌, ◌++◌, Option, Some, None, length, map, take, drop, slice_set, get_or, refl, sym, arith, ap}
+use Rattle.std.proofs.Common.{◌≡◌, ◌∙◌, ℕ, zero, suc, ◌+◌, ◌<◌, ◌==◌, Bool, false, List, [], ◌∷◌, ◌++◌, Option, length, map, take, drop, slice_set, get_or, refl, sym, arith, ap}
 use Rattle.std.proofs.lemmas.Bool.{false≢true}
 use Rattle.basic_lemmas.proofs.Lists.{find-mapped}
 use Rattle.hal_model.specs.declared.event.HalEvent.{HalEvent}

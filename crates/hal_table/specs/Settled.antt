@@ -1,5 +1,5 @@
 -- Whose numbers an event raises that begins no request, by the rows in which it was noted.
-use Rattle.std.specs.Prelude.{◌≡◌, List, Option, Some, None}
+use Rattle.std.specs.Prelude.{◌≡◌, List, Option, None}
 use Rattle.hal_model.specs.declared.event.HalEvent.{HalEvent}
 use Rattle.hal_model.specs.declared.event.HalEvent.TheVariants.{RequestOk, Results}
 use Rattle.hal_rows.specs.declared.order.Order.{Order}

@@ -1,5 +1,5 @@
 -- Who was begun last of those requests that brought something back, as numbers that are kept for each order.
-use Rattle.std.specs.Prelude.{◌≡◌, ℕ, ◌==◌, Bool, true, false, ◌||◌, ◌&&◌, List, [], ◌∷◌, Option, Some, None, find, if◌then◌else◌}
+use Rattle.std.specs.Prelude.{◌≡◌, ℕ, ◌==◌, Bool, true, false, ◌&&◌, List, Option, Some, None, find, if◌then◌else◌}
 use Rattle.std.specs.List.{list_any}
 use Rattle.hal_rows.specs.declared.order.Order.{Order}
 use Rattle.hal_rows.specs.declared.order.Order.TheVariants.{Sound, Filled, Orderly, Other}

@@ -1,4 +1,4 @@
-use Rattle.std.proofs.Common.{◌≡◌, ◌++◌, ◌∷◌, [], List, arith, refl}
+use Rattle.std.proofs.Common.{◌≡◌, ◌++◌, ◌∷◌, [], arith, refl}
 use Rattle.hal_table.specs.declared.order.Top.{Top}
 use Rattle.hal_table.proofs.Tops.{raised_new, raised_set}
 use Rattle.hal_table.proofs.order.raise.Goals as goal

@@ -1,4 +1,3 @@
-use Rattle.std.proofs.Common.{arith}
 use Rattle.hal_table.proofs.Tops.{raised_more}
 use Rattle.hal_table.proofs.order.raise_targets.Goals as goal
 
