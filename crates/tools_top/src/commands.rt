@@ -4,15 +4,16 @@ ghost use Rattle.std.specs.Io.KnownBytes.{IsAtEnd};
 ghost use Rattle.io_edge.specs.Faults.{Rose};
 ghost use Rattle.io_edge.specs.States.{Writes, WritesNothing};
 ghost use Rattle.call_status.specs.Answers.{Answers, Untouched};
-ghost use Rattle.hal_calls.specs.Judging.{IsKeptLog};
-ghost use Rattle.hal_calls.specs.Telling.{IsToldLog};
+ghost use Rattle.hal_call.specs.Judging.{IsUnbroken};
+ghost use Rattle.hal_of_call.specs.Shown.{IsShown};
 ghost use Rattle.tools_top.specs.Commands.{TellsOfTool};
 ghost use Rattle.tools_top.specs.Help.{help_text, usage_line};
 ghost use Rattle.tools_top.specs.Words.{reads};
 ghost use Rattle.tools_words.specs.Tools.{tool_of};
 
 use call_status::{Status, answer};
-use hal_calls::{hal_call, hal_of_call};
+use hal_call::hal_call;
+use hal_of_call::hal_of_call;
 use io_edge::{Sink, Source};
 use std::alloc::Global;
 use tools_words::{Tool, tool_of};
@@ -42,10 +43,10 @@ pub fn tools_main<S: Source, K: Sink>(
         → Writes (K.state sink.old) (K.state sink.new) help_text }
     ensures hal_done { (strict : Bool) → tool_of words.now ≡ Option.Some (Tool.Hal strict) → result.number ≡ 0
         → IsAtEnd (S.left source.new)
-        × IfSome (S.left source.old) (λ input. IsKeptLog strict input (K.state sink.old) (K.state sink.new)) }
+        × IfSome (S.left source.old) (λ input. IsUnbroken strict input (K.state sink.old) (K.state sink.new)) }
     ensures hal_of_done { tool_of words.now ≡ Option.Some Tool.HalOf → result.number ≡ 0
         → IsAtEnd (S.left source.new)
-        × IfSome (S.left source.old) (λ input. IsToldLog input (K.state sink.old) (K.state sink.new)) }
+        × IfSome (S.left source.old) (λ input. IsShown input (K.state sink.old) (K.state sink.new)) }
     ensures done_tool { result.number ≡ 0 → is_some (tool_of words.now) ≡ true }
 
     // Other words read nothing.
