@@ -83,9 +83,10 @@ legal-by script deeds named =
     let runs = runs-by script deeds named in
     let are = entries-by script deeds in
     let first : IsRun script (both_by script deeds).first = subst (λ (s : Script). IsRun s (both_by script deeds).first) same runs.0 in
-    let second : IsRun (without_faults script) (both_by script deeds).second = subst (λ (s : Script). IsRun (without_faults s) (both_by script deeds).second) same runs.1 in
-    (subst (λ (past : List Entry). IsLegal script past) (sym are.first) (runs_legally script (both_by script deeds).first first),
-     subst (λ (past : List Entry). IsLegal (without_faults script) past) (sym are.second) (runs_legally (without_faults script) (both_by script deeds).second second))
+    let second : IsRun (without_faults script) (both_by script deeds).second = subst (λ (s : Script). IsRun (without_faults s) (both_by script deeds).second) same runs.1 in (
+      subst (λ (past : List Entry). IsLegal script past) (sym are.first) (runs_legally script (both_by script deeds).first first),
+      subst (λ (past : List Entry). IsLegal (without_faults script) past) (sym are.second) (runs_legally (without_faults script) (both_by script deeds).second second),
+    )
 
 pub runs_of_both : (script : Script) (deeds : List Deed) → RunsOfBoth script deeds
 runs_of_both script deeds named =
