@@ -78,7 +78,12 @@ fn judge_log<K: Sink>(alloc: Global, log: &HalLog, strict: bool, sink: &mut K) -
         Err(_) => return Status::NO_MEMORY,
     };
     let breaches = report.breaches.as_slice();
-    match plain_text(alloc, log.lines.as_slice(), breaches, report.left.as_slice()) {
+    match plain_text(
+        alloc,
+        log.lines.as_slice(),
+        breaches,
+        report.left.as_slice(),
+    ) {
         Ok(text) => answer(sink, text.as_slice(), status_of(breaches)),
         Err(_) => Status::NO_MEMORY,
     }
