@@ -8,6 +8,7 @@ use std::alloc::Global;
 use std::sync::Wait;
 use std::thread::Threads;
 use std::time::Clock;
+use tools_top::tools_main;
 
 /// The words of a command, and its input.
 #[derive(Clone, Copy)]
@@ -54,18 +55,30 @@ pub fn run_once<T: Threads + Wait + Clock + Sync>(
     let input = command.input.to_vec(alloc)?;
     let mut source = CountedSource::over(MemSource::new(input, piece, failing_reads));
     let mut sink = CountedSink::over(MemSink::new(alloc, room, piece, failing_writes)?);
-    let status = camera_main(
-        alloc,
-        threads,
-        command.words,
-        &mut source,
-        &mut sink,
-        &OpenGate,
-    );
+    let status = if asks_for_a_tool(command.words) {
+        tools_main(alloc, command.words, &mut source, &mut sink)
+    } else {
+        camera_main(
+            alloc,
+            threads,
+            command.words,
+            &mut source,
+            &mut sink,
+            &OpenGate,
+        )
+    };
     Ok(Ended {
         status: status.number,
         text: sink.bytes().to_vec(alloc)?,
         reads: source.reads(),
         writes: sink.writes(),
     })
+}
+
+/// Whether the words are those of the second program.
+fn asks_for_a_tool(words: &[&str]) -> bool {
+    match words {
+        [first, ..] => matches!(*first, "hal" | "hal-of"),
+        [] => false,
+    }
 }
