@@ -96,7 +96,8 @@ fn unknown_of(
     row: Option<&Row>,
 ) -> Result<Vec<Fault>, NoMemory>
     ensures { IfOk result (λ faults. faults.items ≡
-        for_row (λ r. at_target_rows frame (filter (is_target_unknown_in streams.now) r.targets)) (option_copied row.entry)) }
+        for_row (λ r. at_target_rows frame (filter (is_target_unknown_in streams.now) r.targets))
+        (option_copied row.entry)) }
 {
     match row {
         Some(row) => target_rows_unknown(alloc, frame, streams, row.targets.as_slice()),

@@ -3,8 +3,8 @@
 use cam_types::Listing;
 use hal_model::HalTarget;
 
-/// A target: whether it is back, ok, good, in error; orderly: back as one that the strict order counts; other: as such a
-/// one that isn't ok.
+/// A target: whether it is back, ok, good, in error; orderly: back as one that the strict order counts; other: as such
+/// a one that isn't ok.
 #[derive(Clone, Copy, Debug, PartialEq, Eq)]
 pub struct TargetRow {
     pub target: HalTarget,

@@ -1,5 +1,5 @@
-//! What a judge of hal logs keeps: the device, the rows of the live requests, and who was begun last of the requests that
-//! brought something back. Each event is noted in it.
+//! What a judge of hal logs keeps: the device, the rows of the live requests, and who was begun last of the requests
+//! that brought something back. Each event is noted in it.
 #![tactic(auto)]
 
 pub mod buffer;

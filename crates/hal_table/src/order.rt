@@ -1,5 +1,5 @@
-//! Who was begun last of the requests that brought something back: for each order one number, which is above the rank of
-//! that request. What isn't listed has the number 0.
+//! Who was begun last of the requests that brought something back: for each order one number, which is above the rank
+//! of that request. What isn't listed has the number 0.
 ghost use Rattle.std.specs.Prelude.{◌≡◌, ◌||◌, ◌&&◌, find, option_copied, position, OnOk};
 ghost use Rattle.hal_rows.specs.Device.{above};
 ghost use Rattle.hal_rows.specs.State.{brings};

@@ -121,8 +121,8 @@ impl HalTable {
     }
 
     /// Notes the next event. `parts` is the device's partial result count; `excused` says what excuses a refusal of the
-    /// request that the event begins. The answer is an error only where memory runs out, or where 4,294,967,295 requests
-    /// were begun; the table is of no use then.
+    /// request that the event begins. The answer is an error only where memory runs out, or where 4,294,967,295
+    /// requests were begun; the table is of no use then.
     pub fn note(&mut self, parts: u32, event: &HalEvent, excused: bool) -> Result<(), NoMemory>
         requires { excused ≡ excused_at event.now (state_of self.old) }
         ensures { OnOk result (state_of self.new ≡ next_state parts event.now (state_of self.old)) }
