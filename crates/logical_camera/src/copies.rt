@@ -2,9 +2,7 @@
 ghost use Rattle.std.specs.Prelude.{◌≡◌, IfOk};
 ghost use Rattle.reply_facts.specs.Orderless.{without_faults};
 
-use cam_types::{
-    Command, CommandList, FaultList, ItemList, NoMemory, PickList, Script, SpecList,
-};
+use cam_types::{Command, CommandList, FaultList, ItemList, NoMemory, PickList, Script, SpecList};
 use std::alloc::Global;
 
 fn copied_specs(alloc: Global, specs: &SpecList) -> Result<SpecList, NoMemory>

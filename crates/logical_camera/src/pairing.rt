@@ -54,7 +54,10 @@ fn fills(entry: &Entry, frame: FrameNo, stream: StreamIx) -> bool
 fn is_filled_for(entries: &[Entry], frame: FrameNo, stream: StreamIx) -> bool
     ensures { result ≡ list_any (fills frame.0 stream.0) (reverse entries.now) }
 {
-    entries.iter().rev().any(|entry| fills(entry, frame, stream))
+    entries
+        .iter()
+        .rev()
+        .any(|entry| fills(entry, frame, stream))
 }
 
 /// Whether the buffer came back with its picture, if there is such a target.
