@@ -11,7 +11,8 @@ const WORKER_LIMIT: u64 = 8;
 /// The most commands of a script that is made.
 const COUNT_LIMIT: u64 = 200;
 
-/// What the words ask for: `play`, `run --workers N`, `check`, `gen SEED COUNT`, `convert`, `auto`, `reprocess` or `help`.
+/// What the words ask for: `play`, `run --workers N`, `check`, `gen SEED COUNT`, `convert`, `auto`, `logical`, `reprocess`
+/// or `help`.
 #[derive(Clone, Copy, Debug, PartialEq, Eq)]
 pub enum Form {
     Play,
@@ -20,6 +21,7 @@ pub enum Form {
     Gen { seed: u64, count: u32 },
     Convert,
     Auto,
+    Logical,
     Reprocess,
     Help,
 }
@@ -34,6 +36,7 @@ fn alone(word: &str) -> Option<Form>
         "check" => Some(Form::Check),
         "convert" => Some(Form::Convert),
         "auto" => Some(Form::Auto),
+        "logical" => Some(Form::Logical),
         "reprocess" => Some(Form::Reprocess),
         "help" => Some(Form::Help),
         _ => None,
