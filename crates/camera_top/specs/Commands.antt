@@ -1,12 +1,13 @@
 use Rattle.std.specs.Prelude.{ℕ, List, Option, Some, None}
 use Rattle.io_edge.specs.States.{SinkState}
 use Rattle.camera_words.specs.declared.form.Form.{Form}
-use Rattle.camera_words.specs.declared.form.Form.TheVariants.{Play, Run, Check, Convert, Gen, Arbiter, Auto, Reprocess, Help}
+use Rattle.camera_words.specs.declared.form.Form.TheVariants.{Play, Run, Check, Convert, Gen, Arbiter, Auto, Logical, Reprocess, Help}
 use Rattle.judge_text.specs.Meaning.{Judges}
 use Rattle.call_status.specs.Answers.{Answers, Tells, TellsBy}
 use Rattle.arbiter_call.specs.Arbitrates.{Arbitrates}
 use Rattle.auto_call.specs.Auto.{Captures}
 use Rattle.trace_calls.specs.Converting.{ConvertsInput}
+use Rattle.logical_call.specs.Logical.{TellsBoth}
 use Rattle.camera_top.specs.Help.{help_text, usage_line}
 use Rattle.reprocess_call.specs.Reprocess.{Reprocesses}
 use Rattle.run_calls.specs.Running.{Runs}
@@ -21,6 +22,7 @@ TellsOf (Some Check) left status before after = Tells Judges left status before 
 TellsOf (Some Convert) left status before after = Tells ConvertsInput left status before after
 TellsOf (Some Arbiter) left status before after = Tells Arbitrates left status before after
 TellsOf (Some Auto) left status before after = Tells Captures left status before after
+TellsOf (Some Logical) left status before after = Tells TellsBoth left status before after
 TellsOf (Some Reprocess) left status before after = Tells Reprocesses left status before after
 TellsOf (Some (Gen seed count)) left status before after = TellsBy (SaysOfSeed seed count) status before after
 TellsOf (Some Help) left status before after = Answers 0 help_text status before after

@@ -2,7 +2,7 @@
 use Rattle.std.specs.Prelude.{ℕ, List, ◌++◌, codes}
 
 abbrev pub usage_line : List ℕ
-usage_line = codes "usage: camera play | run --workers N | check | gen SEED COUNT | convert | arbiter | auto | reprocess | help\n"
+usage_line = codes "usage: camera play | run --workers N | check | gen SEED COUNT | convert | arbiter | auto | logical | reprocess | help\n"
 
 -- what `help` writes
 abbrev pub help_text : List ℕ

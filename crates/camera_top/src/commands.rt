@@ -12,6 +12,7 @@ ghost use Rattle.camera_top.specs.Commands.{TellsOf};
 ghost use Rattle.trace_calls.specs.Converting.{IsConverted};
 ghost use Rattle.camera_top.specs.Help.{help_text, usage_line};
 ghost use Rattle.trace_calls.specs.Judging.{IsJudgedLegal};
+ghost use Rattle.logical_call.specs.Logical.{IsLogicalWhole};
 ghost use Rattle.reprocess_call.specs.Reprocess.{IsReprocessed};
 ghost use Rattle.run_calls.specs.Running.{IsRunWhole};
 ghost use Rattle.play_calls.specs.Says.{IsWhole, IsWholeRun};
@@ -22,6 +23,7 @@ use auto_call::auto_call;
 use call_status::{Status, answer};
 use camera_words::{Form, form_of};
 use io_edge::{Sink, Source};
+use logical_call::logical_call;
 use play_calls::{Output, gen_call, play_call};
 use reprocess_call::reprocess_call;
 use run_calls::{Gate, run_call};
@@ -33,11 +35,11 @@ use trace_calls::{check_call, convert_call};
 
 /// The line of words that are no form.
 const USAGE_LINE: &[u8] =
-    b"usage: camera play | run --workers N | check | gen SEED COUNT | convert | arbiter | auto | reprocess | help\n";
+    b"usage: camera play | run --workers N | check | gen SEED COUNT | convert | arbiter | auto | logical | reprocess | help\n";
 
 /// What `help` writes: what the program does, and the usage line.
 const HELP_TEXT: &[u8] =
-    b"camera: plays, runs and judges HAL3 camera scripts\nusage: camera play | run --workers N | check | gen SEED COUNT | convert | arbiter | auto | reprocess | help\n";
+    b"camera: plays, runs and judges HAL3 camera scripts\nusage: camera play | run --workers N | check | gen SEED COUNT | convert | arbiter | auto | logical | reprocess | help\n";
 
 /// Does what the words ask for.
 pub fn camera_main<R: Threads + Wait + Clock + Sync, S: Source, K: Sink, G: Gate + Sync>(
@@ -58,7 +60,7 @@ pub fn camera_main<R: Threads + Wait + Clock + Sync, S: Source, K: Sink, G: Gate
     // the summary of the played run of the generated script; or the trace that was read is a
     // complete legal run of the script that was read; or the trace that was read was written as one of version 2; or
     // the log of what clients ask, with their sessions; or the frames of the scenes that were read, with their trace;
-    // or the complete run of the plan that was read.
+    // or the joint run of two cameras of the script that was read; or the complete run of the plan that was read.
     ensures help_done { form_of words.now ≡ Option.Some Form.Help → result.number ≡ 0
         → Writes (K.state sink.old) (K.state sink.new) help_text }
     ensures play_done { form_of words.now ≡ Option.Some Form.Play → result.number ≡ 0 → IsAtEnd (S.left source.new)
@@ -78,6 +80,9 @@ pub fn camera_main<R: Threads + Wait + Clock + Sync, S: Source, K: Sink, G: Gate
         × IfSome (S.left source.old) (λ input. IsArbitrated input (K.state sink.old) (K.state sink.new)) }
     ensures auto_done { form_of words.now ≡ Option.Some Form.Auto → result.number ≡ 0 → IsAtEnd (S.left source.new)
         × IfSome (S.left source.old) (λ input. IsCaptured input (K.state sink.old) (K.state sink.new)) }
+    ensures logical_done { form_of words.now ≡ Option.Some Form.Logical → result.number ≡ 0
+        → IsAtEnd (S.left source.new)
+        × IfSome (S.left source.old) (λ input. IsLogicalWhole input (K.state sink.old) (K.state sink.new)) }
     ensures reprocess_done { form_of words.now ≡ Option.Some Form.Reprocess → result.number ≡ 0
         → IsAtEnd (S.left source.new)
         × IfSome (S.left source.old) (λ input. IsReprocessed input (K.state sink.old) (K.state sink.new)) }
@@ -99,6 +104,7 @@ pub fn camera_main<R: Threads + Wait + Clock + Sync, S: Source, K: Sink, G: Gate
         Some(Form::Convert) => convert_call(alloc, source, sink),
         Some(Form::Arbiter) => arbiter_call(alloc, source, sink),
         Some(Form::Auto) => auto_call(alloc, source, sink),
+        Some(Form::Logical) => logical_call(alloc, source, sink),
         Some(Form::Help) => help_call(sink),
         Some(Form::Gen { seed, count }) => gen_call(alloc, seed, count, sink),
         Some(Form::Reprocess) => reprocess_call(alloc, source, sink),

@@ -4,7 +4,7 @@ use Rattle.std.specs.Borrow.{Bor}
 use Rattle.std.specs.Cmp.Lexicographic.{pointwise}
 use Rattle.text_parts.specs.Numbers.{number_within}
 use Rattle.camera_words.specs.declared.form.Form.{Form}
-use Rattle.camera_words.specs.declared.form.Form.TheVariants.{Play, Run, Check, Gen, Convert, Arbiter, Auto, Reprocess, Help}
+use Rattle.camera_words.specs.declared.form.Form.TheVariants.{Play, Run, Check, Gen, Convert, Arbiter, Auto, Logical, Reprocess, Help}
 
 -- the second value, where the first is there
 infixl 10 ◌>>=◌
@@ -16,7 +16,7 @@ Some a >>= f = f a
 abbrev pub is_text : List ℕ → List ℕ → Bool
 is_text text other = pointwise nat_eq text other
 
--- `play`, `check`, `convert`, `arbiter`, `auto`, `reprocess` and `help`
+-- `play`, `check`, `convert`, `arbiter`, `auto`, `logical`, `reprocess` and `help`
 abbrev pub alone : List ℕ → Option Form
 alone word =
     if is_text word (codes "play") then Some Play
@@ -24,6 +24,7 @@ alone word =
     else (if is_text word (codes "convert") then Some Convert
     else (if is_text word (codes "arbiter") then Some Arbiter
     else (if is_text word (codes "auto") then Some Auto
+    else (if is_text word (codes "logical") then Some Logical
     else (if is_text word (codes "reprocess") then Some Reprocess
     else (if is_text word (codes "help") then Some Help else None))))))
 

@@ -11,7 +11,7 @@ const WORKER_LIMIT: u64 = 8;
 /// The most commands of a script that is made.
 const COUNT_LIMIT: u64 = 200;
 
-/// What the words ask for: `play`, `run --workers N`, `check`, `gen SEED COUNT`, `convert`, `arbiter`, `auto`,
+/// What the words ask for: `play`, `run --workers N`, `check`, `gen SEED COUNT`, `convert`, `arbiter`, `auto`, `logical`,
 /// `reprocess` or `help`.
 #[derive(Clone, Copy, Debug, PartialEq, Eq)]
 pub enum Form {
@@ -22,6 +22,7 @@ pub enum Form {
     Convert,
     Arbiter,
     Auto,
+    Logical,
     Reprocess,
     Help,
 }
@@ -37,6 +38,7 @@ fn alone(word: &str) -> Option<Form>
         "convert" => Some(Form::Convert),
         "arbiter" => Some(Form::Arbiter),
         "auto" => Some(Form::Auto),
+        "logical" => Some(Form::Logical),
         "reprocess" => Some(Form::Reprocess),
         "help" => Some(Form::Help),
         _ => None,

@@ -1,5 +1,5 @@
 -- Joint runs: each camera's part, and how many deeds there are.
-use Rattle.std.proofs.Common.{◌≡◌, ℕ, zero, suc, ◌+◌, ◌*◌, ◌≤◌, ◌==◌, Bool, true, false, ◌&&◌, not, List, [], ◌∷◌, Option, Some, None, refl, sym, ap, ◌∙◌, arith, length, subst, IsTrue}
+use Rattle.std.proofs.Common.{◌≡◌, ℕ, zero, suc, ◌+◌, ◌≤◌, ◌==◌, Bool, true, false, ◌&&◌, not, List, [], ◌∷◌, Option, Some, None, refl, sym, ap, ◌∙◌, arith, length, subst, IsTrue}
 use Rattle.std.proofs.lemmas.Bool.{and_parts, false≢true}
 use Rattle.cam_types.specs.declared.script.Script.{Script}
 use Rattle.trace_model.specs.declared.entry.Entry.{Entry}
@@ -17,8 +17,8 @@ use Rattle.run_model.specs.Bounds.{move_bound}
 use Rattle.run_model.specs.History.{trace_of, with_entry}
 use Rattle.run_model.specs.Run.{IsRun}
 use Rattle.logical_camera.specs.Both.{Both, camera, with_move}
-use Rattle.logical_camera.specs.Laws.{AreRuns, EachItemHasOnePair, IsBounded, PairsFollowTheSecondEnd, RunsOfBoth, ends_by, pair_at}
-use Rattle.logical_camera.specs.Runs.{AreNamed, Deed, IsJointRun, both_by, sides_by, with_side}
+use Rattle.logical_camera.specs.Laws.{EachItemHasOnePair, IsBounded, PairsFollowTheSecondEnd, RunsOfBoth, pair_at}
+use Rattle.logical_camera.specs.Runs.{AreNamed, Deed, both_by, sides_by, with_side}
 use Rattle.logical_camera.specs.Turns.{AreEntries, choice, pair_by, side}
 use Rattle.logical_camera.proofs.Choices.{choice-ready}
 

@@ -1,5 +1,5 @@
 -- The script without its faults may be opened as well.
-use Rattle.std.proofs.Common.{◌≡◌, true, ◌&&◌, length, nat_le}
+use Rattle.std.proofs.Common.{◌≡◌, true, length, nat_le}
 use Rattle.std.proofs.lemmas.Bool.{and_from, and_parts}
 use Rattle.cam_types.specs.declared.script.Script.{Script}
 use Rattle.cam_types.specs.Limits.{fault_limit}

@@ -14,7 +14,7 @@ use Rattle.room_log.specs.State.{State}
 use Rattle.run_model.specs.History.{trace_of, with_entry}
 use Rattle.logical_camera.specs.Both.{Both, camera}
 use Rattle.logical_camera.specs.Pairing.{frame_after, pair_between}
-use Rattle.logical_camera.specs.Turns.{AreEntries, IsOver, MakesChoice, MakesStep, choice, pair_by}
+use Rattle.logical_camera.specs.Turns.{IsOver, MakesChoice, MakesStep, choice, pair_by}
 use Rattle.logical_camera.proofs.Stepping.{before-it}
 
 -- both cameras, as a contract sees them

@@ -1,5 +1,5 @@
 -- What a camera's step leaves and answers.
-use Rattle.std.proofs.Common.{◌≡◌, ℕ, zero, suc, ◌+◌, Bool, true, false, List, [], ◌∷◌, ◌++◌, Option, Some, None, refl, sym, ap, ◌∙◌, arith, length, slice_get, subst, reverse, take, IsTrue, IfSome}
+use Rattle.std.proofs.Common.{◌≡◌, ℕ, true, List, [], ◌∷◌, ◌++◌, Option, Some, None, refl, ap, ◌∙◌, length, slice_get, subst, reverse, take, IsTrue, IfSome}
 use Rattle.std.specs.List.{list_all}
 use Rattle.std.proofs.lemmas.Bool.{and_parts}
 use Rattle.std.proofs.lemmas.Grind.{reverse_onto}
@@ -7,13 +7,12 @@ use Rattle.std.proofs.lemmas.List.{reverse-reverse, take_at}
 use Rattle.trace_model.specs.declared.entry.Entry.{Entry}
 use Rattle.trace_model.specs.Printable.{is_printable}
 use Rattle.room_log.specs.State.{State}
-use Rattle.run_model.specs.declared.step.Move.{Move}
 use Rattle.run_model.specs.declared.step.StepName.{StepName}
-use Rattle.run_model.specs.History.{trace_of, with_entry}
+use Rattle.run_model.specs.History.{with_entry}
 use Rattle.run_model.specs.Played.{move_at}
 use Rattle.run_model.specs.Ready.{move_of}
 use Rattle.settle.specs.Stepping.{MakesPicked}
-use Rattle.logical_camera.specs.Turns.{MakesChoice, choice}
+use Rattle.logical_camera.specs.Turns.{choice}
 
 -- the move that was made is the candidate's
 pub chosen-made : (old new : State) (number : ℕ) (step : StepName) (made : MakesPicked old new number step) → choice old number ≡ Some made.made.move

@@ -1,0 +1,91 @@
+//! `logical`: a script is read and run on two cameras, and what both did is written.
+ghost use Rattle.std.specs.Prelude.{◌≡◌, ◌≢◌, ◌≤◌, IfSome, IsTrue};
+ghost use Rattle.std.specs.Io.KnownBytes.{IsAtEnd};
+ghost use Rattle.cam_types.specs.Script.{is_valid};
+ghost use Rattle.io_edge.specs.Faults.{Rose};
+ghost use Rattle.io_edge.specs.States.{WritesNothing};
+ghost use Rattle.call_status.specs.Answers.{Tells, TellsBy, Untouched};
+ghost use Rattle.logical_camera.specs.Both.{at_first};
+ghost use Rattle.logical_call.specs.Logical.{IsLogicalWhole, TellsBoth, TellsOfRun, TellsOfScript};
+
+use crate::text::run_text;
+use call_status::{Status, answer};
+use cam_types::{SCRIPT_BYTES, Script};
+use input_refusals::refuse_script;
+use io_edge::{ReadBytes, ReadFault, Sink, Source, read_all};
+use line_reading::{Cause, TextRefused};
+use logical_camera::{
+    Logical, LogicalRefused, a_joint_run_has_one_pair_for_each_item, a_joint_run_is_a_run_of_both,
+    a_joint_run_is_bounded,
+};
+use run_laws::a_complete_run_keeps_the_laws;
+use std::alloc::Global;
+
+/// The cause of a script that two cameras may not run side by side.
+const NOT_LOGICAL: u8 = 61;
+
+/// Reads a script, runs it on two cameras side by side, and writes what both did. All memory is taken before the first
+/// write.
+pub fn logical_call<S: Source, K: Sink>(alloc: Global, source: &mut S, sink: &mut K) -> Status
+    // At status 0 the source was read to its end, its bytes spell a logical script, and what was written is the joint run
+    // that the script's picks choose, whole, and nothing else. Both parts are complete and keep the laws, and each item
+    // has just one pair.
+    ensures whole { result.number ≡ 0 → IsAtEnd (S.left source.new)
+        × IfSome (S.left source.old) (λ input. IsLogicalWhole input (K.state sink.old) (K.state sink.new)) }
+    // Each status and each text has its cause in the input's meaning: where no end failed and memory was there, the
+    // status and the text are those that belong to it. At status 4 a front of that text is written.
+    ensures tells { Tells TellsBoth (S.left source.old) result.number (K.state sink.old) (K.state sink.new) }
+    ensures source_failed { result.number ≡ 3 → Rose (S.faults source.old) (S.faults source.new)
+        × WritesNothing (K.state sink.old) (K.state sink.new) }
+    ensures sink_failed { result.number ≡ 4 → Rose (K.state sink.old).faults (K.state sink.new).faults }
+    ensures no_memory { result.number ≡ 5 → (S.faults source.new ≡ S.faults source.old)
+        × Untouched (K.state sink.old) (K.state sink.new) }
+    ensures known { result.number ≤ 5 }
+    ensures no_usage { result.number ≢ 2 }
+{
+    a_complete_run_keeps_the_laws();
+    a_joint_run_is_bounded();
+    a_joint_run_has_one_pair_for_each_item();
+    match read_all(alloc, source, SCRIPT_BYTES) {
+        Err(ReadFault::Failed) => Status::SOURCE_FAILED,
+        Err(ReadFault::NoMemory) => Status::NO_MEMORY,
+        Ok(ReadBytes::TooLong) => refuse_script(alloc, 0, Cause::Limit.number(), sink),
+        Ok(ReadBytes::Whole(bytes)) => run_script_text(alloc, bytes.as_slice(), sink),
+    }
+}
+
+/// Reads a script from its text, and runs it on two cameras.
+fn run_script_text<K: Sink>(alloc: Global, input: &[u8], sink: &mut K) -> Status
+    ensures { TellsBy (TellsBoth input.now) result.number (K.state sink.old) (K.state sink.new) }
+{
+    match script_text::read(alloc, input) {
+        Err(TextRefused::NoMemory) => Status::NO_MEMORY,
+        Err(TextRefused::Bad { line, cause }) => refuse_script(alloc, line, cause.number(), sink),
+        Ok(script) => run_script(alloc, &script, sink),
+    }
+}
+
+/// Runs a script on two cameras, where it is logical.
+fn run_script<K: Sink>(alloc: Global, script: &Script, sink: &mut K) -> Status
+    requires { IsTrue (is_valid script.now) }
+    ensures { TellsBy (TellsOfScript script.now) result.number (K.state sink.old) (K.state sink.new) }
+{
+    match Logical::open(alloc, script) {
+        Err(LogicalRefused::NotLogical) => refuse_script(alloc, 0, NOT_LOGICAL, sink),
+        Err(LogicalRefused::NoMemory) => Status::NO_MEMORY,
+        Ok(cameras) => run_cameras(alloc, cameras, sink),
+    }
+}
+
+/// Runs two cameras to their end, and writes what both did.
+fn run_cameras<K: Sink>(alloc: Global, mut cameras: Logical, sink: &mut K) -> Status
+    requires { cameras ≡ at_first cameras.script }
+    ensures { TellsBy (TellsOfRun cameras.script) result.number (K.state sink.old) (K.state sink.new) }
+{
+    let text = run_text(alloc, &mut cameras);
+    cameras.scrap();
+    match text {
+        Ok(text) => answer(sink, text.as_slice(), Status::DONE),
+        Err(_) => Status::NO_MEMORY,
+    }
+}
