@@ -26,7 +26,7 @@ alone word =
     else (if is_text word (codes "auto") then Some Auto
     else (if is_text word (codes "logical") then Some Logical
     else (if is_text word (codes "reprocess") then Some Reprocess
-    else (if is_text word (codes "help") then Some Help else None))))))
+    else (if is_text word (codes "help") then Some Help else None)))))))
 
 -- 1 to 8 workers
 abbrev pub run_of : List ℕ → Option Form
