@@ -27,9 +27,9 @@ const NOT_LOGICAL: u8 = 61;
 /// Reads a script, runs it on two cameras side by side, and writes what both did. All memory is taken before the first
 /// write.
 pub fn logical_call<S: Source, K: Sink>(alloc: Global, source: &mut S, sink: &mut K) -> Status
-    // At status 0 the source was read to its end, its bytes spell a logical script, and what was written is the joint run
-    // that the script's picks choose, whole, and nothing else. Both parts are complete and keep the laws, and each item
-    // has just one pair.
+    // At status 0 the source was read to its end, its bytes spell a logical script, and what was written is the joint
+    // run that the script's picks choose, whole, and nothing else. Both parts are complete and keep the laws, and each
+    // item has just one pair.
     ensures whole { result.number ≡ 0 → IsAtEnd (S.left source.new)
         × IfSome (S.left source.old) (λ input. IsLogicalWhole input (K.state sink.old) (K.state sink.new)) }
     // Each status and each text has its cause in the input's meaning: where no end failed and memory was there, the

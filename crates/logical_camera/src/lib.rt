@@ -1,7 +1,7 @@
 //! Two cameras that run one script side by side, the first with the script's faults and the second without them.
 //!
-//! `Logical` is both of them. A pick says whose turn it is, and which of that camera's candidates is made. Where a frame
-//! has ended in the second of the two, the step answers the pair.
+//! `Logical` is both of them. A pick says whose turn it is, and which of that camera's candidates is made. Where a
+//! frame has ended in the second of the two, the step answers the pair.
 #![tactic(auto)]
 
 mod camera;

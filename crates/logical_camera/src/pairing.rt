@@ -62,7 +62,8 @@ fn is_filled_for(entries: &[Entry], frame: FrameNo, stream: StreamIx) -> bool
 
 /// Whether the buffer came back with its picture, if there is such a target.
 fn is_filled(entries: &[Entry], frame: FrameNo, target: Option<Sent>) -> bool
-    ensures { result ≡ list_all (λ t. list_any (fills frame.0 t.stream.0) (reverse entries.now)) (option_to_list target) }
+    ensures { result ≡
+        list_all (λ t. list_any (fills frame.0 t.stream.0) (reverse entries.now)) (option_to_list target) }
 {
     match target {
         Some(sent) => is_filled_for(entries, frame, sent.stream),
