@@ -1,23 +1,29 @@
 -- The text of a log, line by line.
 use Rattle.std.proofs.Common.{◌≡◌, ℕ, ◌+◌, ◌<◌, true, List, [], ◌∷◌, ◌++◌, Option, Some, None, get_or, take, length, reverse, refl, ap, sym, ◌∙◌, subst, arith, inl, inr, append_assoc, IsTrue}
 use Rattle.std.specs.List.{list_all}
-use Rattle.std.proofs.lemmas.List.{append-nil, reverse-append, take_more}
+use Rattle.std.proofs.lemmas.List.{append-nil, reverse-append, reverse-reverse, take_more}
 use Rattle.std.proofs.Math.Seq.{take-length}
 use Rattle.call_status.specs.Answers.{Answers}
 use Rattle.cam_types.specs.declared.script.Script.{Script}
 use Rattle.basic_lemmas.proofs.Lists.{all-where}
-use Rattle.camera_arbiter.specs.Ranges.{is_logged}
+use Rattle.camera_arbiter.specs.Answers.{log_of}
+use Rattle.camera_arbiter.specs.Laws.{IsOver, KeepsLaws}
+use Rattle.camera_arbiter.specs.Ranges.{is_line, is_logged}
 use Rattle.camera_arbiter.specs.declared.answer.LogLine.{LogLine}
+use Rattle.camera_arbiter.specs.declared.line.ArbiterLine.{ArbiterLine}
 use Rattle.arbiter_text.proofs.Scripts.{fits-logged}
+use Rattle.arbiter_text.proofs.Valid.{parts-of}
 use Rattle.arbiter_text.specs.Scripts.{script_behind, shots_fit}
 use Rattle.arbiter_text.specs.Spelling.{last_line, line_of}
+use Rattle.arbiter_text.specs.Valid.{is_valid}
+use Rattle.arbiter_text.specs.declared.text.ArbiterText.{ArbiterText}
 use Rattle.play_calls.proofs.Telling.{KeepsLawsAtEnd}
 use Rattle.play_calls.specs.Says.{PlaysAs}
 use Rattle.run_model.specs.History.{trace_of}
 use Rattle.run_output.proofs.General.{all-reverse}
 use Rattle.run_output.specs.Texts.{text_in}
 use Rattle.run_output.specs.declared.output.Output.TheVariants.{Summary}
-use Rattle.arbiter_call.specs.Arbitrates.{Adds, IsBehind, IsLineText, IsLogText, IsSummary, IsWholeText}
+use Rattle.arbiter_call.specs.Arbitrates.{Adds, IsArbitratedText, IsBehind, IsLineText, IsLogText, IsSummary, IsWholeText}
 
 -- ---- a session
 
@@ -59,6 +65,13 @@ pub log-whole : (log : List LogLine) (i : ℕ) (xs ys : List ℕ) → i ≡ leng
 log-whole log i xs ys all told more =
     let cut : take i log ≡ log = ap (λ (n : ℕ). take n log) all ∙ take-length log in
     record { before = xs; lines = subst (λ (l : List LogLine). IsLogText (reverse l) xs) cut told; shown = more }
+
+-- the text of the whole log of what clients ask
+pub log-text : (text : ArbiterText) (log past : List LogLine) (told : List ℕ) → is_valid text ≡ true → log ≡ reverse past → past ≡ log_of text.cameras text.lines → ((cameras : ℕ) (lines : List ArbiterLine) → list_all (is_line cameras) lines ≡ true → KeepsLaws (log_of cameras lines) × IsOver (log_of cameras lines)) → IsWholeText (reverse log) told → IsArbitratedText text told
+log-text text log past told valid is made laws whole =
+    let back : reverse log ≡ log_of text.cameras text.lines = ap reverse is ∙ (reverse-reverse past ∙ made) in
+    let kept : KeepsLaws (log_of text.cameras text.lines) × IsOver (log_of text.cameras text.lines) = laws text.cameras text.lines (parts-of text valid).lines in
+    record { whole = subst (λ (l : List LogLine). IsWholeText l told) back whole; laws = kept.0; over = kept.1 }
 
 -- all sessions of a log have their frames to wait for
 pub all-fit : (cameras : ℕ) (past : List LogLine) → list_all (is_logged cameras) past ≡ true → list_all shots_fit (reverse past) ≡ true

@@ -4,4 +4,4 @@ use Rattle.arbiter_call.proofs.sessions.tell_session.Goals as goal
 
 pub returns-then-eq : goal.returns-then-eq
 returns-then-eq g =
-    summed g.args.script g.play_prepared-status.result.number g.args.text.now.text.items g.play_prepared-status.new.sink.text.items g.args.text.now.faults g.play_prepared-status.new.sink.faults (g.a_complete_run_keeps_the_laws.ensures g.args.script) (grind arith) g.play_prepared-status.ensures
+    rw (← g.in_ok-prepared.ensures) (summed g.in_ok-prepared.prepared g.play_prepared-status.result.number g.args.text.now.text.items g.play_prepared-status.new.sink.text.items g.args.text.now.faults g.play_prepared-status.new.sink.faults (g.a_complete_run_keeps_the_laws.ensures g.in_ok-prepared.prepared) (grind arith) g.play_prepared-status.ensures)
