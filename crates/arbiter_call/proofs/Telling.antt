@@ -1,15 +1,17 @@
 -- What `arbiter` tells of an input.
-use Rattle.std.proofs.Common.{◌≡◌, ℕ, ◌<◌, true, List, Option, Some, None, Ok, Err, refl, arith, inl, inr, length, nat_lt, IfSome}
+use Rattle.std.proofs.Common.{◌≡◌, ℕ, ◌<◌, true, List, Option, Some, None, Result, Ok, Err, refl, arith, inl, inr, length, nat_lt, IfSome}
 use Rattle.std.proofs.lemmas.Bool.Decides.{nat_tests}
 use Rattle.io_edge.specs.States.{SinkState}
 use Rattle.line_reading.specs.declared.cause.Cause.{Cause}
 use Rattle.line_reading.specs.declared.cause.Cause.TheVariants.{Limit}
-use Rattle.line_reading.specs.declared.cause.TextRefused.TheVariants.{Bad}
+use Rattle.line_reading.specs.declared.cause.TextRefused.TheVariants.{Bad, NoMemory}
 use Rattle.arbiter_text.specs.Grammar.{arbiter_text_of}
 use Rattle.arbiter_text.specs.Spelling.{refused_text}
 use Rattle.arbiter_text.specs.declared.text.ArbiterText.{ArbiterText}
 use Rattle.call_status.specs.Answers.{Answers, AnswersWithMemory, Tells, TellsBy}
 use Rattle.arbiter_call.specs.Arbitrates.{Arbitrates, ArbitratesText, IsArbitratedText}
+use Rattle.call_status.proofs.Sinks.{AreAnswers}
+use Rattle.line_reading.specs.declared.cause.TextRefused.{TextRefused}
 
 -- a text that is too long is refused as such
 too-long : (input : List ℕ) → 65536 < length input → arbiter_text_of input ≡ Err (Bad 0 Limit)
@@ -27,3 +29,10 @@ long_refused (Some input) status before after l h = rw (too-long input l) (inr (
 -- the log is told
 pub answered : (text : ArbiterText) (told : List ℕ) (status : ℕ) (before after : SinkState) → IsArbitratedText text told → Answers 0 told status before after → TellsBy (ArbitratesText (Ok text)) status before after
 answered text told status before after is h = inr (0, told, (refl, is), h)
+
+-- ---- a status that belongs to an input
+
+pub are-answers : (meaning : Result ArbiterText TextRefused) → AreAnswers (ArbitratesText meaning)
+are-answers (Ok x) wanted text h = omega (arith, h.0)
+are-answers (Err (Bad line cause)) wanted text h = omega (arith, h.0)
+are-answers (Err NoMemory) wanted text h = absurd h

@@ -17,6 +17,7 @@ use Rattle.auto_call.specs.Auto.{Captures, CapturesText, IsCaptured, frames_scri
 use Rattle.play_calls.specs.Says.{PlaysBehind}
 use Rattle.run_output.specs.declared.output.Output.TheVariants.{Trace}
 use Rattle.play_calls.proofs.Telling.{KeepsLawsAtEnd}
+use Rattle.call_status.proofs.Sinks.{AreAnswers}
 
 -- ---- what an input tells
 
@@ -58,3 +59,10 @@ whole input meaning status before after law is done (inr (wanted, told, says, in
 
 pub whole_captured : (input : List ℕ) (status : ℕ) (before after : SinkState) → ((text : AutoText) → KeepsLawsAtEnd (frames_script text)) → status ≡ 0 → TellsBy (Captures input) status before after → IsCaptured input before after
 whole_captured input status before after law done tells = whole input (auto_text_of input) status before after law refl done tells
+
+-- ---- a status that belongs to an input
+
+pub are-answers : (meaning : Result AutoText TextRefused) → AreAnswers (CapturesText meaning)
+are-answers (Ok x) wanted text h = omega (arith, h.0)
+are-answers (Err (Bad line cause)) wanted text h = omega (arith, h.0)
+are-answers (Err NoMemory) wanted text h = absurd h

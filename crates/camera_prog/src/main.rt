@@ -1,17 +1,18 @@
 //! The program: it hands the words, standard input and standard output to the top call, and ends with its status.
 #![tactic(auto)]
 
-ghost use Rattle.std.specs.Prelude.{◌≡◌, ◌≤◌, ℕ, List, map, string_bytes, IfOk, OnErr};
+ghost use Rattle.std.specs.Prelude.{◌≡◌, ◌≤◌, ℕ, List, map, string_bytes, IfOk};
+ghost use Rattle.std.specs.Process.{exit_status};
 ghost use Rattle.std.specs.Borrow.{Bor};
+ghost use Rattle.call_status.specs.Ends.{CountsSink, CountsSource};
 ghost use Rattle.camera_top.specs.Commands.{TellsOf};
 ghost use Rattle.camera_words.specs.Forms.{form_of};
-ghost use Rattle.io_edge.specs.Faults.{Rose};
-ghost use Rattle.io_edge.specs.States.{WritesNothing};
 ghost use Rattle.camera_prog.specs.Ends.{number_of};
 
 use camera_top::{OpenGate, Status, camera_main};
 use io_edge::{NoMemory, Sink, Source, StdSink, StdSource};
 use std::alloc::{AllocError, Global};
+use std::env::Args;
 use std::process::ExitCode;
 use std::sync::Wait;
 use std::thread::Threads;
@@ -19,7 +20,14 @@ use std::time::Clock;
 use std::{env, io};
 
 fn main(rt: HostRuntime) -> ExitCode {
-    ExitCode::from(number_of(run(&rt, &rt)))
+    code_of(run(&rt, &rt))
+}
+
+/// What the program ends with.
+fn code_of(ended: Result<Status, NoMemory>) -> ExitCode
+    ensures { exit_status result ≡ number_of ended }
+{
+    ExitCode::from(number_of(ended))
 }
 
 /// The number that the program ends with.
@@ -33,10 +41,9 @@ fn number_of(ended: Result<Status, NoMemory>) -> u8
 }
 
 /// Runs the top call on the program's words, standard input and standard output, with threads where it starts some.
-fn run<T: Threads + Wait + Clock + Sync>(
-    threads: &T,
-    rt: &HostRuntime,
-) -> Result<Status, NoMemory> {
+fn run<T: Threads + Wait + Clock + Sync>(threads: &T, rt: &HostRuntime) -> Result<Status, NoMemory>
+    ensures { number_of result ≤ 5 }
+{
     let mut source = StdSource::new(rt)?;
     let mut sink = StdSink::new(rt)?;
     let texts = words_of(rt)?;
@@ -61,12 +68,11 @@ fn answer<R: Threads + Wait + Clock + Sync, S: Source, K: Sink>(
     ensures tells { (words : List (Bor (List ℕ))) → map (λ word. word.now) words ≡ map string_bytes texts.now →
         IfOk result (λ status. TellsOf (form_of words) (S.left source.old) status.number
         (K.state sink.old) (K.state sink.new)) }
-    ensures source_failed { IfOk result (λ status. status.number ≡ 3 → Rose (S.faults source.old) (S.faults source.new)
-        × WritesNothing (K.state sink.old) (K.state sink.new)) }
-    ensures sink_failed { IfOk result (λ status. status.number ≡ 4
-        → Rose (K.state sink.old).faults (K.state sink.new).faults) }
-    ensures known { IfOk result (λ status. status.number ≤ 5) }
-    ensures no_memory { OnErr result (WritesNothing (K.state sink.old) (K.state sink.new)) }
+    // By the number that the program ends with: the source's count of faults rose at 3 alone, and the sink's at 4 alone;
+    // at 3 and 5, and so where there is no memory to hand the words over, nothing was written.
+    ensures source { CountsSource (number_of result) (S.faults source.old) (S.faults source.new) }
+    ensures sink { CountsSink (number_of result) (K.state sink.old) (K.state sink.new) }
+    ensures known { number_of result ≤ 5 }
 {
     let mut words = Vec::new(alloc);
     for text in texts {
@@ -77,19 +83,23 @@ fn answer<R: Threads + Wait + Clock + Sync, S: Source, K: Sink>(
 
 /// The words behind the program's name. Words that are no text are no form of the command line, as no words are.
 fn words_of(rt: &HostRuntime) -> Result<Vec<String>, NoMemory> {
-    let mut words = Vec::new(rt.alloc());
     match env::args(rt) {
-        Ok(args) => {
-            for text in args.skip(1) {
-                words.push(text)?;
-            }
-            Ok(words)
-        }
+        Ok(args) => behind_the_name(rt.alloc(), args),
         Err(error) => {
             if error.kind() == io::ErrorKind::OutOfMemory {
                 return Err(AllocError);
             }
-            Ok(words)
+            Ok(Vec::new(rt.alloc()))
         }
     }
+}
+
+/// All of the process's words but the first, in their order.
+fn behind_the_name(alloc: Global, mut args: Args) -> Result<Vec<String>, NoMemory> {
+    let mut words = Vec::new(alloc);
+    let _name = args.next();
+    for text in args {
+        words.push(text)?;
+    }
+    Ok(words)
 }

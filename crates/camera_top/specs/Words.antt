@@ -1,16 +1,16 @@
--- Which forms read the source. (docs/FORMATS.md, the command line)
-use Rattle.std.specs.Prelude.{Bool, true, false, Option, Some}
+-- Which forms read the source, and how much of it. (docs/FORMATS.md, Limits)
+use Rattle.std.specs.Prelude.{ℕ, Option, Some, None}
 use Rattle.camera_words.specs.declared.form.Form.{Form}
 use Rattle.camera_words.specs.declared.form.Form.TheVariants.{Play, Run, Check, Convert, Arbiter, Auto, Logical, Reprocess}
 
--- the form's command reads the source
-abbrev pub reads : Option Form → Bool
-reads (Some Play) = true
-reads (Some (Run _)) = true
-reads (Some Check) = true
-reads (Some Convert) = true
-reads (Some Arbiter) = true
-reads (Some Auto) = true
-reads (Some Logical) = true
-reads (Some Reprocess) = true
-reads _ = false
+-- the most bytes of an input that the form's command takes, where it reads one: a script's, and a trace's behind its script
+abbrev pub limit_of : Option Form → Option ℕ
+limit_of (Some Play) = Some 65536
+limit_of (Some (Run _)) = Some 65536
+limit_of (Some Check) = Some 134217728
+limit_of (Some Convert) = Some 134217728
+limit_of (Some Arbiter) = Some 65536
+limit_of (Some Auto) = Some 65536
+limit_of (Some Logical) = Some 65536
+limit_of (Some Reprocess) = Some 65536
+limit_of _ = None

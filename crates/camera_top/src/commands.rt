@@ -1,11 +1,11 @@
 //! What the words ask for.
-ghost use Rattle.std.specs.Prelude.{◌≡◌, ◌≤◌, ℕ, true, false, is_some, IfSome, Option};
+ghost use Rattle.std.specs.Prelude.{◌≡◌, ◌≢◌, ◌≤◌, ℕ, true, false, is_some, IfSome, Option};
 ghost use Rattle.std.specs.Io.KnownBytes.{IsAtEnd};
-ghost use Rattle.io_edge.specs.Faults.{Rose};
-ghost use Rattle.io_edge.specs.States.{Writes, WritesNothing};
+ghost use Rattle.io_edge.specs.States.{Writes};
 ghost use Rattle.camera_words.specs.Forms.{form_of};
 ghost use Rattle.generated_scripts.specs.Generated.{generated};
-ghost use Rattle.call_status.specs.Answers.{Answers, Untouched};
+ghost use Rattle.call_status.specs.Answers.{Answers};
+ghost use Rattle.call_status.specs.Ends.{CountsSink, CountsSource, ReadsBy};
 ghost use Rattle.arbiter_call.specs.Arbitrates.{IsArbitrated};
 ghost use Rattle.auto_call.specs.Auto.{IsCaptured};
 ghost use Rattle.camera_top.specs.Commands.{TellsOf};
@@ -16,7 +16,7 @@ ghost use Rattle.logical_call.specs.Logical.{IsLogicalWhole};
 ghost use Rattle.reprocess_call.specs.Reprocess.{IsReprocessed};
 ghost use Rattle.run_calls.specs.Running.{IsRunWhole};
 ghost use Rattle.play_calls.specs.Says.{IsWhole, IsWholeRun};
-ghost use Rattle.camera_top.specs.Words.{reads};
+ghost use Rattle.camera_top.specs.Words.{limit_of};
 
 use arbiter_call::arbiter_call;
 use auto_call::auto_call;
@@ -88,13 +88,15 @@ pub fn camera_main<R: Threads + Wait + Clock + Sync, S: Source, K: Sink, G: Gate
         × IfSome (S.left source.old) (λ input. IsReprocessed input (K.state sink.old) (K.state sink.new)) }
     ensures done_form { result.number ≡ 0 → is_some (form_of words.now) ≡ true }
 
-    // Other words read nothing.
-    ensures unread { reads (form_of words.now) ≡ false → S.left source.new ≡ S.left source.old }
-    ensures source_failed { result.number ≡ 3 → Rose (S.faults source.old) (S.faults source.new)
-        × WritesNothing (K.state sink.old) (K.state sink.new) }
-    ensures sink_failed { result.number ≡ 4 → Rose (K.state sink.old).faults (K.state sink.new).faults }
-    ensures no_memory { result.number ≡ 5 → (S.faults source.new ≡ S.faults source.old)
-        × Untouched (K.state sink.old) (K.state sink.new) }
+    // Other forms, and words of no form, leave the source as it is, and end with 0, 2, 4 or 5.
+    ensures unread { is_some (limit_of (form_of words.now)) ≡ false → (S.left source.new ≡ S.left source.old)
+        × (S.faults source.new ≡ S.faults source.old) × (result.number ≢ 1) × (result.number ≢ 3) }
+    // The source's count of faults rose at 3 alone, and the sink's at 4 alone; at 3 and 5 nothing was written. At 0 a form
+    // that reads has read the source to its end; where it has another answer, too, or there is more than the limit.
+    ensures source { CountsSource result.number (S.faults source.old) (S.faults source.new) }
+    ensures sink { CountsSink result.number (K.state sink.old) (K.state sink.new) }
+    ensures read { IfSome (limit_of (form_of words.now)) (λ limit. ReadsBy limit result.number (S.left source.old)
+        (S.left source.new)) }
     ensures known { result.number ≤ 5 }
 {
     match form_of(words) {

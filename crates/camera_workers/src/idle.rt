@@ -20,31 +20,69 @@ const MANY: u32 = 10_000;
 
 const FEW: u32 = 1_000;
 
-/// Since when a loop finds no work: at how many moves it last looked in vain, and how often it has waited since.
+/// A loop that often looks in vain lets others make so many moves at most before it looks again.
+const PATIENCE: u64 = 16;
+
+/// Since when a loop finds no work: at how many moves it last looked in vain, how many it saw since, how many it lets
+/// pass before it looks again, and how often it has waited.
 #[derive(Drop)]
 pub(crate) struct Idle {
-    moves: Option<u64>,
+    vain: Option<u64>,
+    last: Option<u64>,
+    patience: u64,
     waits: u32,
+}
+
+/// What a loop does next.
+#[derive(Clone, Copy, Debug, PartialEq, Eq)]
+pub(crate) enum Next {
+    /// It asks for a turn: there may be work.
+    Look,
+    /// Others are at work: it reads the number of moves again.
+    Watch,
+    /// There is no more than when it last looked in vain.
+    Rest,
 }
 
 impl Idle {
     /// Not at all yet.
     pub(crate) fn new() -> Idle {
         Idle {
-            moves: None,
+            vain: None,
+            last: None,
+            patience: 1,
             waits: 0,
         }
     }
 
-    /// Whether at so many moves there may be work: the loop hasn't looked in vain there.
-    pub(crate) fn is_news(&self, moves: u64) -> bool {
-        self.moves != Some(moves)
+    /// What to do at so many moves. A loop looks where none came since it read the number before, or as many as it
+    /// lets pass.
+    pub(crate) fn next(&mut self, moves: u64) -> Next {
+        let Some(vain) = self.vain else {
+            return Next::Look;
+        };
+        if vain == moves {
+            return Next::Rest;
+        }
+        if self.last == Some(moves) || moves.saturating_sub(vain) >= self.patience {
+            return Next::Look;
+        }
+        self.last = Some(moves);
+        Next::Watch
     }
 
-    /// There was none at so many moves, or at more.
+    /// There was no work at so many moves, or at more.
     pub(crate) fn note(&mut self, moves: u64) {
-        self.moves = Some(moves);
+        self.vain = Some(moves);
+        self.last = None;
+        self.patience = self.patience.saturating_mul(2).min(PATIENCE);
         self.waits = 0;
+    }
+
+    /// There was work.
+    pub(crate) fn end(&mut self) {
+        self.vain = None;
+        self.patience = 1;
     }
 
     /// Whether it is time to ask if the run is complete.

@@ -6,12 +6,12 @@ ghost use Rattle.shared_camera.specs.Cameras.{script_of};
 
 use crate::crew::Crew;
 use crate::gate::Gate;
-use crate::idle::Idle;
+use crate::idle::{Idle, Next};
 use crate::part::Part;
 use crate::turns::turn;
 use digest_memory::DigestMemory;
-use run_model::Kind;
 use shared_camera::{CamSeat, Shared};
+use std::hint::spin_loop;
 use std::sync::Wait;
 use std::thread::Threads;
 use std::time::Clock;
@@ -33,41 +33,19 @@ pub(crate) fn work<R: Threads + Wait + Clock + Sync, G: Gate>(
     ensures begins { IsPrefix (view seat.old).seen (view seat.new).seen }
 {
     crew.come();
-    let kinds = Part::of_loop(number).kinds();
+    let part = Part::of_loop(number);
     let mut idle = Idle::new();
     for _ in rt.forever() {
         let moves = shared.moves(seat);
-        if idle.is_news(moves) {
-            if !each_kind(rt, shared, seat, digests, gate, kinds) {
-                idle.note(moves);
-            }
-        } else if is_over(rt, shared, seat, crew, &mut idle) {
-            break;
+        match idle.next(moves) {
+            Next::Watch => spin_loop(),
+            Next::Look if turn(rt, shared, seat, digests, gate, part) => idle.end(),
+            Next::Look => idle.note(moves),
+            Next::Rest if is_over(rt, shared, seat, crew, &mut idle) => break,
+            Next::Rest => {}
         }
     }
     crew.go();
-}
-
-/// A turn of each kind. It answers whether one of them made a step.
-fn each_kind<R: Threads + Wait + Sync, G: Gate>(
-    rt: &R,
-    shared: &Shared,
-    seat: &mut CamSeat,
-    digests: &mut [DigestMemory],
-    gate: &G,
-    kinds: &[Kind],
-) -> bool
-    requires { IsIdle script_of shared.now.turnstile seat.old }
-    ensures done { IsDone script_of shared.now.turnstile (view seat.old) seat.new }
-    ensures begins { IsPrefix (view seat.old).seen (view seat.new).seen }
-{
-    let mut worked = false;
-    for kind in kinds {
-        if turn(rt, shared, seat, digests, gate, *kind) {
-            worked = true;
-        }
-    }
-    worked
 }
 
 /// Where the history hasn't grown: whether the loop ends. Where it doesn't, it has waited.

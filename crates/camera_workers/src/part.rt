@@ -1,4 +1,4 @@
-//! The parts of the camera, each with the kinds of steps that its loop makes.
+//! The parts of the camera, and the kinds of steps that the loops of those make that hand out no job.
 use run_model::Kind;
 
 /// A part of the camera that a loop works for.
@@ -21,15 +21,12 @@ pub(crate) enum Part {
 /// How many parts have one loop: all but the stages.
 pub(crate) const SINGLE_PARTS: u32 = 5;
 
-const CLIENT: &[Kind] = &[Kind::Client];
+/// The kinds of steps of each part that hands out no job, the one that comes first.
+pub(crate) const CLIENT: &[Kind] = &[Kind::Client];
 
-const REQUESTS: &[Kind] = &[Kind::Send, Kind::DropQueued];
+pub(crate) const REQUESTS: &[Kind] = &[Kind::Send, Kind::DropQueued];
 
-const SENSOR: &[Kind] = &[Kind::Shutter];
-
-const STAGE: &[Kind] = &[Kind::TakeFill];
-
-const RESULTS: &[Kind] = &[
+pub(crate) const RESULTS: &[Kind] = &[
     Kind::Fail,
     Kind::ReturnFailed,
     Kind::Partial,
@@ -38,7 +35,7 @@ const RESULTS: &[Kind] = &[
     Kind::Finish,
 ];
 
-const CONSUMER: &[Kind] = &[Kind::Release, Kind::Signal];
+pub(crate) const CONSUMER: &[Kind] = &[Kind::Release, Kind::Signal];
 
 impl Part {
     /// The part of the loop with this number, from 1 on: first those with one loop each, then the stages.
@@ -50,18 +47,6 @@ impl Part {
             4 => Part::Results,
             5 => Part::Consumer,
             _ => Part::Stage,
-        }
-    }
-
-    /// The kinds of steps that the part's loop makes. A loop that takes a job out gives it back itself.
-    pub(crate) fn kinds(self) -> &'static [Kind] {
-        match self {
-            Part::Client => CLIENT,
-            Part::Requests => REQUESTS,
-            Part::Sensor => SENSOR,
-            Part::Stage => STAGE,
-            Part::Results => RESULTS,
-            Part::Consumer => CONSUMER,
         }
     }
 }

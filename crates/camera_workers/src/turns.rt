@@ -1,12 +1,13 @@
 //! One step of a kind, in one turn, or in two between which a job is worked on.
-ghost use Rattle.std.specs.Prelude.{◌≡◌, false};
+ghost use Rattle.std.specs.Prelude.{◌≡◌, IsTrue};
 ghost use mathlib.Core.List.{IsPrefix};
 ghost use Rattle.turn_lock.specs.Lending.{IsDone, IsIdle};
 ghost use Rattle.turn_lock.specs.Seats.{view};
 ghost use Rattle.shared_camera.specs.Cameras.{script_of};
-ghost use Rattle.shared_camera.specs.Moves.{is_of_jobs};
+ghost use Rattle.shared_camera.specs.Moves.{are_alone};
 
 use crate::gate::Gate;
+use crate::part::{CLIENT, CONSUMER, Part, REQUESTS, RESULTS};
 use digest_memory::DigestMemory;
 use fill_jobs::{FillJob, FilledJob};
 use run_model::Kind;
@@ -18,36 +19,37 @@ use std::thread::Threads;
 /// pictures of this size (docs/DECISIONS.md, Pictures).
 const BANDS: u32 = 1;
 
-/// Makes the first ready step of a kind, and answers whether there was one. The end of a job is no work of its own: who
-/// takes a job out gives it back.
+/// Makes a step of the part, and answers whether there was one.
 pub(crate) fn turn<R: Threads + Wait + Sync, G: Gate>(
     rt: &R,
     shared: &Shared,
     seat: &mut CamSeat,
     digests: &mut [DigestMemory],
     gate: &G,
-    kind: Kind,
+    part: Part,
 ) -> bool
     requires { IsIdle script_of shared.now.turnstile seat.old }
     ensures done { IsDone script_of shared.now.turnstile (view seat.old) seat.new }
     ensures begins { IsPrefix (view seat.old).seen (view seat.new).seen }
 {
-    match kind {
-        Kind::Shutter => expose(rt, shared, seat),
-        Kind::TakeFill => fill(rt, shared, seat, digests, gate),
-        Kind::SensorDone | Kind::FillDone => false,
-        _ => step(rt, shared, seat, kind),
+    match part {
+        Part::Sensor => expose(rt, shared, seat),
+        Part::Stage => fill(rt, shared, seat, digests, gate),
+        Part::Client => step(rt, shared, seat, CLIENT),
+        Part::Requests => step(rt, shared, seat, REQUESTS),
+        Part::Results => step(rt, shared, seat, RESULTS),
+        Part::Consumer => step(rt, shared, seat, CONSUMER),
     }
 }
 
 /// Makes a step of no job.
-fn step<R: Wait>(rt: &R, shared: &Shared, seat: &mut CamSeat, kind: Kind) -> bool
+fn step<R: Wait>(rt: &R, shared: &Shared, seat: &mut CamSeat, kinds: &[Kind]) -> bool
     requires idle { IsIdle script_of shared.now.turnstile seat.old }
-    requires alone { is_of_jobs kind ≡ false }
+    requires alone { IsTrue (are_alone kinds.now) }
     ensures done { IsDone script_of shared.now.turnstile (view seat.old) seat.new }
     ensures begins { IsPrefix (view seat.old).seen (view seat.new).seen }
 {
-    let answer = shared.step_turn(rt, seat, kind);
+    let answer = shared.step_turn(rt, seat, kinds);
     matches!(answer, Turned::Did(_))
 }
 

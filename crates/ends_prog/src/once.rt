@@ -9,6 +9,7 @@ use std::sync::Wait;
 use std::thread::Threads;
 use std::time::Clock;
 use tools_top::tools_main;
+use tools_words::{Tool, tool_of};
 
 /// The words of a command, and its input.
 #[derive(Clone, Copy)]
@@ -75,10 +76,7 @@ pub fn run_once<T: Threads + Wait + Clock + Sync>(
     })
 }
 
-/// Whether the words are those of the second program.
+/// Whether the words are those of the second program alone. `help` is a word of both.
 fn asks_for_a_tool(words: &[&str]) -> bool {
-    match words {
-        [first, ..] => matches!(*first, "hal" | "hal-of"),
-        [] => false,
-    }
+    !matches!(tool_of(words), None | Some(Tool::Help))
 }

@@ -1,35 +1,40 @@
-//! `hal`: a hal log is read and judged, and its plain report is written.
-ghost use Rattle.std.specs.Prelude.{◌≡◌, ◌≢◌, ◌≤◌, [], IfSome, Result, length};
+//! `hal`: a hal log is read and judged, and its report is written, for a person or for tools.
+ghost use Rattle.std.specs.Prelude.{◌≡◌, ◌≢◌, ◌≤◌, [], true, IfOk, IfSome, IsTrue, Result, length};
+ghost use Rattle.std.specs.List.{list_all};
 ghost use Rattle.std.specs.Io.KnownBytes.{IsAtEnd};
 ghost use Rattle.io_edge.specs.Faults.{Rose};
 ghost use Rattle.io_edge.specs.States.{WritesNothing};
 ghost use Rattle.call_status.specs.Answers.{AnswersWithMemory, Tells, TellsBy, Untouched};
 ghost use Rattle.hal_text.specs.Meaning.{log_of};
-ghost use Rattle.hal_text.specs.Refusal.{refused_text};
-ghost use Rattle.hal_call.specs.Judging.{IsUnbroken, Judges, JudgesLog, report_status};
+ghost use Rattle.hal_spelling.specs.Fits.{is_valid, is_well_made};
+ghost use Rattle.hal_report.specs.Plain.{has_line};
+ghost use Rattle.hal_call.specs.Judging.{IsUnbroken, Judges, JudgesLog, refusal_text, report_status, told_text};
 
+use crate::form::Form;
 use call_status::{Status, answer};
-use hal_judge::report_of;
+use hal_judge::{Report, report_of};
 use hal_model::Breach;
+use hal_person::person_text;
 use hal_report::{each_breach_has_its_line, plain_text};
-use hal_text::{Cause, HAL_BYTES, HalLog, LogRefused, read, refused_text};
-use io_edge::{ReadBytes, ReadFault, Sink, Source, read_all};
+use hal_text::{Cause, HAL_BYTES, HalLog, LogRefused, read};
+use io_edge::{NoMemory, ReadBytes, ReadFault, Sink, Source, read_all};
 use std::alloc::Global;
 
-/// Reads a hal log, judges it, strictly where that is asked for, and writes its plain report.
+/// Reads a hal log, judges it, strictly where that is asked for, and writes its report in the form.
 pub fn hal_call<S: Source, K: Sink>(
     alloc: Global,
     source: &mut S,
     sink: &mut K,
+    form: Form,
     strict: bool,
 ) -> Status
     // At status 0 the source was read to its end, its bytes are a hal log that breaks none of the rules, and its report
     // was written, and nothing else.
     ensures whole { result.number ≡ 0 → IsAtEnd (S.left source.new)
-        × IfSome (S.left source.old) (λ input. IsUnbroken strict input (K.state sink.old) (K.state sink.new)) }
+        × IfSome (S.left source.old) (λ input. IsUnbroken form strict input (K.state sink.old) (K.state sink.new)) }
     // Each status and each text has its cause in the input's meaning: where no end failed and memory was there, the
     // status and the text are those that belong to it. At status 4 a front of that text is written.
-    ensures tells { Tells (Judges strict) (S.left source.old) result.number (K.state sink.old) (K.state sink.new) }
+    ensures tells { Tells (Judges form strict) (S.left source.old) result.number (K.state sink.old) (K.state sink.new) }
     ensures source_failed { result.number ≡ 3 → Rose (S.faults source.old) (S.faults source.new)
         × WritesNothing (K.state sink.old) (K.state sink.new) }
     ensures sink_failed { result.number ≡ 4 → Rose (K.state sink.old).faults (K.state sink.new).faults }
@@ -41,49 +46,74 @@ pub fn hal_call<S: Source, K: Sink>(
     match read_all(alloc, source, HAL_BYTES) {
         Err(ReadFault::Failed) => Status::SOURCE_FAILED,
         Err(ReadFault::NoMemory) => Status::NO_MEMORY,
-        Ok(ReadBytes::TooLong) => refuse_log(alloc, 0, Cause::TooLong, sink),
-        Ok(ReadBytes::Whole(bytes)) => judge_text(alloc, bytes.as_slice(), strict, sink),
+        Ok(ReadBytes::TooLong) => refuse_log(alloc, form, 0, Cause::TooLong, sink),
+        Ok(ReadBytes::Whole(bytes)) => judge_text(alloc, bytes.as_slice(), form, strict, sink),
+    }
+}
+
+/// The line that refuses a text.
+fn refusal_text(alloc: Global, form: Form, line: u32, cause: Cause) -> Result<Vec<u8>, NoMemory>
+    ensures { IfOk result (λ text. text.items ≡ refusal_text form line cause) }
+{
+    match form {
+        Form::Person => hal_person::refused_text(alloc, line, cause),
+        Form::Plain => hal_text::refused_text(alloc, line, cause),
     }
 }
 
 /// Refuses a text.
-fn refuse_log<K: Sink>(alloc: Global, line: u32, cause: Cause, sink: &mut K) -> Status
-    ensures { AnswersWithMemory 1 (refused_text line cause) result.number (K.state sink.old) (K.state sink.new) }
+fn refuse_log<K: Sink>(alloc: Global, form: Form, line: u32, cause: Cause, sink: &mut K) -> Status
+    ensures { AnswersWithMemory 1 (refusal_text form line cause) result.number (K.state sink.old) (K.state sink.new) }
 {
-    match refused_text(alloc, line, cause) {
+    match refusal_text(alloc, form, line, cause) {
         Ok(text) => answer(sink, text.as_slice(), Status::REFUSED),
         Err(_) => Status::NO_MEMORY,
     }
 }
 
 /// Reads a hal log from its text, judges it and writes its report.
-fn judge_text<K: Sink>(alloc: Global, text: &[u8], strict: bool, sink: &mut K) -> Status
-    ensures { TellsBy (JudgesLog strict (log_of text.now)) result.number (K.state sink.old) (K.state sink.new) }
+fn judge_text<K: Sink>(alloc: Global, text: &[u8], form: Form, strict: bool, sink: &mut K) -> Status
+    ensures { TellsBy (JudgesLog form strict (log_of text.now)) result.number (K.state sink.old) (K.state sink.new) }
 {
     match read(alloc, text) {
         Err(LogRefused::NoMemory) => Status::NO_MEMORY,
-        Err(LogRefused::Bad { line, cause }) => refuse_log(alloc, line, cause, sink),
-        Ok(log) => judge_log(alloc, &log, strict, sink),
+        Err(LogRefused::Bad { line, cause }) => refuse_log(alloc, form, line, cause, sink),
+        Ok(log) => judge_log(alloc, &log, form, strict, sink),
+    }
+}
+
+/// The report's text.
+fn told_text(
+    alloc: Global,
+    form: Form,
+    log: &HalLog,
+    breaches: &[Breach],
+    left: &[u32],
+) -> Result<Vec<u8>, NoMemory>
+    requires lines { IsTrue (list_all (has_line log.now.lines) breaches.now) }
+    requires made { IsTrue (list_all is_well_made log.now.events) }
+    ensures { IfOk result (λ text. text.items ≡ told_text form log.now breaches.now left.now) }
+{
+    match form {
+        Form::Person => person_text(alloc, log, breaches, left),
+        Form::Plain => plain_text(alloc, log.lines.as_slice(), breaches, left),
     }
 }
 
 /// Judges a hal log and writes its report. All memory is taken before the first write.
-fn judge_log<K: Sink>(alloc: Global, log: &HalLog, strict: bool, sink: &mut K) -> Status
-    requires { length log.now.lines ≡ length log.now.events }
-    ensures { TellsBy (JudgesLog strict (Result.Ok log.now)) result.number (K.state sink.old) (K.state sink.new) }
+fn judge_log<K: Sink>(alloc: Global, log: &HalLog, form: Form, strict: bool, sink: &mut K) -> Status
+    requires same { length log.now.lines ≡ length log.now.events }
+    requires valid { IsTrue (is_valid log.now.parts log.now.events) }
+    ensures { TellsBy (JudgesLog form strict (Result.Ok log.now)) result.number (K.state sink.old) (K.state sink.new) }
 {
     each_breach_has_its_line();
     let report = match report_of(alloc, log.parts, strict, &log.events) {
         Ok(report) => report,
         Err(_) => return Status::NO_MEMORY,
     };
-    let breaches = report.breaches.as_slice();
-    match plain_text(
-        alloc,
-        log.lines.as_slice(),
-        breaches,
-        report.left.as_slice(),
-    ) {
+    let Report { breaches, left } = report;
+    let breaches = breaches.as_slice();
+    match told_text(alloc, form, log, breaches, left.as_slice()) {
         Ok(text) => answer(sink, text.as_slice(), status_of(breaches)),
         Err(_) => Status::NO_MEMORY,
     }

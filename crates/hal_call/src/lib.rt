@@ -2,5 +2,7 @@
 #![tactic(auto)]
 
 mod call;
+mod form;
 
 pub use call::hal_call;
+pub use form::Form;

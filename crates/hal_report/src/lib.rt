@@ -5,4 +5,4 @@ mod laws;
 mod plain;
 
 pub use laws::each_breach_has_its_line;
-pub use plain::plain_text;
+pub use plain::{plain_text, side_text};

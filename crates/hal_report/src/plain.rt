@@ -8,7 +8,7 @@ use hal_model::{Breach, Side};
 use std::alloc::Global;
 
 /// Whom a rule binds.
-fn side_text(side: Side) -> &'static str
+pub fn side_text(side: Side) -> &'static str
     ensures { result.now ≡ side_text side }
 {
     match side {

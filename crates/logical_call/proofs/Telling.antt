@@ -20,6 +20,7 @@ use Rattle.script_text.specs.Grammar.{script_of}
 use Rattle.trace_model.specs.Complete.{IsComplete}
 use Rattle.trace_model.specs.declared.entry.Entry.{Entry}
 use Rattle.logical_call.specs.Logical.{IsLogicalWhole, IsRunText, TellsBoth, TellsOf, TellsOfRun, TellsOfScript, TellsWhere}
+use Rattle.call_status.proofs.Sinks.{AreAnswers}
 
 pub refused : (line : ℕ) (cause : Cause) (status : ℕ) (before after : SinkState) → AnswersWithMemory 1 (refused_script_text line (number_of cause)) status before after → TellsBy (TellsOf (Err (Bad line cause))) status before after
 refused line cause status before after (inl h) = inl h
@@ -85,3 +86,14 @@ whole_run input status before after laws done tells = whole input (script_of inp
 pub whole_left : (left : Option (List ℕ)) (bytes : List ℕ) (status : ℕ) (before after : SinkState) → JointLaws → IfSome left (λ all. bytes ≡ all) → status ≡ 0 → TellsBy (TellsBoth bytes) status before after → IfSome left (λ input. IsLogicalWhole input before after)
 whole_left None bytes status before after laws is done tells = tt
 whole_left (Some input) bytes status before after laws is done tells = whole_run input status before after laws done (rw is at tells)
+
+-- ---- a status that belongs to an input
+
+are-answers-where : (logical : Bool) (script : Script) → AreAnswers (TellsWhere logical script)
+are-answers-where true script wanted text h = omega (arith, h.0)
+are-answers-where false script wanted text h = omega (arith, h.0)
+
+pub are-answers : (meaning : Result Script TextRefused) → AreAnswers (TellsOf meaning)
+are-answers (Ok script) wanted text h = are-answers-where (is_logical script) script wanted text h
+are-answers (Err (Bad line cause)) wanted text h = omega (arith, h.0)
+are-answers (Err NoMemory) wanted text h = absurd h

@@ -1,5 +1,5 @@
 -- What `reprocess` tells of an input.
-use Rattle.std.proofs.Common.{◌≡◌, ℕ, ◌<◌, true, List, Option, Some, None, Ok, Err, refl, arith, inl, inr, length, nat_lt, IfSome}
+use Rattle.std.proofs.Common.{◌≡◌, ℕ, ◌<◌, true, List, Option, Some, None, Result, Ok, Err, refl, arith, inl, inr, length, nat_lt, IfSome}
 use Rattle.std.proofs.lemmas.Bool.Decides.{nat_tests}
 use Rattle.io_edge.specs.States.{SinkState}
 use Rattle.line_reading.specs.declared.cause.Cause.{Cause}
@@ -7,11 +7,13 @@ use Rattle.line_reading.specs.declared.cause.Cause.TheVariants.{Limit}
 use Rattle.reprocess_model.specs.declared.entry.ReEntry.{ReEntry}
 use Rattle.reprocess_model.specs.declared.plan.Plan.{Plan}
 use Rattle.reprocess_text.specs.Grammar.{plan_of}
-use Rattle.line_reading.specs.declared.cause.TextRefused.TheVariants.{Bad}
+use Rattle.line_reading.specs.declared.cause.TextRefused.TheVariants.{Bad, NoMemory}
 use Rattle.reprocess_output.specs.Lines.{refused_text, run_text}
 use Rattle.call_status.specs.Answers.{Answers, AnswersWithMemory, Tells, TellsBy}
 use Rattle.reprocess_call.specs.Reprocess.{IsWholeRun, Reprocesses, TellsOfPlan}
 use Rattle.std.specs.Prelude.{reverse}
+use Rattle.call_status.proofs.Sinks.{AreAnswers}
+use Rattle.line_reading.specs.declared.cause.TextRefused.{TextRefused}
 
 -- a text that is too long is refused as such
 too-long : (input : List ℕ) → 65536 < length input → plan_of input ≡ Err (Bad 0 Limit)
@@ -30,3 +32,10 @@ long_refused (Some input) status before after l h = rw (too-long input l) (inr (
 pub played : (plan : Plan) (past : List ReEntry) (text : List ℕ) (status : ℕ) (before after : SinkState) → IsWholeRun plan past → text ≡ run_text (reverse past) → Answers 0 text status before after → TellsBy (TellsOfPlan (Ok plan)) status before after
 played plan past text status before after run is h =
     inr (0, text, (refl, record { past = past; run = run; shown = is }), h)
+
+-- ---- a status that belongs to an input
+
+pub are-answers : (meaning : Result Plan TextRefused) → AreAnswers (TellsOfPlan meaning)
+are-answers (Ok x) wanted text h = omega (arith, h.0)
+are-answers (Err (Bad line cause)) wanted text h = omega (arith, h.0)
+are-answers (Err NoMemory) wanted text h = absurd h

@@ -6,6 +6,7 @@ ghost use Rattle.turn_lock.specs.Seats.{fixed_of, view};
 ghost use Rattle.shared_camera.specs.Cameras.{script_of};
 ghost use Rattle.run_calls.specs.Finished.{FinishesAs};
 
+use crate::laws::no_job_is_out_of_an_idle_root;
 use call_status::Status;
 use camera_workers::{Gate, run_workers};
 use digest_memory::DigestMemory;
@@ -15,7 +16,7 @@ use run_laws::a_complete_run_keeps_the_laws;
 use run_output::write_trace;
 use service_core::Service;
 use settle::{close, settle};
-use shared_camera::{CamSeat, Shared, the_jobs_that_are_out};
+use shared_camera::{CamSeat, Shared};
 use std::sync::Wait;
 use std::thread::Threads;
 use std::time::Clock;
@@ -45,9 +46,22 @@ pub fn finish_run<R: Threads + Wait + Clock + Sync, K: Sink, G: Gate + Sync>(
 {
     run_workers(rt, &shared, &mut root, workers, digests, gate);
     let service = shared.close(root);
-    the_jobs_that_are_out();
+    no_job_is_out_of_an_idle_root();
     service.is_a_run();
     settle_and_write(service, writer, sink)
+}
+
+/// Ends a camera that is shared and of which nothing more is wanted: no step is made, and what was seen is the history
+/// that it ends with.
+pub fn scrap_shared(shared: Shared, root: CamSeat)
+    requires idle { IsIdle script_of shared.turnstile root }
+    requires root { (view root).number ≡ 0 }
+    requires alone { (view root).others ≡ [] }
+{
+    let service = shared.close(root);
+    no_job_is_out_of_an_idle_root();
+    service.is_a_run();
+    close(service, Hands::new());
 }
 
 /// Makes the steps that are left of a service of which no job is out, and writes its trace.

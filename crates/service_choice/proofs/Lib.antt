@@ -8,3 +8,5 @@ pub mod ByKind
 pub mod Walking
 pub mod Fences
 pub mod Most
+pub mod Idle
+pub mod OwnRows

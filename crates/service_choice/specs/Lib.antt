@@ -2,3 +2,4 @@ pub mod Kinds
 pub mod Candidates
 pub mod Finding
 pub mod Walks
+pub mod Looks

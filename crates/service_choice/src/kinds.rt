@@ -11,6 +11,7 @@ use run_model::{Kind, StepName};
 use service_state::ServiceState;
 
 /// The steps of one kind.
+#[inline(always)]
 pub(crate) fn seek_kind(state: &ServiceState, kind: Kind, number: u64) -> Result<StepName, u64>
     requires { IsServing state.now }
     ensures { Finds (ready_in state.now.script state.now.parts kind) number result }
@@ -35,6 +36,7 @@ pub(crate) fn seek_kind(state: &ServiceState, kind: Kind, number: u64) -> Result
 }
 
 /// One step, which is ready or isn't.
+#[inline(always)]
 pub(crate) fn seek_step(state: &ServiceState, step: StepName, number: u64) -> Result<StepName, u64>
     requires { IsServing state.now }
     ensures { Finds (filter (is_ready_by state.now.script state.now.parts) (step ∷ [])) number result }

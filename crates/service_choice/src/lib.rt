@@ -6,7 +6,7 @@
 //! frame or buffer has a step that is ready (`candidates_by`). The candidates stand kind by kind (`ready_in`), and in a
 //! kind by frame and stream, by buffer, or by fence. No list of them is made: a walk asks step after step whether it is
 //! ready, and counts down to the number that is sought. It stops there, so the first candidates are found at once, and
-//! it takes no memory.
+//! it takes no memory. Where a frame's row speaks against a step, it isn't asked for.
 //!
 //! The answers on a `Service` are those of the definitions over its history; those on its parts ask that the parts are
 //! those of a run. All change nothing.
@@ -17,6 +17,7 @@ mod choice;
 mod frames;
 mod kinds;
 mod laws;
+mod looks;
 
 pub use asking::{candidates, first, is_ready};
 pub use choice::{candidate_at, candidate_count, first_ready};

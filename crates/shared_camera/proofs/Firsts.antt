@@ -15,7 +15,8 @@ use Rattle.run_model.specs.Ready.{is_ready, move_of}
 use Rattle.trace_bounds.proofs.Shapes.{found-passes}
 use Rattle.job_moves.specs.Outs.{moves_a_job, takes_a_job}
 use Rattle.service_choice.specs.Kinds.{first_of, is_of}
-use Rattle.shared_camera.specs.Moves.{is_of_jobs}
+use Rattle.shared_camera.specs.Choices.{first_of_kinds, or_step}
+use Rattle.shared_camera.specs.Moves.{are_alone, is_of_jobs}
 
 found-in : (q p : StepName → Bool) (xs : List StepName) (x : StepName) → find p (filter q xs) ≡ Some x → q x ≡ true
 found-in q p [] x h = absurd (cc)
@@ -63,3 +64,31 @@ takes-which _ is = absurd (false≢true is)
 pub is-taking : (step : StepName) → is_of kind.TakeFill step ≡ true → takes_a_job step ≡ true
 is-taking (TakeFill n s) is = refl
 is-taking _ is = absurd (false≢true is)
+
+-- ---- the first of several kinds
+
+pub chosen-ready : (script : Script) (h : List Move) (kinds : List Kind) (step : StepName) → first_of_kinds kinds (candidates script h) ≡ Some step → is_ready script h step ≡ true
+chosen-ready script h [] step e = absurd (cc)
+chosen-ready script h (k ∷ kinds) step e = by (chosen-ready script h kinds step) (first_of k (candidates script h)) refl e
+  where
+    by : (first_of_kinds kinds (candidates script h) ≡ Some step → is_ready script h step ≡ true)
+        → (o : Option StepName) → first_of k (candidates script h) ≡ o → or_step o (first_of_kinds kinds (candidates script h)) ≡ Some step → is_ready script h step ≡ true
+    by others (Some s) is chosen = first-ready script h k step (is ∙ chosen)
+    by others None is chosen = others chosen
+
+-- so it has a move
+pub chosen-moves : (script : Script) (h : List Move) (kinds : List Kind) (step : StepName) → first_of_kinds kinds (candidates script h) ≡ Some step → move_of script h step ≡ None → ⊥
+chosen-moves script h kinds step chosen none = false≢true (sym (ap is_some none) ∙ chosen-ready script h kinds step chosen)
+
+-- of kinds that are of no job it is of no job
+pub chosen-alone : (kinds : List Kind) (script : Script) (h : List Move) (step : StepName) → are_alone kinds ≡ true → first_of_kinds kinds (candidates script h) ≡ Some step → moves_a_job step ≡ false
+chosen-alone [] script h step alone e = absurd (cc)
+chosen-alone (k ∷ kinds) script h step alone e = elim (cases_Bool (is_of_jobs k)) [
+  | inl does ↦ absurd (false≢true (rw does at alone))
+  | inr idle ↦ by (chosen-alone kinds script h step (rw idle at alone)) idle (first_of k (candidates script h)) refl e
+]
+  where
+    by : (first_of_kinds kinds (candidates script h) ≡ Some step → moves_a_job step ≡ false)
+        → is_of_jobs k ≡ false → (o : Option StepName) → first_of k (candidates script h) ≡ o → or_step o (first_of_kinds kinds (candidates script h)) ≡ Some step → moves_a_job step ≡ false
+    by others idle (Some s) is chosen = step-alone k step (first-of-kind script h k step (is ∙ chosen)) idle
+    by others idle None is chosen = others chosen

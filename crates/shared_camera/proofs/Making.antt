@@ -1,5 +1,5 @@
 -- What the service answers, and the move that a turn makes of it.
-use Rattle.std.proofs.Common.{◌≡◌, ℕ, Option, Some, None, IfSome, option_map, refl, sym, ap, ◌∙◌, subst}
+use Rattle.std.proofs.Common.{◌≡◌, ℕ, List, Option, Some, None, IfSome, option_map, refl, sym, ap, ◌∙◌, subst}
 use Rattle.cam_types.specs.declared.job.FillTarget.{FillTarget}
 use Rattle.cam_types.specs.declared.job.JobView.{JobView}
 use Rattle.cam_types.specs.declared.number.FrameNo.{FrameNo}
@@ -20,17 +20,18 @@ use Rattle.service_core.specs.declared.sensor.Shuttered.{Shuttered}
 use Rattle.service_core.specs.declared.sensor.Shuttered.TheVariants.{Began, NotBegun}
 use Rattle.service_core.specs.declared.step.Step.{Step}
 use Rattle.service_core.specs.declared.step.Step.TheVariants.{Did, NotReady}
-use Rattle.shared_camera.specs.Moves.{AnswersExposure, AnswersFilling, AnswersKind, Returns}
+use Rattle.shared_camera.specs.Moves.{AnswersChoice, AnswersExposure, AnswersFilling, Returns}
+use Rattle.shared_camera.specs.Choices.{first_of_kinds}
 use Rattle.shared_camera.specs.Turns.{GivesWith}
-use Rattle.shared_camera.proofs.Firsts.{first-moves, first-of-kind, is-shutter}
+use Rattle.shared_camera.proofs.Firsts.{chosen-moves, first-moves, first-of-kind, is-shutter}
 
 -- the first ready step of the kind
 abbrev pub IsFirst : Kind → State → StepName → Type 0
 IsFirst k s step = first_of k (candidates s.script s.history) ≡ Some step
 
-pub kind-made : (k : Kind) (step : StepName) (old new : State) (answer : Step) → IsFirst k old step → AnswersStep step old answer new → AnswersKind k old answer new
-kind-made k step old new (Did e) first told = record { move = adds step e; entry = refl; first = record { made = told; first = first } }
-kind-made k step old new NotReady first told = absurd (first-moves old.script old.history k step first told.unready)
+pub choice-made : (kinds : List Kind) (step : StepName) (old new : State) (answer : Step) → first_of_kinds kinds (candidates old.script old.history) ≡ Some step → AnswersStep step old answer new → AnswersChoice (first_of_kinds kinds) old answer new
+choice-made kinds step old new (Did e) chosen told = record { move = adds step e; entry = refl; chosen = record { made = told; chosen = chosen } }
+choice-made kinds step old new NotReady chosen told = absurd (chosen-moves old.script old.history kinds step chosen told.unready)
 
 -- ---- an exposure
 
@@ -43,7 +44,7 @@ exposure-made step old new answer first told =
     by (Began e job) first told = record {
       move = adds Shutter e;
       entry = refl;
-      first = record { made = told.made; first = first };
+      chosen = record { made = told.made; chosen = first };
       lends = record { takes = subst (λ (o : Option FillTarget). TakesWith (adds Shutter e) job o) (sym told.exposure) (told.time, ap Some told.shutter); out = told.out };
       exposure = told.exposure;
     }
@@ -58,7 +59,7 @@ takes-with m job s None own is = absurd (cc)
 pub filling-made : (n : FrameNo) (s : StreamIx) (old new : State) (answer : Option JobView) → IsFirst kind.TakeFill old (TakeFill n s) → AnswersTake n s old answer new → AnswersFilling old answer new
 filling-made n s old new (Some job) first told = record {
   move = silent (TakeFill n s);
-  first = record { made = told.made; first = first };
+  chosen = record { made = told.made; chosen = first };
   lends = record { takes = takes-with (silent (TakeFill n s)) job s job.fill (ap (λ (k : FrameNo). TakeFill k s) (sym told.frame)) told.stream; out = told.out };
 }
 filling-made n s old new None first told = absurd (first-moves old.script old.history kind.TakeFill (TakeFill n s) first told.unready)

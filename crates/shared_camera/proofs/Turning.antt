@@ -35,9 +35,10 @@ use Rattle.turn_lock.proofs.ForCallers.{may_leave, may_leave_with, may_leave_wit
 use Rattle.shared_camera.specs.declared.camera.Camera.{Camera}
 use Rattle.shared_camera.specs.JobsOut.{jobs_out}
 use Rattle.shared_camera.specs.Cameras.{script_of, moves_of, jobs_of}
-use Rattle.shared_camera.specs.Turns.{AnswersShutterTurn, AnswersTakeTurn, AnswersTurn, EndsWith, EndsWithFirst, Gives, GivesBack, HandsOut, IsAlone, IsTurn, StaysAt, history_in}
-use Rattle.shared_camera.specs.Moves.{AnswersExposure, AnswersFilling, AnswersKind, Lends, MakesFirst, Returns, Waits, is_of_jobs}
-use Rattle.shared_camera.proofs.Firsts.{first-of-kind, is-shutter, is-taking, step-alone}
+use Rattle.shared_camera.specs.Turns.{AnswersShutterTurn, AnswersTakeTurn, AnswersTurn, EndsWith, EndsWithChosen, Gives, GivesBack, HandsOut, IsAlone, IsTurn, StaysAt, history_in}
+use Rattle.shared_camera.specs.Choices.{Choice, first_of_kinds}
+use Rattle.shared_camera.specs.Moves.{AnswersChoice, AnswersExposure, AnswersFilling, Lends, MakesChosen, Returns, Waits, are_alone}
+use Rattle.shared_camera.proofs.Firsts.{chosen-alone, first-of-kind, is-shutter, is-taking}
 use Rattle.shared_camera.proofs.Outs.{contained-out, none-twice-out, one-fewer, one-more, same-jobs}
 
 abbrev camera : State → Camera
@@ -107,25 +108,25 @@ module _ (start : Script) (v w : View Script Move JobView) (old new : State) (en
       may_leave_without script_of moves_of jobs_of start v w (camera old) (camera new) entered (made-script r.move r.made) (made-begins r.move r.made) job (fewer-jobs r.move job r.made run r.gives mine) mine
 
   -- by what the turn answers
-  kind-alone : (k : Kind) (m : Move) → is_of_jobs k ≡ false → MakesFirst k m old new → moves_a_job m.step ≡ false
-  kind-alone k m alone first = step-alone k m.step (first-of-kind old.script old.history k m.step first.first) alone
+  idle-move : (kinds : List Kind) (m : Move) → are_alone kinds ≡ true → MakesChosen (first_of_kinds kinds) m old new → moves_a_job m.step ≡ false
+  idle-move kinds m alone made = chosen-alone kinds old.script old.history m.step alone made.chosen
 
-  pub may-leave-kind : (k : Kind) (answer : Step) → is_of_jobs k ≡ false → AnswersKind k old answer new → MayLeave script_of moves_of jobs_of start w (camera new)
-  may-leave-kind k (Did e) alone told = may-move told.move told.first.made (kind-alone k told.move alone told.first)
-  may-leave-kind k NotReady alone told = may-stay told.same
+  pub may-leave-chosen : (kinds : List Kind) (answer : Step) → are_alone kinds ≡ true → AnswersChoice (first_of_kinds kinds) old answer new → MayLeave script_of moves_of jobs_of start w (camera new)
+  may-leave-chosen kinds (Did e) alone told = may-move told.move told.chosen.made (idle-move kinds told.move alone told.chosen)
+  may-leave-chosen kinds NotReady alone told = may-stay told.same
 
-  shutter-takes : (m : Move) → MakesFirst kind.Shutter m old new → takes_a_job m.step ≡ true
-  shutter-takes m first = ap takes_a_job (is-shutter m.step (first-of-kind old.script old.history kind.Shutter m.step first.first))
+  shutter-takes : (m : Move) → MakesChosen (first_of kind.Shutter) m old new → takes_a_job m.step ≡ true
+  shutter-takes m made = ap takes_a_job (is-shutter m.step (first-of-kind old.script old.history kind.Shutter m.step made.chosen))
 
-  taking-takes : (m : Move) → MakesFirst kind.TakeFill m old new → takes_a_job m.step ≡ true
-  taking-takes m first = is-taking m.step (first-of-kind old.script old.history kind.TakeFill m.step first.first)
+  taking-takes : (m : Move) → MakesChosen (first_of kind.TakeFill) m old new → takes_a_job m.step ≡ true
+  taking-takes m made = is-taking m.step (first-of-kind old.script old.history kind.TakeFill m.step made.chosen)
 
   pub may-leave-exposure : (answer : Shuttered) → AnswersExposure old answer new → IsRun new.script new.history → MayLeave script_of moves_of jobs_of start w (camera new)
-  may-leave-exposure (Began e job) told run = may-lend told.move job told.first.made run (shutter-takes told.move told.first) told.lends
+  may-leave-exposure (Began e job) told run = may-lend told.move job told.chosen.made run (shutter-takes told.move told.chosen) told.lends
   may-leave-exposure NotBegun told run = may-stay told.same
 
   pub may-leave-filling : (answer : Option JobView) → AnswersFilling old answer new → IsRun new.script new.history → MayLeave script_of moves_of jobs_of start w (camera new)
-  may-leave-filling (Some job) told run = may-lend told.move job told.first.made run (taking-takes told.move told.first) told.lends
+  may-leave-filling (Some job) told run = may-lend told.move job told.chosen.made run (taking-takes told.move told.chosen) told.lends
   may-leave-filling None told run = may-stay told.same
 
   -- ---- what the seat has then
@@ -152,8 +153,8 @@ module _ (start : Script) (v w : View Script Move JobView) (old new : State) (en
       alone = λ a. (entered.alone a.0 a.1).0;
     }
 
-    ended-first : (k : Kind) (m : Move) → MakesFirst k m old new → EndsWithFirst start k m v x
-    ended-first k m first = record { end = ended m first.made; first = subst (λ (s : Script). first_of k (candidates s old.history) ≡ Some m.step) entered.same first.first }
+    ended-chosen : (choice : Choice) (m : Move) → MakesChosen choice m old new → EndsWithChosen start choice m v x
+    ended-chosen choice m made = record { end = ended m made.made; chosen = subst (λ (s : Script). choice (candidates s old.history) ≡ Some m.step) entered.same made.chosen }
 
     -- where nothing was made
     pub turned-still : new ≡ old → IsRun new.script new.history → IsTurn start v x
@@ -170,10 +171,10 @@ module _ (start : Script) (v w : View Script Move JobView) (old new : State) (en
         subst (λ (h : List Move). IsTrue done ↔ IsComplete start (trace_of h)) (sym saw-history)
         (subst (λ (s : Script). IsTrue done ↔ IsComplete s (trace_of new.history)) (ap (λ (s : State). s.script) same ∙ entered.same) is)
 
-    stayed : (k : Kind) → Waits k old new → StaysAt start k v x
-    stayed k waits = record {
-      none = subst (λ (h : List Move). first_of k (candidates start h) ≡ None) (sym (saw-history ∙ ap (λ (s : State). s.history) waits.same))
-          (subst (λ (s : Script). first_of k (candidates s old.history) ≡ None) entered.same waits.none);
+    stayed : (choice : Choice) → Waits choice old new → StaysAt start choice v x
+    stayed choice waits = record {
+      none = subst (λ (h : List Move). choice (candidates start h) ≡ None) (sym (saw-history ∙ ap (λ (s : State). s.history) waits.same))
+          (subst (λ (s : Script). choice (candidates s old.history) ≡ None) entered.same waits.none);
       alone = seen-still waits.same;
       jobs = jobs-still waits.same;
     }
@@ -186,45 +187,45 @@ module _ (start : Script) (v w : View Script Move JobView) (old new : State) (en
     }
 
     -- by what the turn answers
-    pub turned-kind : (k : Kind) (answer : Step) → AnswersKind k old answer new → IsRun new.script new.history → IsTurn start v x
-    turned-kind k (Did e) told run = turned (made-script told.move told.first.made) (made-begins told.move told.first.made) run
-    turned-kind k NotReady told run = turned (ap (λ (s : State). s.script) told.same) (still-begins told.same) run
+    pub turned-chosen : (choice : Choice) (answer : Step) → AnswersChoice choice old answer new → IsRun new.script new.history → IsTurn start v x
+    turned-chosen choice (Did e) told run = turned (made-script told.move told.chosen.made) (made-begins told.move told.chosen.made) run
+    turned-chosen choice NotReady told run = turned (ap (λ (s : State). s.script) told.same) (still-begins told.same) run
 
-    pub answered-kind : (k : Kind) (answer : Step) → AnswersKind k old answer new → AnswersTurn start k v answer x
-    answered-kind k (Did e) told = record { move = told.move; entry = told.entry; end = ended-first k told.move told.first }
-    answered-kind k NotReady told = stayed k told
+    pub answered-chosen : (choice : Choice) (answer : Step) → AnswersChoice choice old answer new → AnswersTurn start choice v answer x
+    answered-chosen choice (Did e) told = record { move = told.move; entry = told.entry; end = ended-chosen choice told.move told.chosen }
+    answered-chosen choice NotReady told = stayed choice told
 
-    pub jobs-kind : (k : Kind) (answer : Step) → is_of_jobs k ≡ false → AnswersKind k old answer new → IsPermutation x.jobs v.jobs
-    jobs-kind k (Did e) alone told =
-        own_jobs script_of moves_of jobs_of start v w (camera old) (camera new) entered (made-script told.move told.first.made) (made-begins told.move told.first.made) x leaves
-        (alone-jobs told.move told.first.made (kind-alone k told.move alone told.first))
-    jobs-kind k NotReady alone told = jobs-still told.same
+    pub jobs-chosen : (kinds : List Kind) (answer : Step) → are_alone kinds ≡ true → AnswersChoice (first_of_kinds kinds) old answer new → IsPermutation x.jobs v.jobs
+    jobs-chosen kinds (Did e) alone told =
+        own_jobs script_of moves_of jobs_of start v w (camera old) (camera new) entered (made-script told.move told.chosen.made) (made-begins told.move told.chosen.made) x leaves
+        (alone-jobs told.move told.chosen.made (idle-move kinds told.move alone told.chosen))
+    jobs-chosen kinds NotReady alone told = jobs-still told.same
 
     pub turned-exposure : (answer : Shuttered) → AnswersExposure old answer new → IsRun new.script new.history → IsTurn start v x
-    turned-exposure (Began e job) told run = turned (made-script told.move told.first.made) (made-begins told.move told.first.made) run
+    turned-exposure (Began e job) told run = turned (made-script told.move told.chosen.made) (made-begins told.move told.chosen.made) run
     turned-exposure NotBegun told run = turned (ap (λ (s : State). s.script) told.same) (still-begins told.same) run
 
     pub answered-exposure : (answer : Shuttered) → AnswersExposure old answer new → IsRun new.script new.history → AnswersShutterTurn start v answer x
     answered-exposure (Began e job) told run = record {
       move = told.move;
       entry = told.entry;
-      end = ended-first kind.Shutter told.move told.first;
-      handed = handed-out told.move job told.first.made run (shutter-takes told.move told.first) told.lends;
+      end = ended-chosen (first_of kind.Shutter) told.move told.chosen;
+      handed = handed-out told.move job told.chosen.made run (shutter-takes told.move told.chosen) told.lends;
       exposure = told.exposure;
     }
-    answered-exposure NotBegun told run = stayed kind.Shutter told
+    answered-exposure NotBegun told run = stayed (first_of kind.Shutter) told
 
     pub turned-filling : (answer : Option JobView) → AnswersFilling old answer new → IsRun new.script new.history → IsTurn start v x
-    turned-filling (Some job) told run = turned (made-script told.move told.first.made) (made-begins told.move told.first.made) run
+    turned-filling (Some job) told run = turned (made-script told.move told.chosen.made) (made-begins told.move told.chosen.made) run
     turned-filling None told run = turned (ap (λ (s : State). s.script) told.same) (still-begins told.same) run
 
     pub answered-filling : (answer : Option JobView) → AnswersFilling old answer new → IsRun new.script new.history → AnswersTakeTurn start v answer x
     answered-filling (Some job) told run = record {
       move = told.move;
-      end = ended-first kind.TakeFill told.move told.first;
-      handed = handed-out told.move job told.first.made run (taking-takes told.move told.first) told.lends;
+      end = ended-chosen (first_of kind.TakeFill) told.move told.chosen;
+      handed = handed-out told.move job told.chosen.made run (taking-takes told.move told.chosen) told.lends;
     }
-    answered-filling None told run = stayed kind.TakeFill told
+    answered-filling None told run = stayed (first_of kind.TakeFill) told
 
     pub turned-return : (job : JobView) → Returns job old new → IsRun new.script new.history → IsTurn start v x
     turned-return job r run = turned (made-script r.move r.made) (made-begins r.move r.made) run

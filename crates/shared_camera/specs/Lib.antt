@@ -1,4 +1,5 @@
 pub mod JobsOut
 pub mod Cameras
+pub mod Choices
 pub mod Turns
 pub mod Moves

@@ -1,5 +1,6 @@
 -- What a turn makes of the service that it has: one move, or none.
-use Rattle.std.specs.Prelude.{◌≡◌, Bool, true, false, Option, Some, None}
+use Rattle.std.specs.Prelude.{◌≡◌, Bool, true, false, not, List, Option, Some, None}
+use Rattle.std.specs.List.{list_all}
 use Rattle.cam_types.specs.declared.job.JobView.{JobView}
 use Rattle.trace_model.specs.declared.entry.Entry.{Entry}
 use Rattle.run_model.specs.declared.step.Kind.{Kind}
@@ -15,6 +16,7 @@ use Rattle.service_core.specs.declared.sensor.Shuttered.{Shuttered}
 use Rattle.service_core.specs.declared.sensor.Shuttered.TheVariants.{Began, NotBegun}
 use Rattle.service_core.specs.declared.step.Step.{Step}
 use Rattle.service_core.specs.declared.step.Step.TheVariants.{Did, NotReady}
+use Rattle.shared_camera.specs.Choices.{Choice}
 use Rattle.shared_camera.specs.Turns.{Gives}
 
 -- steps of the kind take a job out, or give one back
@@ -25,25 +27,29 @@ is_of_jobs kind.TakeFill = true
 is_of_jobs kind.FillDone = true
 is_of_jobs _ = false
 
--- the first ready step of the kind is made
-pub record MakesFirst (k : Kind) (m : Move) (old new : State) : Type 0 where
-  pub made : Makes m old new
-  pub first : first_of k (candidates old.script old.history) ≡ Some m.step
+-- none of the kinds does
+abbrev pub are_alone : List Kind → Bool
+are_alone kinds = list_all (λ k. not (is_of_jobs k)) kinds
 
--- no step of the kind is ready, and nothing is changed
-pub record Waits (k : Kind) (old new : State) : Type 0 where
-  pub none : first_of k (candidates old.script old.history) ≡ None
+-- the chosen step is made
+pub record MakesChosen (choice : Choice) (m : Move) (old new : State) : Type 0 where
+  pub made : Makes m old new
+  pub chosen : choice (candidates old.script old.history) ≡ Some m.step
+
+-- no such step is ready, and nothing is changed
+pub record Waits (choice : Choice) (old new : State) : Type 0 where
+  pub none : choice (candidates old.script old.history) ≡ None
   pub same : new ≡ old
 
 -- it added this entry
-pub record Adds (k : Kind) (e : Entry) (old new : State) : Type 0 where
+pub record Adds (choice : Choice) (e : Entry) (old new : State) : Type 0 where
   pub move : Move
   pub entry : move.entry ≡ Some e
-  pub first : MakesFirst k move old new
+  pub chosen : MakesChosen choice move old new
 
-abbrev pub AnswersKind : Kind → State → Step → State → Type 0
-AnswersKind k old (Did e) new = Adds k e old new
-AnswersKind k old NotReady new = Waits k old new
+abbrev pub AnswersChoice : Choice → State → Step → State → Type 0
+AnswersChoice choice old (Did e) new = Adds choice e old new
+AnswersChoice choice old NotReady new = Waits choice old new
 
 -- it took this job out
 pub record Lends (m : Move) (job : JobView) (new : State) : Type 0 where
@@ -53,22 +59,22 @@ pub record Lends (m : Move) (job : JobView) (new : State) : Type 0 where
 pub record Shoots (e : Entry) (job : JobView) (old new : State) : Type 0 where
   pub move : Move
   pub entry : move.entry ≡ Some e
-  pub first : MakesFirst kind.Shutter move old new
+  pub chosen : MakesChosen (first_of kind.Shutter) move old new
   pub lends : Lends move job new
   pub exposure : job.fill ≡ None
 
 abbrev pub AnswersExposure : State → Shuttered → State → Type 0
 AnswersExposure old (Began e job) new = Shoots e job old new
-AnswersExposure old NotBegun new = Waits kind.Shutter old new
+AnswersExposure old NotBegun new = Waits (first_of kind.Shutter) old new
 
 pub record Fills (job : JobView) (old new : State) : Type 0 where
   pub move : Move
-  pub first : MakesFirst kind.TakeFill move old new
+  pub chosen : MakesChosen (first_of kind.TakeFill) move old new
   pub lends : Lends move job new
 
 abbrev pub AnswersFilling : State → Option JobView → State → Type 0
 AnswersFilling old (Some job) new = Fills job old new
-AnswersFilling old None new = Waits kind.TakeFill old new
+AnswersFilling old None new = Waits (first_of kind.TakeFill) old new
 
 -- the job came back
 pub record Returns (job : JobView) (old new : State) : Type 0 where

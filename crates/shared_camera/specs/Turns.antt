@@ -6,7 +6,6 @@ use Rattle.cam_types.specs.declared.job.FillTarget.{FillTarget}
 use Rattle.cam_types.specs.declared.job.JobView.{JobView}
 use Rattle.cam_types.specs.declared.script.Script.{Script}
 use Rattle.trace_model.specs.declared.entry.Entry.{Entry}
-use Rattle.run_model.specs.declared.step.Kind.{Kind}
 use Rattle.run_model.specs.declared.step.Kind.TheVariants as kind
 use Rattle.run_model.specs.declared.step.Move.{Move}
 use Rattle.run_model.specs.declared.step.StepName.TheVariants.{SensorDone, FillDone}
@@ -19,6 +18,7 @@ use Rattle.service_choice.specs.Kinds.{first_of}
 use Rattle.service_core.specs.declared.sensor.Shuttered.{Shuttered}
 use Rattle.service_core.specs.declared.sensor.Shuttered.TheVariants.{Began, NotBegun}
 use Rattle.turn_lock.specs.declared.view.View.{View}
+use Rattle.shared_camera.specs.Choices.{Choice}
 use Rattle.service_core.specs.declared.step.Step.{Step}
 use Rattle.service_core.specs.declared.step.Step.TheVariants.{Did, NotReady}
 
@@ -44,26 +44,26 @@ pub record EndsWith (script : Script) (m : Move) (v w : View Script Move JobView
   pub begins : IsPrefix v.seen (reverse before)
   pub alone : IsAlone v → reverse before ≡ v.seen
 
--- it ends with the move of the first step of the kind that was ready
-pub record EndsWithFirst (script : Script) (k : Kind) (m : Move) (v w : View Script Move JobView) : Type 0 where
+-- it ends with the move of the step that was chosen of those that were ready
+pub record EndsWithChosen (script : Script) (choice : Choice) (m : Move) (v w : View Script Move JobView) : Type 0 where
   pub end : EndsWith script m v w
-  pub first : first_of k (candidates script end.before) ≡ Some m.step
+  pub chosen : choice (candidates script end.before) ≡ Some m.step
 
--- no step of the kind is ready, and nothing was done
-pub record StaysAt (script : Script) (k : Kind) (v w : View Script Move JobView) : Type 0 where
-  pub none : first_of k (candidates script (history_in w)) ≡ None
+-- no such step is ready, and nothing was done
+pub record StaysAt (script : Script) (choice : Choice) (v w : View Script Move JobView) : Type 0 where
+  pub none : choice (candidates script (history_in w)) ≡ None
   pub alone : IsAlone v → w.seen ≡ v.seen
   pub jobs : IsPermutation w.jobs v.jobs
 
--- the first ready step of the kind was made, and added this entry
-pub record DidFirst (script : Script) (k : Kind) (e : Entry) (v w : View Script Move JobView) : Type 0 where
+-- the chosen step was made, and added this entry
+pub record DidChosen (script : Script) (choice : Choice) (e : Entry) (v w : View Script Move JobView) : Type 0 where
   pub move : Move
   pub entry : move.entry ≡ Some e
-  pub end : EndsWithFirst script k move v w
+  pub end : EndsWithChosen script choice move v w
 
-abbrev pub AnswersTurn : Script → Kind → View Script Move JobView → Step → View Script Move JobView → Type 0
-AnswersTurn script k v (Did e) w = DidFirst script k e v w
-AnswersTurn script k v NotReady w = StaysAt script k v w
+abbrev pub AnswersTurn : Script → Choice → View Script Move JobView → Step → View Script Move JobView → Type 0
+AnswersTurn script choice v (Did e) w = DidChosen script choice e v w
+AnswersTurn script choice v NotReady w = StaysAt script choice v w
 
 -- the move took this job out, which is one of the seat's now
 pub record HandsOut (script : Script) (m : Move) (job : JobView) (v w : View Script Move JobView) : Type 0 where
@@ -75,23 +75,23 @@ pub record HandsOut (script : Script) (m : Move) (job : JobView) (v w : View Scr
 pub record Exposes (script : Script) (e : Entry) (job : JobView) (v w : View Script Move JobView) : Type 0 where
   pub move : Move
   pub entry : move.entry ≡ Some e
-  pub end : EndsWithFirst script kind.Shutter move v w
+  pub end : EndsWithChosen script (first_of kind.Shutter) move v w
   pub handed : HandsOut script move job v w
   pub exposure : job.fill ≡ None
 
 abbrev pub AnswersShutterTurn : Script → View Script Move JobView → Shuttered → View Script Move JobView → Type 0
 AnswersShutterTurn script v (Began e job) w = Exposes script e job v w
-AnswersShutterTurn script v NotBegun w = StaysAt script kind.Shutter v w
+AnswersShutterTurn script v NotBegun w = StaysAt script (first_of kind.Shutter) v w
 
 -- the first buffer that may be taken was taken, and the stage's job was handed out
 pub record TakesBuffer (script : Script) (job : JobView) (v w : View Script Move JobView) : Type 0 where
   pub move : Move
-  pub end : EndsWithFirst script kind.TakeFill move v w
+  pub end : EndsWithChosen script (first_of kind.TakeFill) move v w
   pub handed : HandsOut script move job v w
 
 abbrev pub AnswersTakeTurn : Script → View Script Move JobView → Option JobView → View Script Move JobView → Type 0
 AnswersTakeTurn script v (Some job) w = TakesBuffer script job v w
-AnswersTakeTurn script v None w = StaysAt script kind.TakeFill v w
+AnswersTakeTurn script v None w = StaysAt script (first_of kind.TakeFill) v w
 
 -- the move gives the job back: the sensor's by its end, a stage's by the end of its fill
 abbrev pub GivesWith : Move → JobView → Option FillTarget → Type 0

@@ -1,9 +1,10 @@
 //! What a turn does to the service that it has.
-ghost use Rattle.std.specs.Prelude.{◌≡◌, None, Some, false};
+ghost use Rattle.std.specs.Prelude.{◌≡◌, None, Some, IsTrue};
 ghost use Rattle.run_model.specs.Jobs.{IsJobOut};
 ghost use Rattle.run_model.specs.Played.{candidates};
 ghost use Rattle.service_choice.specs.Kinds.{first_of};
-ghost use Rattle.shared_camera.specs.Moves.{AnswersExposure, AnswersFilling, AnswersKind, Returns, is_of_jobs};
+ghost use Rattle.shared_camera.specs.Choices.{first_of_kinds};
+ghost use Rattle.shared_camera.specs.Moves.{AnswersChoice, AnswersExposure, AnswersFilling, Returns, are_alone};
 
 use fill_jobs::{FillJob, FilledJob};
 use run_model::{Kind, StepName};
@@ -11,14 +12,25 @@ use sensor_sim::ExposedJob;
 use service_choice::first;
 use service_core::{Service, Shuttered, Step};
 
-/// Makes the first ready step of a kind that is of no job.
-pub(crate) fn make_first(service: &mut Service, kind: Kind) -> Step
-    requires { is_of_jobs kind ≡ false }
-    ensures { AnswersKind kind service.old result service.new }
+/// Makes the first ready step of the first of these kinds that has one. They are of no job.
+pub(crate) fn make_first(service: &mut Service, kinds: &[Kind]) -> Step
+    requires { IsTrue (are_alone kinds.now) }
+    ensures { AnswersChoice (first_of_kinds kinds.now) service.old result service.new }
 {
-    match first(service, kind) {
+    match first_in(service, kinds) {
         Some(step) => service.make(step),
         None => Step::NotReady,
+    }
+}
+
+/// The first ready step of the first of these kinds that has one.
+fn first_in(service: &Service, kinds: &[Kind]) -> Option<StepName>
+    ensures { result ≡ first_of_kinds kinds.now (candidates service.now.script service.now.history) }
+{
+    let (kind, others) = kinds.split_first()?;
+    match first(service, *kind) {
+        Some(step) => Some(step),
+        None => first_in(service, others),
     }
 }
 

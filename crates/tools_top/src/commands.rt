@@ -1,29 +1,35 @@
 //! What the words ask for.
-ghost use Rattle.std.specs.Prelude.{◌≡◌, ◌≤◌, true, false, is_some, Bool, IfSome, Option};
+ghost use Rattle.std.specs.Prelude.{◌≡◌, ◌≤◌, true, false, is_some, IfSome, Option};
 ghost use Rattle.std.specs.Io.KnownBytes.{IsAtEnd};
 ghost use Rattle.io_edge.specs.Faults.{Rose};
 ghost use Rattle.io_edge.specs.States.{Writes, WritesNothing};
 ghost use Rattle.call_status.specs.Answers.{Answers, Untouched};
-ghost use Rattle.hal_call.specs.Judging.{IsUnbroken};
-ghost use Rattle.hal_of_call.specs.Shown.{IsShown};
-ghost use Rattle.tools_top.specs.Commands.{TellsOfTool};
+ghost use Rattle.tools_top.specs.Commands.{IsDone, TellsOfTool, drawing_of, form_of};
 ghost use Rattle.tools_top.specs.Help.{help_text, usage_line};
 ghost use Rattle.tools_top.specs.Words.{reads};
 ghost use Rattle.tools_words.specs.Tools.{tool_of};
 
 use call_status::{Status, answer};
-use hal_call::hal_call;
+use cam_types::{FrameNo, StreamIx};
+use candidates_call::candidates_call;
+use explain_call::explain_call;
+use hal_call::{Form, hal_call};
 use hal_of_call::hal_of_call;
 use io_edge::{Sink, Source};
 use std::alloc::Global;
+use timeline_call::{Form as Drawing, timeline_call};
 use tools_words::{Tool, tool_of};
+use video_call::{picture_call, video_call};
 
 /// The line of words that ask for no tool.
-const USAGE_LINE: &[u8] = b"usage: camera hal --plain [--strict] | hal-of | help\n";
+const USAGE_LINE: &[u8] =
+    b"usage: camera hal [--plain] [--strict] | hal-of | candidates | explain | \
+      timeline [--perfetto] | video STREAM | picture FRAME STREAM | help\n";
 
 /// What `help` writes: what the program does, and the usage line.
-const HELP_TEXT: &[u8] =
-    b"camera: judges and writes logs of the camera3.h boundary\nusage: camera hal --plain [--strict] | hal-of | help\n";
+const HELP_TEXT: &[u8] = b"camera: judges logs of camera HALs, explains verdicts and shows runs\n\
+      usage: camera hal [--plain] [--strict] | hal-of | candidates | explain | \
+      timeline [--perfetto] | video STREAM | picture FRAME STREAM | help\n";
 
 /// Runs the tool that the words ask for.
 pub fn tools_main<S: Source, K: Sink>(
@@ -37,16 +43,12 @@ pub fn tools_main<S: Source, K: Sink>(
         (K.state sink.new) }
     ensures usage_only { result.number ≡ 2 → tool_of words.now ≡ Option.None }
 
-    // Status 0: the help text; or the source was read to its end, and the log that was read breaks no rule; or the hal
-    // log of the legal trace that was read was written.
+    // Status 0: the help text; or the source was read to its end, and what the tool is asked for was done and written.
     ensures help_done { tool_of words.now ≡ Option.Some Tool.Help → result.number ≡ 0
         → Writes (K.state sink.old) (K.state sink.new) help_text }
-    ensures hal_done { (strict : Bool) → tool_of words.now ≡ Option.Some (Tool.Hal strict) → result.number ≡ 0
-        → IsAtEnd (S.left source.new)
-        × IfSome (S.left source.old) (λ input. IsUnbroken strict input (K.state sink.old) (K.state sink.new)) }
-    ensures hal_of_done { tool_of words.now ≡ Option.Some Tool.HalOf → result.number ≡ 0
-        → IsAtEnd (S.left source.new)
-        × IfSome (S.left source.old) (λ input. IsShown input (K.state sink.old) (K.state sink.new)) }
+    ensures done { reads (tool_of words.now) ≡ true → result.number ≡ 0 → IsAtEnd (S.left source.new)
+        × IfSome (S.left source.old)
+        (λ input. IsDone (tool_of words.now) input (K.state sink.old) (K.state sink.new)) }
     ensures done_tool { result.number ≡ 0 → is_some (tool_of words.now) ≡ true }
 
     // Other words read nothing.
@@ -59,10 +61,40 @@ pub fn tools_main<S: Source, K: Sink>(
     ensures known { result.number ≤ 5 }
 {
     match tool_of(words) {
-        Some(Tool::Hal { strict }) => hal_call(alloc, source, sink, strict),
+        Some(Tool::Hal { plain, strict }) => hal_call(alloc, source, sink, form_of(plain), strict),
         Some(Tool::HalOf) => hal_of_call(alloc, source, sink),
+        Some(Tool::Candidates) => candidates_call(alloc, source, sink),
+        Some(Tool::Explain) => explain_call(alloc, source, sink),
+        Some(Tool::Timeline { perfetto }) => timeline_call(
+            alloc,
+            source,
+            sink,
+            drawing_of(perfetto),
+        ),
+        Some(Tool::Video { stream }) => video_call(alloc, StreamIx(stream), source, sink),
+        Some(Tool::Picture { frame, stream }) => {
+            picture_call(alloc, FrameNo(frame), StreamIx(stream), source, sink)
+        }
         Some(Tool::Help) => help_call(sink),
         None => usage(sink),
+    }
+}
+
+/// For whom the report is written.
+fn form_of(plain: bool) -> Form
+    ensures { result ≡ form_of plain }
+{
+    if plain { Form::Plain } else { Form::Person }
+}
+
+/// In which form a timeline is written.
+fn drawing_of(perfetto: bool) -> Drawing
+    ensures { result ≡ drawing_of perfetto }
+{
+    if perfetto {
+        Drawing::Perfetto
+    } else {
+        Drawing::Svg
     }
 }
 

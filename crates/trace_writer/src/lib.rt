@@ -4,5 +4,5 @@
 mod pieces;
 mod writer;
 
-pub use pieces::PIECE;
+pub use pieces::{PIECE, Pieces};
 pub use writer::TraceWriter;

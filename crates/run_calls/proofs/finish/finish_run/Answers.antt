@@ -1,12 +1,15 @@
+use Rattle.std.proofs.Common.{List, IsPermutation, subst}
+use Rattle.cam_types.specs.declared.job.JobView.{JobView}
+use Rattle.shared_camera.specs.JobsOut.{jobs_out}
 use Rattle.turn_lock.specs.Seats.{fixed_of, view}
 use Rattle.shared_camera.specs.Cameras.{script_of}
-use Rattle.run_calls.proofs.Finishing.{ends-seen, none-out}
+use Rattle.run_calls.proofs.Finishing.{ends-seen}
 use Rattle.run_calls.proofs.finish.finish_run.Goals as goal
 
 pub settle_and_write-requires : goal.settle_and_write-requires
 settle_and_write-requires g c =
     let service = c.close-service.result in
-    none-out service.script service.history (view c.run_workers.new.root).jobs c.close-service.ensures.jobs c.run_workers.ensures.root.0.1 (c.the_jobs_that_are_out.ensures service.script service.history c.is_a_run.ensures.run)
+    c.no_job_is_out_of_an_idle_root.ensures service.script service.history c.is_a_run.ensures.run (subst (λ (js : List JobView). IsPermutation (jobs_out service.script service.history) js) c.run_workers.ensures.root.0.1 c.close-service.ensures.jobs)
 
 pub returns : goal.returns
 returns g c =

@@ -14,8 +14,8 @@ returns-in-Ok c =
     let n = c.loop-place.place in
     let row = c.row_at-row.result in
     let rest = row_steps step (drop (n + 1) rows) in
-    let pieces : filter q (row_steps step (drop n rows)) ≡ filter q (c.frame_step.result ∷ []) ++ filter q rest = rw c.frame_step.ensures (ap (λ (rs : List RowView). filter q (row_steps step rs)) (rest_at rows n row c.row_at-row.ensures) ∙ apart q (step row.frame) rest) in
-    stops (filter q (row_steps step rows)) (filter q (row_steps step (drop n rows))) (filter q (c.frame_step.result ∷ [])) (filter q rest) c.args.number c.loop-place.left c.in-Ok.step c.loop-place.invariant pieces c.in-Ok.ensures
+    let pieces : filter q (row_steps step (drop n rows)) ≡ filter q (step row.frame ∷ []) ++ filter q rest = ap (λ (rs : List RowView). filter q (row_steps step rs)) (rest_at rows n row c.row_at-row.ensures.at) ∙ apart q (step row.frame) rest in
+    stops (filter q (row_steps step rows)) (filter q (row_steps step (drop n rows))) (filter q (step row.frame ∷ [])) (filter q rest) c.args.number c.loop-place.left c.in-Ok.step c.loop-place.invariant pieces c.in-Ok.ensures
 
 pub loop-place-preserved : goal.loop-place-preserved
 loop-place-preserved c =
@@ -26,8 +26,8 @@ loop-place-preserved c =
     let n = c.loop-place.place in
     let row = c.row_at-row.result in
     let rest = row_steps step (drop (n + 1) rows) in
-    let pieces : filter q (row_steps step (drop n rows)) ≡ filter q (c.frame_step.result ∷ []) ++ filter q rest = rw c.frame_step.ensures (ap (λ (rs : List RowView). filter q (row_steps step rs)) (rest_at rows n row c.row_at-row.ensures) ∙ apart q (step row.frame) rest) in
-    goes_on (filter q (row_steps step rows)) (filter q (row_steps step (drop n rows))) (filter q (c.frame_step.result ∷ [])) (filter q rest) c.args.number c.loop-place.left c.in-Err.rest c.loop-place.invariant pieces c.in-Err.ensures
+    let pieces : filter q (row_steps step (drop n rows)) ≡ filter q (step row.frame ∷ []) ++ filter q rest = ap (λ (rs : List RowView). filter q (row_steps step rs)) (rest_at rows n row c.row_at-row.ensures.at) ∙ apart q (step row.frame) rest in
+    goes_on (filter q (row_steps step rows)) (filter q (row_steps step (drop n rows))) (filter q (step row.frame ∷ [])) (filter q rest) c.args.number c.loop-place.left c.in-Err.rest c.loop-place.invariant pieces c.in-Err.ensures
 
 pub returns : goal.returns
 returns c =

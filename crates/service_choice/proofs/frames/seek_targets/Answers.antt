@@ -16,7 +16,7 @@ returns-in-Ok c =
     let rows = s.parts.rows in
     let n = c.loop-place.place in
     let row = c.row_at-row.result in
-    stops (filter q (target_steps step rows)) (filter q (target_steps step (drop n rows))) (filter q (of row)) (filter q (target_steps step (drop (n + 1) rows))) c.args.number c.loop-place.left c.in-Ok.step c.loop-place.invariant (piece_at q of rows n row c.row_at-row.ensures) c.in-Ok.ensures
+    stops (filter q (target_steps step rows)) (filter q (target_steps step (drop n rows))) (filter q (of row)) (filter q (target_steps step (drop (n + 1) rows))) c.args.number c.loop-place.left c.in-Ok.step c.loop-place.invariant (piece_at q of rows n row c.row_at-row.ensures.at) c.in-Ok.ensures
 
 pub loop-place-preserved : goal.loop-place-preserved
 loop-place-preserved c =
@@ -27,7 +27,7 @@ loop-place-preserved c =
     let rows = s.parts.rows in
     let n = c.loop-place.place in
     let row = c.row_at-row.result in
-    goes_on (filter q (target_steps step rows)) (filter q (target_steps step (drop n rows))) (filter q (of row)) (filter q (target_steps step (drop (n + 1) rows))) c.args.number c.loop-place.left c.in-Err.rest c.loop-place.invariant (piece_at q of rows n row c.row_at-row.ensures) c.in-Err.ensures
+    goes_on (filter q (target_steps step rows)) (filter q (target_steps step (drop n rows))) (filter q (of row)) (filter q (target_steps step (drop (n + 1) rows))) c.args.number c.loop-place.left c.in-Err.rest c.loop-place.invariant (piece_at q of rows n row c.row_at-row.ensures.at) c.in-Err.ensures
 
 pub returns : goal.returns
 returns c =

@@ -1,0 +1,4 @@
+pub mod Pieces
+pub mod Lists
+pub mod Moves
+pub mod Telling

@@ -1,0 +1,22 @@
+use Rattle.std.proofs.Common.{◌≡◌, ◌∙◌, ◌+◌, Some, arith, slice_get, sym, take}
+use Rattle.service_choice.specs.Candidates.{candidates_by}
+use Rattle.candidates_call.specs.Listing.{candidate_text, listed}
+use Rattle.candidates_call.proofs.Lists.{all_listed, one_more}
+use Rattle.candidates_call.proofs.Pieces.{behind, nothing_more, same_bytes}
+use Rattle.candidates_call.proofs.listing.put_listed.Goals as goal
+
+pub loop-place-init : goal.loop-place-init
+loop-place-init g c = nothing_more c.args.teller.now (g.K.Sink.state c.args.sink.now)
+
+pub loop-place-preserved : goal.loop-place-preserved
+loop-place-preserved g c =
+    let xs = candidates_by c.args.state.now.script c.args.state.now.parts in
+    let n = c.loop-place.place in
+    let at : slice_get xs n ≡ Some c.in-Some.step = sym c.candidate_at.ensures ∙ c.in-Some.is in
+    let more = behind (listed c.args.pick 0 (take n xs)) (candidate_text c.args.pick n c.in-Some.step) c.args.teller.now c.loop-place.teller c.put_candidate.new.teller (g.K.Sink.state c.args.sink.now) (g.K.Sink.state c.loop-place.sink) (g.K.Sink.state c.put_candidate.new.sink) c.loop-place.invariant c.put_candidate.ensures in
+    same_bytes _ _ c.args.teller.now c.put_candidate.new.teller (g.K.Sink.state c.args.sink.now) (g.K.Sink.state c.put_candidate.new.sink) (one_more c.args.pick 0 n n (n + 1) xs c.in-Some.step at (omega arith) (omega arith)) more
+
+pub returns : goal.returns
+returns g c =
+    let xs = candidates_by c.args.state.now.script c.args.state.now.parts in
+    same_bytes _ _ c.args.teller.now c.loop-place.teller (g.K.Sink.state c.args.sink.now) (g.K.Sink.state c.loop-place.sink) (all_listed c.args.pick 0 xs c.loop-place.place (omega (arith, c.requires.count))) c.loop-place.invariant

@@ -1,0 +1,66 @@
+//! `candidates`: a script is read and played, and the candidates before each of its moves are written.
+ghost use Rattle.std.specs.Prelude.{◌≡◌, ◌≢◌, ◌≤◌, IfSome, IsTrue};
+ghost use Rattle.std.specs.Io.KnownBytes.{IsAtEnd};
+ghost use Rattle.cam_types.specs.Script.{is_valid};
+ghost use Rattle.io_edge.specs.Faults.{Rose};
+ghost use Rattle.io_edge.specs.States.{WritesNothing};
+ghost use Rattle.call_status.specs.Answers.{Tells, TellsBy, Untouched};
+ghost use Rattle.candidates_call.specs.Says.{IsWhole, Says, SaysOfScript};
+
+use crate::opened::Opened;
+use call_status::Status;
+use cam_types::{SCRIPT_BYTES, Script};
+use input_refusals::refuse_script;
+use io_edge::{ReadBytes, ReadFault, Sink, Source, read_all};
+use line_reading::{Cause, TextRefused};
+use run_laws::a_complete_run_keeps_the_laws;
+use std::alloc::Global;
+
+/// Reads a script, plays it as `play` does, and writes for each move the candidates before it and the line that it adds
+/// to the trace. All memory is taken before the first write.
+pub fn candidates_call<S: Source, K: Sink>(alloc: Global, source: &mut S, sink: &mut K) -> Status
+    // The headline: at status 0 the source was read to its end, its bytes spell a script, and what was written is the
+    // whole text of the script's played run, which is complete and keeps the laws, and nothing else.
+    ensures whole { result.number ≡ 0 → IsAtEnd (S.left source.new)
+        × IfSome (S.left source.old) (λ input. IsWhole input (K.state sink.old) (K.state sink.new)) }
+    // Each status and each text has its cause in the input's meaning: where no end failed and memory was there, the
+    // status and the text are those that belong to it. At status 4 a front of that text is written.
+    ensures tells { Tells Says (S.left source.old) result.number (K.state sink.old) (K.state sink.new) }
+    ensures source_failed { result.number ≡ 3 → Rose (S.faults source.old) (S.faults source.new)
+        × WritesNothing (K.state sink.old) (K.state sink.new) }
+    ensures sink_failed { result.number ≡ 4 → Rose (K.state sink.old).faults (K.state sink.new).faults }
+    ensures no_memory { result.number ≡ 5 → (S.faults source.new ≡ S.faults source.old)
+        × Untouched (K.state sink.old) (K.state sink.new) }
+    ensures known { result.number ≤ 5 }
+    ensures no_usage { result.number ≢ 2 }
+{
+    a_complete_run_keeps_the_laws();
+    match read_all(alloc, source, SCRIPT_BYTES) {
+        Err(ReadFault::Failed) => Status::SOURCE_FAILED,
+        Err(ReadFault::NoMemory) => Status::NO_MEMORY,
+        Ok(ReadBytes::TooLong) => refuse_script(alloc, 0, Cause::Limit.number(), sink),
+        Ok(ReadBytes::Whole(bytes)) => list_text(alloc, bytes.as_slice(), sink),
+    }
+}
+
+/// Reads a script from its text, and writes its run.
+fn list_text<K: Sink>(alloc: Global, input: &[u8], sink: &mut K) -> Status
+    ensures { TellsBy (Says input.now) result.number (K.state sink.old) (K.state sink.new) }
+{
+    match script_text::read(alloc, input) {
+        Err(TextRefused::NoMemory) => Status::NO_MEMORY,
+        Err(TextRefused::Bad { line, cause }) => refuse_script(alloc, line, cause.number(), sink),
+        Ok(script) => list_script(alloc, script, sink),
+    }
+}
+
+/// Writes the run of a script.
+fn list_script<K: Sink>(alloc: Global, script: Script, sink: &mut K) -> Status
+    requires { IsTrue (is_valid script) }
+    ensures { TellsBy (SaysOfScript script) result.number (K.state sink.old) (K.state sink.new) }
+{
+    match Opened::new(alloc, script) {
+        Ok(opened) => opened.tell(sink),
+        Err(_) => Status::NO_MEMORY,
+    }
+}

@@ -1,0 +1,95 @@
+//! A run with all its memory taken, and how it is told whole.
+ghost use Rattle.std.specs.Prelude.{◌≡◌, [], IfOk, IsTrue, false};
+ghost use Rattle.cam_types.specs.Script.{is_valid};
+ghost use Rattle.candidates_call.specs.Says.{ListsRun};
+
+use crate::playing::tell_moves;
+use crate::teller::Teller;
+use call_status::Status;
+use cam_types::{NoMemory, Script};
+use digest_memory::DigestMemory;
+use io_edge::Sink;
+use job_hands::Hands;
+use job_moves::no_job_is_out_at_first;
+use script_bounds::early_bound;
+use service_core::Service;
+use settle::close;
+use std::alloc::Global;
+use std::marker::Model;
+use trace_text::Printer;
+
+/// A run that isn't begun, with all the memory that it and its text need. A contract sees its script. It can't be let
+/// go: `tell` ends it.
+pub(crate) struct Opened {
+    service: Service,
+    hands: Hands,
+    printer: Printer,
+    teller: Teller,
+}
+
+impl Model for Opened {
+    ghost use Rattle.std.specs.Prelude.{◌≡◌, [], false};
+    ghost use Rattle.cam_types.specs.declared.script.Script.{Script as AScript};
+
+    ghost Value = { AScript };
+
+    ghost view = { λ o. o.service.script };
+
+    ghost invariant = { λ o. (o.service.history ≡ []) × (o.hands ≡ [])
+        × (o.teller ≡ record { pieces = []; broken = false }) };
+}
+
+impl Opened {
+    /// Takes all the memory that the run of a script and its text need.
+    pub(crate) fn new(alloc: Global, script: Script) -> Result<Opened, NoMemory>
+        requires { IsTrue (is_valid script) }
+        ensures { IfOk result (λ opened. opened ≡ script) }
+    {
+        // No run of the script fills more buffers than may come back early.
+        let digests = DigestMemory::with_room(alloc, early_bound(&script) as usize)?;
+        let printer = Printer::new(alloc, None)?;
+        let teller = Teller::new(alloc)?;
+        let service = Service::open(alloc, script)?;
+        Ok(Opened {
+            service,
+            hands: Hands::with_memory(digests),
+            printer,
+            teller,
+        })
+    }
+
+    /// Plays the run and tells it. It takes no memory: the status is 0, or 4 where the sink failed.
+    pub(crate) fn tell<K: Sink>(self, sink: &mut K) -> Status
+        ensures { ListsRun self result.number (K.state sink.old) (K.state sink.new) }
+    {
+        let Opened {
+            service,
+            hands,
+            printer,
+            teller,
+        } = self;
+        tell_run(service, hands, printer, teller, sink)
+    }
+}
+
+/// Plays a run from its first move on, and tells it whole.
+fn tell_run<K: Sink>(
+    mut service: Service,
+    mut hands: Hands,
+    mut printer: Printer,
+    mut teller: Teller,
+    sink: &mut K,
+) -> Status
+    requires service { service.history ≡ [] }
+    requires hands { hands ≡ [] }
+    requires teller { teller ≡ record { pieces = []; broken = false } }
+    ensures { ListsRun service.script result.number (K.state sink.old) (K.state sink.new) }
+{
+    no_job_is_out_at_first();
+    teller.put(b"candidates 1\n", sink);
+    tell_moves(&mut service, &mut hands, &mut printer, &mut teller, sink);
+    teller.put(b"end\n", sink);
+    let status = teller.finish(sink);
+    close(service, hands);
+    status
+}

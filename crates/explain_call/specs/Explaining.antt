@@ -1,0 +1,93 @@
+-- What `explain` answers and writes. (docs/FORMATS.md, What explain writes)
+use Rattle.std.specs.Prelude.{◌≡◌, ◌≢◌, ◌+◌, ℕ, List, [], Option, Some, None, Result, Ok, Err, length, nat_lt, true, false, ◌⊎◌, reverse, slice_get, take}
+use Rattle.io_edge.specs.States.{SinkState, Writes}
+use Rattle.cam_types.specs.declared.script.Script.{Script}
+use Rattle.line_reading.specs.Causes.{number_of}
+use Rattle.line_reading.specs.declared.cause.TextRefused.{TextRefused}
+use Rattle.line_reading.specs.declared.cause.TextRefused.TheVariants.{Bad, NoMemory}
+use Rattle.script_text.specs.Grammar.{script_of}
+use Rattle.trace_check.specs.Verdict.{IsVerdict}
+use Rattle.trace_check.specs.declared.verdict.Verdict.{Verdict}
+use Rattle.trace_check.specs.declared.verdict.Verdict.TheVariants.{Legal, IllegalAt, Incomplete}
+use Rattle.trace_model.specs.declared.entry.Entry.{Entry}
+use Rattle.trace_model.specs.declared.list.TraceList.{TraceList}
+use Rattle.trace_model.specs.Complete.{IsComplete}
+use Rattle.trace_reader.specs.Causes.{number_of as trace_number_of}
+use Rattle.trace_reader.specs.Grammar.{trace_of}
+use Rattle.trace_reader.specs.declared.cause.TraceRefused.{TraceRefused}
+use Rattle.trace_reader.specs.declared.cause.TraceRefused.TheVariants.{Bad as BadTrace, NoMemory as NoTraceMemory}
+use Rattle.judge_text.specs.Lines.{refused_script_text, refused_trace_text, verdict_status}
+use Rattle.judge_text.specs.Meaning.{input_limit}
+use Rattle.judge_text.specs.Parts.{first_line, script_part, trace_part}
+use Rattle.judge_text.specs.Profiles.{profile_of}
+use Rattle.explain_missing.specs.Missing.{incomplete_text}
+use Rattle.explain_text.specs.Explained.{illegal_text, legal_text}
+use Rattle.rule_conditions.specs.Conditions.{first_failed}
+use Rattle.trace_check.specs.declared.verdict.RuleName.{RuleName}
+
+-- the entry behind those before it is told with the first condition that it doesn't meet
+abbrev pub illegal_behind : Script → RuleName → ℕ → ℕ → List Entry → Option Entry → List ℕ
+illegal_behind script rule k position before None = []
+illegal_behind script rule k position before (Some faulty) =
+    illegal_text rule k position before faulty (first_failed script (reverse before) faulty)
+
+-- that at the position
+abbrev pub illegal_at : Script → RuleName → ℕ → ℕ → List Entry → List ℕ
+illegal_at script rule k position trace =
+    illegal_behind script rule k position (take position trace) (slice_get trace position)
+
+-- what is written of a verdict on a trace, whose first entry's line has the number k
+abbrev pub explained : Script → ℕ → List Entry → Verdict → List ℕ
+explained script k trace Legal = legal_text script k trace
+explained script k trace (IllegalAt position rule) = illegal_at script rule k position trace
+explained script k trace (Incomplete part) = incomplete_text script k trace part
+
+-- the trace, whose first entry's line has the number k, has this verdict, which is explained
+pub record HasExplanation (script : Script) (k : ℕ) (trace : List Entry) (status : ℕ) (text : List ℕ) : Type 0 where
+  pub verdict : Verdict
+  pub judged : IsVerdict script trace verdict
+  pub number : status ≡ verdict_status verdict
+  pub shown : text ≡ explained script k trace verdict
+
+-- of a script and a trace, whose first line has the number n: the profiles are compared before the trace is judged
+abbrev pub ExplainsBoth : ℕ → Script → TraceList → ℕ → List ℕ → Type 0
+ExplainsBoth n script trace status text =
+    ((profile_of trace ≡ script.profile) × HasExplanation script (n + 1) trace.entries status text)
+    ⊎ ((profile_of trace ≢ script.profile) × (status ≡ 1) × (text ≡ refused_trace_text n 46))
+
+-- of a script and what a text means as a trace
+abbrev pub ExplainsTrace : ℕ → Script → Result TraceList TraceRefused → ℕ → List ℕ → Type 0
+ExplainsTrace n script (Ok trace) status text = ExplainsBoth n script trace status text
+ExplainsTrace n script (Err (BadTrace line cause)) status text =
+    (status ≡ 1) × (text ≡ refused_trace_text line (trace_number_of cause))
+ExplainsTrace n script (Err NoTraceMemory) status text = ⊥
+
+-- the script is read before the trace
+abbrev pub ExplainsParts : ℕ → Result Script TextRefused → Result TraceList TraceRefused → ℕ → List ℕ → Type 0
+ExplainsParts n (Ok script) trace status text = ExplainsTrace n script trace status text
+ExplainsParts n (Err (Bad line cause)) trace status text =
+    (status ≡ 1) × (text ≡ refused_script_text line (number_of cause))
+ExplainsParts n (Err NoMemory) trace status text = ⊥
+
+-- the two parts of an input
+abbrev pub ExplainsWhole : List ℕ → ℕ → List ℕ → Type 0
+ExplainsWhole input status text =
+    let n = first_line input in
+    ExplainsParts n (script_of (script_part input)) (trace_of n (trace_part input)) status text
+
+-- the status and the whole text that belong to an input: it is too long, or has two parts
+abbrev pub Explains : List ℕ → ℕ → List ℕ → Type 0
+Explains input status text =
+    ((nat_lt input_limit (length input) ≡ true) × (status ≡ 1) × (text ≡ refused_trace_text 0 45))
+    ⊎ ((nat_lt input_limit (length input) ≡ false) × ExplainsWhole input status text)
+
+-- the input is a script and a trace of its profile, the trace is a complete legal run of the script, and `legal` was
+-- written with what of the script did nothing
+pub record IsExplainedLegal (input : List ℕ) (before after : SinkState) : Type 0 where
+  pub script : Script
+  pub meaning : script_of (script_part input) ≡ Ok script
+  pub trace : TraceList
+  pub read : trace_of (first_line input) (trace_part input) ≡ Ok trace
+  pub agreeing : profile_of trace ≡ script.profile
+  pub complete : IsComplete script (reverse trace.entries)
+  pub written : Writes before after (legal_text script (first_line input + 1) trace.entries)

@@ -1,0 +1,146 @@
+//! `explain`: a script and a trace are read, the trace is judged, and the verdict is explained.
+ghost use Rattle.std.specs.Prelude.{◌≡◌, ◌≢◌, ◌+◌, ◌≤◌, IfSome, IsTrue, length};
+ghost use Rattle.std.specs.Io.KnownBytes.{IsAtEnd};
+ghost use Rattle.std.specs.List.{list_all};
+ghost use Rattle.io_edge.specs.Faults.{Rose};
+ghost use Rattle.io_edge.specs.States.{Writes, WritesNothing};
+ghost use Rattle.trace_check.specs.Verdict.{IsVerdict};
+ghost use Rattle.trace_model.specs.Printable.{is_printable};
+ghost use Rattle.trace_reader.specs.Grammar.{trace_of};
+ghost use Rattle.judge_text.specs.Lines.{verdict_status};
+ghost use Rattle.call_status.specs.Answers.{AnswersWithMemory, Tells, TellsBy, Untouched};
+ghost use Rattle.explain_call.specs.Explaining.{explained, Explains, ExplainsBoth, ExplainsTrace, ExplainsWhole, IsExplainedLegal};
+
+use crate::verdict::explain_verdict;
+use call_status::{Status, answer};
+use cam_types::Script;
+use input_refusals::{TOO_LONG, refuse_script, refuse_trace};
+use io_edge::{ReadBytes, ReadFault, Sink, Source, read_all};
+use judge_text::{parts_of, profiles_agree};
+use line_reading::TextRefused;
+use std::alloc::Global;
+use trace_check::{Verdict, check};
+use trace_model::TraceList;
+use trace_reader::{TRACE_BYTES, TraceRefused, read_is_spelled};
+
+/// The cause of a trace whose profile isn't the script's.
+const PROFILE_DIFFERS: u8 = 46;
+
+/// Reads a script followed by a trace, as `check` does, judges the trace and writes its verdict in words. The statuses
+/// are those of `check`.
+pub fn explain_call<S: Source, K: Sink>(alloc: Global, source: &mut S, sink: &mut K) -> Status
+    // At status 0 the source was read to its end, its bytes are a script and a trace of its profile, the trace is a
+    // complete legal run of the script, and `legal` was written with what of the script did nothing.
+    ensures whole { result.number ≡ 0 → IsAtEnd (S.left source.new)
+        × IfSome (S.left source.old) (λ input. IsExplainedLegal input (K.state sink.old) (K.state sink.new)) }
+    // Each status and each text has its cause in the input's meaning: where no end failed and memory was there, the
+    // status and the text are those that belong to it. At status 4 a front of that text is written.
+    ensures tells { Tells Explains (S.left source.old) result.number (K.state sink.old) (K.state sink.new) }
+    ensures source_failed { result.number ≡ 3 → Rose (S.faults source.old) (S.faults source.new)
+        × WritesNothing (K.state sink.old) (K.state sink.new) }
+    ensures sink_failed { result.number ≡ 4 → Rose (K.state sink.old).faults (K.state sink.new).faults }
+    ensures no_memory { result.number ≡ 5 → (S.faults source.new ≡ S.faults source.old)
+        × Untouched (K.state sink.old) (K.state sink.new) }
+    ensures known { result.number ≤ 5 }
+    ensures no_usage { result.number ≢ 2 }
+{
+    match read_all(alloc, source, TRACE_BYTES) {
+        Err(ReadFault::Failed) => Status::SOURCE_FAILED,
+        Err(ReadFault::NoMemory) => Status::NO_MEMORY,
+        Ok(ReadBytes::TooLong) => refuse_trace(alloc, 0, TOO_LONG, sink),
+        Ok(ReadBytes::Whole(bytes)) => explain_input(alloc, bytes.as_slice(), sink),
+    }
+}
+
+/// Reads a script followed by a trace, judges the trace and writes its verdict in words.
+fn explain_input<K: Sink>(alloc: Global, input: &[u8], sink: &mut K) -> Status
+    requires { length input.now ≤ 134217728 }
+    ensures { TellsBy (ExplainsWhole input.now) result.number (K.state sink.old) (K.state sink.new) }
+{
+    let parts = parts_of(input);
+    match script_text::read(alloc, parts.script) {
+        Err(TextRefused::NoMemory) => Status::NO_MEMORY,
+        Err(TextRefused::Bad { line, cause }) => refuse_script(alloc, line, cause.number(), sink),
+        Ok(script) => explain_text_of(alloc, &script, parts.trace, parts.first_line as u32, sink),
+    }
+}
+
+/// Reads a trace, whose first line has the number, and explains the verdict on it.
+fn explain_text_of<K: Sink>(
+    alloc: Global,
+    script: &Script,
+    text: &[u8],
+    first_line: u32,
+    sink: &mut K,
+) -> Status
+    requires long { length text.now ≤ 134217728 }
+    requires some { 1 ≤ first_line }
+    requires numbers { first_line ≤ 134217729 }
+    ensures { TellsBy (ExplainsTrace first_line script.now (trace_of first_line text.now)) result.number
+        (K.state sink.old) (K.state sink.new) }
+{
+    read_is_spelled();
+    match trace_reader::read(alloc, text, first_line) {
+        Err(TraceRefused::NoMemory) => Status::NO_MEMORY,
+        Err(TraceRefused::Bad { line, cause }) => refuse_trace(alloc, line, cause.number(), sink),
+        Ok(trace) => explain_trace(alloc, script, &trace, first_line, sink),
+    }
+}
+
+/// Compares the profiles of a script and a trace, whose first line has the number; where they agree, judges the trace
+/// and explains the verdict.
+fn explain_trace<K: Sink>(
+    alloc: Global,
+    script: &Script,
+    trace: &TraceList,
+    first_line: u32,
+    sink: &mut K,
+) -> Status
+    requires numbers { first_line ≤ 134217729 }
+    requires printable { IsTrue (list_all is_printable trace.now.entries) }
+    ensures { TellsBy (ExplainsBoth first_line script.now trace.now) result.number
+        (K.state sink.old) (K.state sink.new) }
+{
+    if !profiles_agree(script, trace) {
+        return refuse_trace(alloc, first_line, PROFILE_DIFFERS, sink);
+    }
+    match check(alloc, script, trace) {
+        Ok(verdict) => write_explanation(alloc, script, trace, first_line, verdict, sink),
+        Err(_) => Status::NO_MEMORY,
+    }
+}
+
+/// The status of a verdict.
+fn status_of(verdict: Verdict) -> Status
+    ensures { result.number ≡ verdict_status verdict }
+{
+    match verdict {
+        Verdict::Legal => Status::DONE,
+        Verdict::IllegalAt { .. } => Status::REFUSED,
+        Verdict::Incomplete { .. } => Status::REFUSED,
+    }
+}
+
+/// Writes the verdict on a trace, whose first line has the number, in words.
+fn write_explanation<K: Sink>(
+    alloc: Global,
+    script: &Script,
+    trace: &TraceList,
+    first_line: u32,
+    verdict: Verdict,
+    sink: &mut K,
+) -> Status
+    requires judged { IsVerdict script.now trace.now.entries verdict }
+    requires numbers { first_line ≤ 134217729 }
+    requires printable { IsTrue (list_all is_printable trace.now.entries) }
+    ensures { AnswersWithMemory (verdict_status verdict)
+        (explained script.now (first_line + 1) trace.now.entries verdict) result.number
+        (K.state sink.old) (K.state sink.new) }
+{
+    let _count = trace.len();
+    let number = u64::from(first_line) + 1;
+    match explain_verdict(alloc, script, trace, number, verdict) {
+        Ok(text) => answer(sink, text.as_slice(), status_of(verdict)),
+        Err(_) => Status::NO_MEMORY,
+    }
+}

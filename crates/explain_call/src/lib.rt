@@ -1,0 +1,7 @@
+//! `explain` judges a trace beside its script, and says in words what the verdict means.
+#![tactic(auto)]
+
+mod call;
+mod verdict;
+
+pub use call::explain_call;

@@ -1,0 +1,124 @@
+//! A verdict in words.
+ghost use Rattle.std.specs.Prelude.{◌≡◌, ◌+◌, ◌≤◌, IfOk, IsTrue, length, reverse, take};
+ghost use Rattle.std.specs.List.{list_all};
+ghost use Rattle.explain_call.specs.Explaining.{explained, illegal_at};
+ghost use Rattle.explain_text.specs.Explained.{illegal_text};
+ghost use Rattle.rule_conditions.specs.Conditions.{first_failed};
+ghost use Rattle.trace_check.specs.Verdict.{IsIllegalAt, IsVerdict};
+ghost use Rattle.trace_model.specs.Allowed.{IsAllowed};
+ghost use Rattle.trace_model.specs.Printable.{is_printable};
+
+use cam_types::{NoMemory, Script};
+use explain_lines::LINE_LIMIT;
+use explain_missing::incomplete_text;
+use explain_text::{illegal_text, legal_text};
+use judge_conditions::first_failed;
+use std::alloc::Global;
+use trace_check::{RuleName, Verdict};
+use trace_model::{Entry, TraceList};
+use trace_text::Printer;
+
+/// The text of an entry that isn't allowed behind those before it, with the first condition that it doesn't meet. The
+/// line of the first one before has the number.
+fn illegal_entry(
+    alloc: Global,
+    printer: &mut Printer,
+    script: &Script,
+    rule: RuleName,
+    number: u64,
+    position: u32,
+    before: &[Entry],
+    faulty: &Entry,
+) -> Result<Vec<u8>, NoMemory>
+    requires refused { ¬ IsAllowed script.now (reverse before.now) faulty.now }
+    requires printable { IsTrue (list_all is_printable before.now) }
+    requires shown { IsTrue (is_printable faulty.now) }
+    requires numbers { number + length before.now ≤ LINE_LIMIT }
+    requires small { number ≤ 536870912 }
+    ensures { IfOk result (λ text. text.items ≡ illegal_text rule number position before.now faulty.now
+        (first_failed script.now (reverse before.now) faulty.now)) }
+{
+    let failed = first_failed(script, before, faulty);
+    illegal_text(
+        alloc, printer, rule, number, position, before, faulty, failed,
+    )
+}
+
+/// The entries before the position.
+#[tactic(auto, using(crate::proofs::Parts::all_taken))]
+fn before_of(entries: &[Entry], position: u32) -> &[Entry]
+    requires { IsTrue (list_all is_printable entries.now) }
+    ensures value { result.now ≡ take position entries.now }
+    ensures printable { IsTrue (list_all is_printable result.now) }
+    ensures short { length result.now ≤ length entries.now }
+{
+    let place = position as usize;
+    if place < entries.len() {
+        &entries[..place]
+    } else {
+        entries
+    }
+}
+
+/// The text of the entry at the position, which isn't allowed behind those before it. The line of the first one has the
+/// number.
+fn illegal_at(
+    alloc: Global,
+    printer: &mut Printer,
+    script: &Script,
+    trace: &TraceList,
+    rule: RuleName,
+    number: u64,
+    position: u32,
+) -> Result<Vec<u8>, NoMemory>
+    requires judged { IsIllegalAt script.now trace.now.entries position rule }
+    requires printable { IsTrue (list_all is_printable trace.now.entries) }
+    requires numbers { number + length trace.now.entries ≤ LINE_LIMIT }
+    requires small { number ≤ 536870912 }
+    ensures { IfOk result (λ text. text.items ≡ illegal_at script.now rule number position trace.now.entries) }
+{
+    let before = before_of(trace.as_slice(), position);
+    match trace.get(position) {
+        Some(faulty) => illegal_entry(
+            alloc, printer, script, rule, number, position, before, faulty,
+        ),
+        None => Ok(Vec::new(alloc)),
+    }
+}
+
+/// The text of the verdict on a trace, whose first entry's line has the number.
+pub fn explain_verdict(
+    alloc: Global,
+    script: &Script,
+    trace: &TraceList,
+    number: u64,
+    verdict: Verdict,
+) -> Result<Vec<u8>, NoMemory>
+    requires judged { IsVerdict script.now trace.now.entries verdict }
+    requires printable { IsTrue (list_all is_printable trace.now.entries) }
+    requires numbers { number + length trace.now.entries ≤ LINE_LIMIT }
+    requires small { number ≤ 536870912 }
+    ensures { IfOk result (λ text. text.items ≡ explained script.now number trace.now.entries verdict) }
+{
+    let mut printer = Printer::new(alloc, None)?;
+    match verdict {
+        Verdict::Legal => legal_text(alloc, &mut printer, script, trace.as_slice(), number),
+        Verdict::IllegalAt { position, rule } => illegal_at(
+            alloc,
+            &mut printer,
+            script,
+            trace,
+            rule,
+            number,
+            position,
+        ),
+        Verdict::Incomplete { part } => incomplete_text(
+            alloc,
+            &mut printer,
+            script,
+            trace.as_slice(),
+            number,
+            part,
+        ),
+    }
+}

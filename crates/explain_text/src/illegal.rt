@@ -1,0 +1,103 @@
+//! What is told of an entry that isn't allowed.
+ghost use Rattle.std.specs.Prelude.{◌≡◌, ◌+◌, ◌≤◌, ◌++◌, IfOk, IsTrue, OnOk, Some, length, reverse};
+ghost use Rattle.std.specs.List.{list_all};
+ghost use Rattle.explain_text.specs.Explained.{failed_text, illegal_head, illegal_text};
+ghost use Rattle.rule_mentions.specs.Mentions.{mentions};
+ghost use Rattle.trace_model.specs.Printable.{is_printable};
+
+use crate::reason::put_reason;
+use cam_types::NoMemory;
+use explain_lines::{Choice, LINE_LIMIT, put_headed, put_last_lines, put_number};
+use rule_conditions::Condition;
+use rule_mentions::mentions;
+use std::alloc::Global;
+use trace_check::RuleName;
+use trace_model::Entry;
+use trace_text::Printer;
+
+/// Which entries before the faulty one a condition speaks of.
+#[derive(Clone, Copy)]
+struct Mentioned<'e> {
+    condition: Condition,
+    before: &'e [Entry],
+    faulty: Entry,
+}
+
+impl<'e> Choice for Mentioned<'e> {
+    ghost test = { λ choice. mentions choice.condition (reverse choice.before.now) choice.faulty };
+
+    fn holds(&self, entry: &Entry) -> bool {
+        mentions(self.condition, self.before, &self.faulty, entry)
+    }
+}
+
+/// Writes the first line, of an entry whose line has the number.
+#[tactic(auto, unfolding(crate::specs::Explained::illegal_head))]
+fn put_head(text: &mut Vec<u8>, alloc: Global, number: u64, position: u32) -> Result<(), NoMemory>
+    requires { number + position ≤ LINE_LIMIT }
+    ensures { OnOk result (text.new.items ≡ text.old.items ++ illegal_head number position) }
+{
+    text.extend_from_slice(b"illegal: line ")?;
+    put_number(text, alloc, number + u64::from(position))?;
+    text.extend_from_slice(b" (entry ")?;
+    put_number(text, alloc, u64::from(position))?;
+    text.extend_from_slice(b")\n")
+}
+
+/// Writes the condition that the entry breaks, and the last entries before of which it speaks.
+#[tactic(auto, unfolding(crate::specs::Explained::failed_text))]
+fn put_failed(
+    text: &mut Vec<u8>,
+    alloc: Global,
+    printer: &mut Printer,
+    rule: RuleName,
+    number: u64,
+    before: &[Entry],
+    faulty: &Entry,
+    condition: Condition,
+) -> Result<(), NoMemory>
+    requires printable { IsTrue (list_all is_printable before.now) }
+    requires numbers { number + length before.now ≤ LINE_LIMIT }
+    ensures { OnOk result
+        (text.new.items ≡ text.old.items ++ failed_text rule number before.now faulty.now (Some condition)) }
+{
+    put_reason(text, rule, condition)?;
+    let mut lines = Vec::new(alloc);
+    let choice = Mentioned {
+        condition,
+        before,
+        faulty: *faulty,
+    };
+    put_last_lines(&mut lines, alloc, printer, &choice, number, before)?;
+    put_headed(text, b"It speaks of:\n", lines.as_slice())
+}
+
+/// The text of an entry that isn't allowed behind those before it, whose first has its line at the number. `failed` is
+/// the condition that the entry doesn't meet.
+#[tactic(auto, unfolding(crate::specs::Explained::illegal_text))]
+pub fn illegal_text(
+    alloc: Global,
+    printer: &mut Printer,
+    rule: RuleName,
+    number: u64,
+    position: u32,
+    before: &[Entry],
+    faulty: &Entry,
+    failed: Condition,
+) -> Result<Vec<u8>, NoMemory>
+    requires printable { IsTrue (list_all is_printable before.now) }
+    requires shown { IsTrue (is_printable faulty.now) }
+    requires numbers { number + length before.now ≤ LINE_LIMIT }
+    requires head { number + position ≤ LINE_LIMIT }
+    ensures { IfOk result
+        (λ text. text.items ≡ illegal_text rule number position before.now faulty.now (Some failed)) }
+{
+    let mut text = Vec::new(alloc);
+    put_head(&mut text, alloc, number, position)?;
+    text.extend_from_slice(b"    ")?;
+    text.extend_from_slice(printer.line(*faulty))?;
+    put_failed(
+        &mut text, alloc, printer, rule, number, before, faulty, failed,
+    )?;
+    Ok(text)
+}

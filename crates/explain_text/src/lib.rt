@@ -1,0 +1,9 @@
+//! What `explain` writes of an entry that isn't allowed, and of a legal trace: see `specs/`.
+#![tactic(auto)]
+
+mod idle;
+mod illegal;
+mod reason;
+
+pub use idle::legal_text;
+pub use illegal::illegal_text;

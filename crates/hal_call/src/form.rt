@@ -1,0 +1,10 @@
+//! The forms of a report.
+
+/// For whom a report is written.
+#[derive(Clone, Copy, Debug, PartialEq, Eq)]
+pub enum Form {
+    /// For a person: each breach with its lines and sentences.
+    Person,
+    /// For tools: a line for each breach.
+    Plain,
+}

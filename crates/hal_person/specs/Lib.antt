@@ -1,0 +1,5 @@
+pub mod Sentences
+pub mod Clues
+pub mod Sum
+pub mod Person
+pub mod Refusal

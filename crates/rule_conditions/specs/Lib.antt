@@ -1,0 +1,6 @@
+pub mod Sends
+pub mod Results
+pub mod Returns
+pub mod Errors
+pub mod Client
+pub mod Conditions

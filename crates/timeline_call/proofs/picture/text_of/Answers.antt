@@ -1,0 +1,21 @@
+-- What is drawn is legal, and each entry of it has a line.
+use Rattle.std.proofs.Common.{ap, arith, length}
+use Rattle.timeline_call.proofs.Fronts.{all_print, fault_prints, front_legal, front_length}
+use Rattle.timeline_call.proofs.picture.text_of.Goals as goal
+
+pub timeline_of-requires-clause-legal : goal.timeline_of-requires-clause-legal
+timeline_of-requires-clause-legal c =
+    rw c.front-legal.ensures (front_legal c.args.script.now c.args.entries.now c.args.verdict c.requires.judged)
+
+pub timeline_of-requires-clause-few : goal.timeline_of-requires-clause-few
+timeline_of-requires-clause-few c =
+    let same = ap length c.front-legal.ensures in
+    omega (arith, same, front_length c.args.entries.now c.args.verdict)
+
+pub text_in-requires-clause-drawn : goal.text_in-requires-clause-drawn
+text_in-requires-clause-drawn c =
+    rw (c.in_ok-shown.ensures, c.front-legal.ensures) (all_print c.args.script.now c.args.entries.now c.args.verdict c.requires.printable)
+
+pub text_in-requires-clause-fault : goal.text_in-requires-clause-fault
+text_in-requires-clause-fault c =
+    rw c.fault_in.ensures (fault_prints c.args.entries.now c.args.verdict c.requires.printable)

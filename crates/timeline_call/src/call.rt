@@ -1,0 +1,158 @@
+//! `timeline`: a script and a trace are read, the trace is judged, and it is drawn.
+ghost use Rattle.std.specs.Prelude.{◌≡◌, ◌≢◌, ◌≤◌, IfSome, length, true};
+ghost use Rattle.std.specs.List.{list_all};
+ghost use Rattle.trace_model.specs.Printable.{is_printable};
+ghost use Rattle.std.specs.Io.KnownBytes.{IsAtEnd};
+ghost use Rattle.io_edge.specs.Faults.{Rose};
+ghost use Rattle.io_edge.specs.States.{WritesNothing};
+ghost use Rattle.trace_reader.specs.Grammar.{trace_of};
+ghost use Rattle.judge_text.specs.Lines.{verdict_status};
+ghost use Rattle.call_status.specs.Answers.{AnswersWithMemory, Tells, TellsBy, Untouched};
+ghost use Rattle.trace_check.specs.Verdict.{IsVerdict};
+ghost use Rattle.timeline_call.specs.Fronts.{text_of};
+ghost use Rattle.timeline_call.specs.Shown.{IsShown, Shows, ShowsBoth, ShowsTrace, ShowsWhole};
+
+use crate::form::Form;
+use crate::picture::text_of;
+use call_status::{Status, answer};
+use cam_types::Script;
+use input_refusals::{TOO_LONG, refuse_script, refuse_trace};
+use io_edge::{ReadBytes, ReadFault, Sink, Source, read_all};
+use judge_text::{parts_of, profiles_agree};
+use line_reading::TextRefused;
+use std::alloc::Global;
+use trace_check::{Verdict, check};
+use trace_model::TraceList;
+use trace_reader::{TRACE_BYTES, TraceRefused, read_is_spelled};
+
+/// The cause of a trace whose profile isn't the script's.
+const PROFILE_DIFFERS: u8 = 46;
+
+/// Reads a script followed by a trace, and writes the timeline of the trace, also of one that isn't legal or complete.
+/// Where the input isn't such a script and trace, it writes the line of `check`. The status is that of `check`.
+pub fn timeline_call<S: Source, K: Sink>(
+    alloc: Global,
+    source: &mut S,
+    sink: &mut K,
+    form: Form,
+) -> Status
+    // At status 0 the source was read to its end, its bytes are a script and a complete legal trace of its profile, and
+    // the timeline of the trace was written, and nothing else.
+    ensures whole { result.number ≡ 0 → IsAtEnd (S.left source.new)
+        × IfSome (S.left source.old) (λ input. IsShown form input (K.state sink.old) (K.state sink.new)) }
+    // Each status and each text has its cause in the input's meaning: where no end failed and memory was there, the
+    // status and the text are those that belong to it. At status 4 a front of that text is written.
+    ensures tells { Tells (Shows form) (S.left source.old) result.number (K.state sink.old) (K.state sink.new) }
+    ensures source_failed { result.number ≡ 3 → Rose (S.faults source.old) (S.faults source.new)
+        × WritesNothing (K.state sink.old) (K.state sink.new) }
+    ensures sink_failed { result.number ≡ 4 → Rose (K.state sink.old).faults (K.state sink.new).faults }
+    ensures no_memory { result.number ≡ 5 → (S.faults source.new ≡ S.faults source.old)
+        × Untouched (K.state sink.old) (K.state sink.new) }
+    ensures known { result.number ≤ 5 }
+    ensures no_usage { result.number ≢ 2 }
+{
+    match read_all(alloc, source, TRACE_BYTES) {
+        Err(ReadFault::Failed) => Status::SOURCE_FAILED,
+        Err(ReadFault::NoMemory) => Status::NO_MEMORY,
+        Ok(ReadBytes::TooLong) => refuse_trace(alloc, 0, TOO_LONG, sink),
+        Ok(ReadBytes::Whole(bytes)) => show_input(alloc, form, bytes.as_slice(), sink),
+    }
+}
+
+/// Writes the timeline of an input that was read.
+fn show_input<K: Sink>(alloc: Global, form: Form, input: &[u8], sink: &mut K) -> Status
+    requires { length input.now ≤ 134217728 }
+    ensures { TellsBy (ShowsWhole form input.now) result.number (K.state sink.old) (K.state sink.new) }
+{
+    let parts = parts_of(input);
+    match script_text::read(alloc, parts.script) {
+        Err(TextRefused::NoMemory) => Status::NO_MEMORY,
+        Err(TextRefused::Bad { line, cause }) => refuse_script(alloc, line, cause.number(), sink),
+        Ok(script) => show_text(
+            alloc,
+            form,
+            &script,
+            parts.trace,
+            parts.first_line as u32,
+            sink,
+        ),
+    }
+}
+
+/// Reads a trace, whose first line has the number, and writes its timeline.
+fn show_text<K: Sink>(
+    alloc: Global,
+    form: Form,
+    script: &Script,
+    text: &[u8],
+    first_line: u32,
+    sink: &mut K,
+) -> Status
+    requires long { length text.now ≤ 134217728 }
+    requires some { 1 ≤ first_line }
+    requires numbers { first_line ≤ 134217729 }
+    ensures { TellsBy (ShowsTrace form first_line script.now (trace_of first_line text.now)) result.number
+        (K.state sink.old) (K.state sink.new) }
+{
+    read_is_spelled();
+    match trace_reader::read(alloc, text, first_line) {
+        Err(TraceRefused::NoMemory) => Status::NO_MEMORY,
+        Err(TraceRefused::Bad { line, cause }) => refuse_trace(alloc, line, cause.number(), sink),
+        Ok(trace) => show_trace(alloc, form, script, &trace, first_line, sink),
+    }
+}
+
+/// Compares the profiles of a script and a trace, whose first line has the number; where they agree, judges the trace
+/// and writes its timeline.
+fn show_trace<K: Sink>(
+    alloc: Global,
+    form: Form,
+    script: &Script,
+    trace: &TraceList,
+    first_line: u32,
+    sink: &mut K,
+) -> Status
+    requires { list_all is_printable trace.now.entries ≡ true }
+    ensures { TellsBy (ShowsBoth form first_line script.now trace.now) result.number
+        (K.state sink.old) (K.state sink.new) }
+{
+    if !profiles_agree(script, trace) {
+        return refuse_trace(alloc, first_line, PROFILE_DIFFERS, sink);
+    }
+    match check(alloc, script, trace) {
+        Ok(verdict) => write_timeline(alloc, form, script, trace, verdict, sink),
+        Err(_) => Status::NO_MEMORY,
+    }
+}
+
+/// The status of a verdict.
+fn status_of(verdict: Verdict) -> Status
+    ensures { result.number ≡ verdict_status verdict }
+{
+    match verdict {
+        Verdict::Legal => Status::DONE,
+        Verdict::IllegalAt { .. } => Status::REFUSED,
+        Verdict::Incomplete { .. } => Status::REFUSED,
+    }
+}
+
+/// Writes the timeline of a trace that has the verdict.
+fn write_timeline<K: Sink>(
+    alloc: Global,
+    form: Form,
+    script: &Script,
+    trace: &TraceList,
+    verdict: Verdict,
+    sink: &mut K,
+) -> Status
+    requires printable { list_all is_printable trace.now.entries ≡ true }
+    requires judged { IsVerdict script.now trace.now.entries verdict }
+    ensures { AnswersWithMemory (verdict_status verdict) (text_of form script.now trace.now.entries verdict)
+        result.number (K.state sink.old) (K.state sink.new) }
+{
+    let _count = trace.len();
+    match text_of(alloc, form, script, trace.as_slice(), verdict) {
+        Ok(text) => answer(sink, text.as_slice(), status_of(verdict)),
+        Err(_) => Status::NO_MEMORY,
+    }
+}

@@ -1,0 +1,8 @@
+use Rattle.std.proofs.Common.{◌≡◌, ◌∷◌, ◌++◌, take}
+use Rattle.std.specs.List.{flat_map}
+use Rattle.serde_json.specs.Written.{compact_text}
+use Rattle.timeline_json.specs.Timelines.{unfinished_event}
+use Rattle.timeline_json.proofs.events.put_all_unfinished.Given as goal
+
+abbrev pub invariant-loop-bar : goal.invariant-loop-bar
+invariant-loop-bar l = l.out.items ≡ l.initial.out.items ++ flat_map (λ bar. 44 ∷ compact_text (unfinished_event l.last bar)) (take l.bar-index l.bars)

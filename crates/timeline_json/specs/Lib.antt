@@ -1,0 +1,4 @@
+pub mod Plain
+pub mod Events
+pub mod Tracks
+pub mod Timelines

@@ -1,0 +1,3 @@
+mod Queues
+mod Ranges
+mod Fronts

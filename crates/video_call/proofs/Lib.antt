@@ -1,0 +1,4 @@
+pub mod Films
+pub mod Taken
+pub mod Telling
+pub mod Written

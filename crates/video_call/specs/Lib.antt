@@ -1,0 +1,4 @@
+pub mod Shows
+pub mod Drawing
+pub mod Chosen
+pub mod Digests

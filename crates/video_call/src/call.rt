@@ -1,0 +1,126 @@
+//! `video` and `picture`: a script is read and played, and what is wanted of its run is written.
+ghost use Rattle.std.specs.Prelude.{◌≡◌, ◌≢◌, ◌≤◌, IfSome, IsTrue};
+ghost use Rattle.std.specs.Io.KnownBytes.{IsAtEnd};
+ghost use Rattle.cam_types.specs.Script.{is_valid};
+ghost use Rattle.io_edge.specs.Faults.{Rose};
+ghost use Rattle.io_edge.specs.States.{WritesNothing};
+ghost use Rattle.call_status.specs.Answers.{Tells, TellsBy, Untouched};
+ghost use Rattle.video_call.specs.Shows.{IsShown, Shows, ShowsRun};
+
+use crate::chosen::played;
+use crate::wanted::Wanted;
+use crate::write::write_chosen;
+use call_status::Status;
+use cam_types::{FrameNo, SCRIPT_BYTES, Script, StreamIx};
+use input_refusals::refuse_script;
+use io_edge::{ReadBytes, ReadFault, Sink, Source, read_all};
+use line_reading::{Cause, TextRefused};
+use run_laws::a_complete_run_keeps_the_laws;
+use std::alloc::Global;
+
+/// Reads a script, plays it and writes the pictures of the stream's good buffers in the order of delivery: of a YUV
+/// stream as YUV4MPEG2, of a RAW16 stream as PGM pictures one behind the other. Where there are none, or not of one
+/// format and size, a line refuses it.
+pub fn video_call<S: Source, K: Sink>(
+    alloc: Global,
+    stream: StreamIx,
+    source: &mut S,
+    sink: &mut K,
+) -> Status
+    // The headline: at status 0 the source was read to its end, its bytes spell a script, and what was written is the
+    // whole film of the stream in the script's played run, which is complete and keeps the laws, and nothing else.
+    ensures whole { result.number ≡ 0 → IsAtEnd (S.left source.new)
+        × IfSome (S.left source.old)
+        (λ input. IsShown (Wanted.Film stream) input (K.state sink.old) (K.state sink.new)) }
+    // Each status and each text has its cause in the input's meaning: where no end failed and memory was there, the
+    // status and the text are those that belong to it. At status 4 a front of that text is written.
+    ensures tells { Tells (Shows (Wanted.Film stream)) (S.left source.old) result.number
+        (K.state sink.old) (K.state sink.new) }
+    ensures source_failed { result.number ≡ 3 → Rose (S.faults source.old) (S.faults source.new)
+        × WritesNothing (K.state sink.old) (K.state sink.new) }
+    ensures sink_failed { result.number ≡ 4 → Rose (K.state sink.old).faults (K.state sink.new).faults }
+    ensures no_memory { result.number ≡ 5 → (S.faults source.new ≡ S.faults source.old)
+        × Untouched (K.state sink.old) (K.state sink.new) }
+    ensures known { result.number ≤ 5 }
+    ensures no_usage { result.number ≢ 2 }
+{
+    show_call(alloc, Wanted::Film { stream }, source, sink)
+}
+
+/// Reads a script, plays it and writes the picture that a good buffer of the frame brought for the stream: of a RAW16
+/// stream as PGM, of a YUV stream as PPM. Where there is none, a line refuses it.
+pub fn picture_call<S: Source, K: Sink>(
+    alloc: Global,
+    frame: FrameNo,
+    stream: StreamIx,
+    source: &mut S,
+    sink: &mut K,
+) -> Status
+    // At status 0 the source was read to its end, its bytes spell a script, and what was written is the whole picture of
+    // the frame for the stream in the script's played run, which is complete and keeps the laws, and nothing else.
+    ensures whole { result.number ≡ 0 → IsAtEnd (S.left source.new)
+        × IfSome (S.left source.old)
+        (λ input. IsShown (Wanted.Picture frame stream) input (K.state sink.old) (K.state sink.new)) }
+    // Each status and each text has its cause in the input's meaning: where no end failed and memory was there, the
+    // status and the text are those that belong to it. At status 4 a front of that text is written.
+    ensures tells { Tells (Shows (Wanted.Picture frame stream)) (S.left source.old) result.number
+        (K.state sink.old) (K.state sink.new) }
+    ensures source_failed { result.number ≡ 3 → Rose (S.faults source.old) (S.faults source.new)
+        × WritesNothing (K.state sink.old) (K.state sink.new) }
+    ensures sink_failed { result.number ≡ 4 → Rose (K.state sink.old).faults (K.state sink.new).faults }
+    ensures no_memory { result.number ≡ 5 → (S.faults source.new ≡ S.faults source.old)
+        × Untouched (K.state sink.old) (K.state sink.new) }
+    ensures known { result.number ≤ 5 }
+    ensures no_usage { result.number ≢ 2 }
+{
+    show_call(alloc, Wanted::Picture { frame, stream }, source, sink)
+}
+
+/// Reads a script, plays it and writes what is wanted of its run.
+fn show_call<S: Source, K: Sink>(
+    alloc: Global,
+    wanted: Wanted,
+    source: &mut S,
+    sink: &mut K,
+) -> Status
+    ensures whole { result.number ≡ 0 → IsAtEnd (S.left source.new)
+        × IfSome (S.left source.old) (λ input. IsShown wanted input (K.state sink.old) (K.state sink.new)) }
+    ensures tells { Tells (Shows wanted) (S.left source.old) result.number (K.state sink.old) (K.state sink.new) }
+    ensures source_failed { result.number ≡ 3 → Rose (S.faults source.old) (S.faults source.new)
+        × WritesNothing (K.state sink.old) (K.state sink.new) }
+    ensures sink_failed { result.number ≡ 4 → Rose (K.state sink.old).faults (K.state sink.new).faults }
+    ensures no_memory { result.number ≡ 5 → (S.faults source.new ≡ S.faults source.old)
+        × Untouched (K.state sink.old) (K.state sink.new) }
+    ensures known { result.number ≤ 5 }
+    ensures no_usage { result.number ≢ 2 }
+{
+    a_complete_run_keeps_the_laws();
+    match read_all(alloc, source, SCRIPT_BYTES) {
+        Err(ReadFault::Failed) => Status::SOURCE_FAILED,
+        Err(ReadFault::NoMemory) => Status::NO_MEMORY,
+        Ok(ReadBytes::TooLong) => refuse_script(alloc, 0, Cause::Limit.number(), sink),
+        Ok(ReadBytes::Whole(bytes)) => show_text(alloc, wanted, bytes.as_slice(), sink),
+    }
+}
+
+/// Reads a script from its text, plays it and writes what is wanted of its run.
+fn show_text<K: Sink>(alloc: Global, wanted: Wanted, input: &[u8], sink: &mut K) -> Status
+    ensures { TellsBy (Shows wanted input.now) result.number (K.state sink.old) (K.state sink.new) }
+{
+    match script_text::read(alloc, input) {
+        Err(TextRefused::NoMemory) => Status::NO_MEMORY,
+        Err(TextRefused::Bad { line, cause }) => refuse_script(alloc, line, cause.number(), sink),
+        Ok(script) => show_script(alloc, wanted, script, sink),
+    }
+}
+
+/// Plays a script and writes what is wanted of its run.
+fn show_script<K: Sink>(alloc: Global, wanted: Wanted, script: Script, sink: &mut K) -> Status
+    requires { IsTrue (is_valid script) }
+    ensures { TellsBy (ShowsRun wanted script) result.number (K.state sink.old) (K.state sink.new) }
+{
+    match played(alloc, wanted, script) {
+        Ok(chosen) => write_chosen(alloc, wanted, chosen, sink),
+        Err(_) => Status::NO_MEMORY,
+    }
+}
