@@ -151,4 +151,4 @@ opened-more specs spec m =
     let one : Made = record { first = record { 0 = m.first + count_in (made_for m.profile m.first specs) }; count = pool_size m.profile spec.format } in
     let more = made-more m.profile m.first specs spec in
     let count : count_in (made_for m.profile m.first (specs ++ spec ∷ [])) ≡ count_in (made_for m.profile m.first specs) + pool_size m.profile spec.format = ap (λ (x : List Made). count_in x) more ∙ count-push (made_for m.profile m.first specs) (record { first = record { 0 = m.first + count_in (made_for m.profile m.first specs) }; count = pool_size m.profile spec.format }) in
-    rw (count, more, length-replicate (count_in (made_for m.profile m.first specs)) Pool, replicate-append-replicate (count_in (made_for m.profile m.first specs)) (pool_size m.profile spec.format) Pool, replicate-append-replicate {A = Option FenceNo} (count_in (made_for m.profile m.first specs)) (pool_size m.profile spec.format) None) refl
+    rw (count, more, length-replicate (count_in (made_for m.profile m.first specs)) Pool, replicate-append-replicate (count_in (made_for m.profile m.first specs)) (pool_size m.profile spec.format) Pool, replicate-append-replicate {A = Option FenceNo} (count_in (made_for m.profile m.first specs)) (pool_size m.profile spec.format) None, replicate-append-replicate {A = Option (List ℕ)} (count_in (made_for m.profile m.first specs)) (pool_size m.profile spec.format) None) refl

@@ -13,14 +13,14 @@ use Rattle.trace_model.specs.Reply.{made_for}
 use Rattle.buffer_facts.specs.Homes.{configured, noted, put, sent_with}
 use Rattle.buffer_manager.specs.Managed.{Managed, homes_with, moved, reopened, sent_away, with_late, with_picture}
 
-pub moved-is : (signalled : List Bool) (b : ℕ) (p : Place) (f d : Option FenceNo) (m : Managed) → homes_with signalled (moved b p f d m) ≡ put b p f d (homes_with signalled m)
-moved-is signalled b p f d m = refl
+pub moved-is : (signalled : List Bool) (b : ℕ) (p : Place) (f d : Option FenceNo) (picture : Option (List ℕ)) (m : Managed) → homes_with signalled (moved b p f d picture m) ≡ put b p f d (homes_with signalled m)
+moved-is signalled b p f d picture m = refl
 
-pub early-is : (signalled : List Bool) (n : FrameNo) (s : StreamIx) (b : BufferId) (d : FenceNo) (m : Managed) → homes_with signalled (with_late (moved b.0 Client None (Some d) m)) ≡ noted (Early n s b d) (homes_with signalled m)
+pub early-is : (signalled : List Bool) (n : FrameNo) (s : StreamIx) (b : BufferId) (d : FenceNo) (m : Managed) → homes_with signalled (with_late (moved b.0 Client None (Some d) None m)) ≡ noted (Early n s b d) (homes_with signalled m)
 early-is signalled n s b d m = refl
 
-pub late-is : (signalled : List Bool) (d : FenceNo) (digest : List ℕ) (m : Managed) → homes_with signalled (with_picture d.0 m) ≡ noted (Late d digest) (homes_with signalled m)
-late-is signalled d digest m = refl
+pub late-is : (signalled : List Bool) (d : FenceNo) (b : ℕ) (picture digest : List ℕ) (m : Managed) → homes_with signalled (with_picture d.0 b picture m) ≡ noted (Late d digest) (homes_with signalled m)
+late-is signalled d b picture digest m = refl
 
 pub sent-is : (signalled : List Bool) (targets : List Sent) (m : Managed) → homes_with signalled (sent_away targets m) ≡ sent_with targets (homes_with signalled m)
 sent-is signalled targets m = refl

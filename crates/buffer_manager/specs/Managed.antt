@@ -1,4 +1,4 @@
-use Rattle.std.specs.Prelude.{◌≡◌, ℕ, ◌+◌, ◌-◌, ◌&&◌, ◌||◌, not, count_by, Bool, true, false, List, [], ◌∷◌, ◌++◌, Option, Some, None, filter, length, nat_lt, replicate, slice_get, slice_set}
+use Rattle.std.specs.Prelude.{◌≡◌, ℕ, ◌+◌, ◌-◌, ◌&&◌, ◌||◌, not, count_by, Bool, true, false, List, [], ◌∷◌, ◌++◌, Option, Some, None, filter, length, nat_le, nat_lt, replicate, slice_get, slice_index_or, slice_set, if◌then◌else◌}
 use Rattle.std.specs.List.{range_with_len}
 use Rattle.cam_types.specs.Limits.{raw_limit, stream_limit, yuv_limit}
 use Rattle.cam_types.specs.Profile.{pool_size}
@@ -19,14 +19,16 @@ use Rattle.buffer_facts.specs.Homes.{Homes, count_in, held_in, late_in, place_in
 -- process_capture_result: a buffer that was sent is the device's until it comes back).
 
 -- the buffers made for each stream, the number of the first, and for each buffer its place, the fence with which it
--- came home and the device fence with which it went to the client early; which device fences are signalled; the
--- streams; for how many device fences there is room; and the device's profile
+-- came home, the device fence with which it went to the client early and the bytes that it shows there, once its picture
+-- is there; which device fences are signalled; the streams; for how many device fences there is room; and the device's
+-- profile
 pub record Managed : Type 0 where
   pub made : List Made
   pub first : ℕ
   pub places : List Place
   pub fences : List (Option FenceNo)
   pub held : List (Option FenceNo)
+  pub pictures : List (Option (List ℕ))
   pub late : List Bool
   pub specs : List StreamSpec
   pub room : ℕ
@@ -51,6 +53,7 @@ no_buffers profile room = record {
   places = [];
   fences = [];
   held = [];
+  pictures = [];
   late = [];
   specs = [];
   room = room;
@@ -66,22 +69,28 @@ abbrev pub IsBufferAt : Option StreamSpec → Shown → Type 0
 IsBufferAt (Some spec) pixels = IsBufferFor spec pixels.id pixels
 IsBufferAt None pixels = ⊥
 
--- buffer b goes to a place, with a fence and with a device fence (see `put` of buffer_facts)
-abbrev pub moved : ℕ → Place → Option FenceNo → Option FenceNo → Managed → Managed
-moved b place fence device m =
+-- buffer b goes to a place, with a fence and with a device fence (see `put` of buffer_facts), and shows the client these
+-- bytes
+abbrev pub moved : ℕ → Place → Option FenceNo → Option FenceNo → Option (List ℕ) → Managed → Managed
+moved b place fence device picture m =
     record m {
       places = slice_set m.places (b - m.first) place;
       fences = slice_set m.fences (b - m.first) fence;
       held = slice_set m.held (b - m.first) device;
+      pictures = slice_set m.pictures (b - m.first) picture;
     }
 
 -- one more device fence, which isn't signalled
 abbrev pub with_late : Managed → Managed
 with_late m = record m { late = m.late ++ false ∷ [] }
 
--- a device fence is signalled
-abbrev pub with_picture : ℕ → Managed → Managed
-with_picture d m = record m { late = slice_set m.late d true }
+-- a device fence is signalled, and buffer b shows the client these bytes
+abbrev pub with_picture : ℕ → ℕ → List ℕ → Managed → Managed
+with_picture d b picture m =
+    record m {
+      late = slice_set m.late d true;
+      pictures = slice_set m.pictures (b - m.first) (Some picture);
+    }
 
 -- fresh buffers for these streams, each at home with no fence, numbered on from the last
 abbrev pub reopened : List StreamSpec → Managed → Managed
@@ -94,6 +103,7 @@ reopened specs m =
       places = replicate (count_in made) Pool;
       fences = replicate (count_in made) None;
       held = replicate (count_in made) None;
+      pictures = replicate (count_in made) None;
       specs = specs;
     }
 
@@ -112,6 +122,10 @@ abbrev pub IsAwaited : Managed → ℕ → Type 0
 IsAwaited m b =
     let homes = homes_with [] m in (d : FenceNo) × (held_in homes b ≡ Some d) × (late_in homes d.0 ≡ false)
 
+-- the bytes that buffer b shows the client; none where the client hasn't the buffer, or its picture isn't there
+abbrev pub picture_in : Managed → ℕ → Option (List ℕ)
+picture_in m b = if nat_le m.first b then slice_index_or m.pictures (b - m.first) None else None
+
 -- how many of the n buffers from a on are at the device
 abbrev pub away_count : Homes → ℕ → ℕ → ℕ
 away_count homes a n = length (filter (λ b. is_at (place_in homes b) Device) (range_with_len a n))
@@ -123,11 +137,12 @@ sent_away targets m =
       places = put_all m.first Device targets m.places;
       fences = put_all m.first None targets m.fences;
       held = put_all m.first None targets m.held;
+      pictures = put_all m.first None targets m.pictures;
     }
 
 -- the buffer of a target, if there is one, goes to the device
 abbrev pub sent_if : Option Sent → Managed → Managed
-sent_if (Some target) m = moved target.buffer.0 Device None None m
+sent_if (Some target) m = moved target.buffer.0 Device None None None m
 sent_if None m = m
 
 -- where it has a fence, this is one of so many that were made
@@ -143,6 +158,7 @@ cleared m = record m {
   places = [];
   fences = [];
   held = [];
+  pictures = [];
   specs = [];
 }
 
@@ -155,6 +171,7 @@ with_stream spec m =
       places = m.places ++ replicate count Pool;
       fences = m.fences ++ replicate count None;
       held = m.held ++ replicate count None;
+      pictures = m.pictures ++ replicate count None;
       specs = m.specs ++ spec ∷ [];
     }
 
@@ -174,5 +191,6 @@ opened specs m =
       places = replicate (count_in made) Pool;
       fences = replicate (count_in made) None;
       held = replicate (count_in made) None;
+      pictures = replicate (count_in made) None;
       specs = specs;
     }

@@ -74,6 +74,12 @@ pixels_of (Filled pixels) = Some pixels
 pixels_of (Late pixels waiter) = Some pixels
 pixels_of _ = None
 
+-- the bytes that it shows the client
+abbrev pub picture_of : Slot → Option (List ℕ)
+picture_of (Filled pixels) = Some pixels.bytes
+picture_of (Late pixels waiter) = Some pixels.bytes
+picture_of _ = None
+
 -- its device fence is one of so many that were made
 abbrev pub is_made_slot : ℕ → Slot → Bool
 is_made_slot made (Early signaller waiter) = nat_lt signaller made && nat_lt waiter made

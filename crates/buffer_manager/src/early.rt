@@ -18,7 +18,7 @@ impl BufferManager {
         requires device { IsTrue (is_at (place_in (homes_with [] self.old) buffer.0) Device) }
         requires room { length self.old.late < self.old.room }
         ensures fence { result.0 ≡ length self.old.late }
-        ensures moved { self.new ≡ with_late (moved buffer.0 Client None (Some result) self.old) }
+        ensures moved { self.new ≡ with_late (moved buffer.0 Client None (Some result) None self.old) }
     {
         let place = (buffer.0 - self.first) as usize;
         let (signaller, waiter) = self.late.make_in();
@@ -34,7 +34,7 @@ impl BufferManager {
         requires client { IsTrue (is_at (place_in (homes_with [] self.old) pixels.id.0) Client) }
         requires awaited { IsAwaited self.old pixels.id.0 }
         ensures fence { held_in (homes_with [] self.old) pixels.id.0 ≡ Some result }
-        ensures picture { self.new ≡ with_picture result.0 self.old }
+        ensures picture { self.new ≡ with_picture result.0 pixels.id.0 pixels.bytes self.old }
     {
         let place = (pixels.id().0 - self.first) as usize;
         let (signaller, waiter) = take_early(swap_slot(&mut self.slots, place, Slot::Away));

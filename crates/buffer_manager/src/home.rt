@@ -17,7 +17,7 @@ impl BufferManager {
         requires own { IsOf self.old stream.0 pixels.id.0 }
         requires whole { IsBufferAt (slice_get self.old.specs stream.0) pixels }
         requires device { IsTrue (is_at (place_in (homes_with [] self.old) pixels.id.0) Device) }
-        ensures { self.new ≡ moved pixels.id.0 Client None None self.old }
+        ensures { self.new ≡ moved pixels.id.0 Client None None (Some pixels.bytes) self.old }
     {
         let place = (pixels.id().0 - self.first) as usize;
         end_away(swap_slot(&mut self.slots, place, Slot::Filled(pixels)));
@@ -28,7 +28,7 @@ impl BufferManager {
         requires own { IsOf self.old stream.0 parked.pixels.id.0 }
         requires whole { IsBufferAt (slice_get self.old.specs stream.0) parked.pixels }
         requires device { IsTrue (is_at (place_in (homes_with [] self.old) parked.pixels.id.0) Device) }
-        ensures { self.new ≡ moved parked.pixels.id.0 Pool (fence_from parked.waiter) None self.old }
+        ensures { self.new ≡ moved parked.pixels.id.0 Pool (fence_from parked.waiter) None None self.old }
     {
         let place = (parked.pixels.id().0 - self.first) as usize;
         let fence = fence_number(&parked.waiter);

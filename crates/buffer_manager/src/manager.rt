@@ -30,7 +30,7 @@ impl Model for BufferManager {
     ghost use Rattle.std.specs.Prelude.{length, map, vec_capacity};
     ghost use Rattle.buffer_manager.specs.Kept.{AreKept, AreLent, AreTimely, HaveRoom};
     ghost use Rattle.buffer_manager.specs.Managed.{Managed};
-    ghost use Rattle.buffer_manager.specs.Slots.{fence_of, held_of, place_of};
+    ghost use Rattle.buffer_manager.specs.Slots.{fence_of, held_of, picture_of, place_of};
 
     ghost Value = { Managed };
 
@@ -40,6 +40,7 @@ impl Model for BufferManager {
       places = map place_of m.slots.items;
       fences = map fence_of m.slots.items;
       held = map held_of m.slots.items;
+      pictures = map picture_of m.slots.items;
       late = m.late.signalled;
       specs = map (λ s. s.spec) m.streams.items;
       room = m.late.room;

@@ -4,8 +4,8 @@ ghost use Rattle.std.specs.List.{list_all, range_with_len};
 ghost use Rattle.std.specs.Option.{option_map};
 ghost use Rattle.trace_model.specs.Place.{Device, Pool, is_at};
 ghost use Rattle.buffer_facts.specs.Homes.{all_home, at_device_in, place_in};
-ghost use Rattle.buffer_manager.specs.Managed.{away_count, homes_with, may_be_released};
-ghost use Rattle.buffer_manager.specs.Slots.{has_picture, place_of};
+ghost use Rattle.buffer_manager.specs.Managed.{away_count, homes_with, may_be_released, picture_in};
+ghost use Rattle.buffer_manager.specs.Slots.{has_picture, picture_of, place_of};
 
 use crate::manager::BufferManager;
 use crate::slot::Slot;
@@ -94,6 +94,20 @@ impl BufferManager {
             None => false,
         }
     }
+
+    /// What a buffer shows the client: the bytes with which it came. None exactly where the client hasn't the buffer, or
+    /// its picture isn't there.
+    pub fn client_buffer(&self, buffer: BufferId) -> Option<&[u8]>
+        ensures { option_map (λ bytes. bytes.now) result ≡ picture_in self.now buffer.0 }
+    {
+        if buffer.0 < self.first {
+            return None;
+        }
+        match self.slots.get((buffer.0 - self.first) as usize) {
+            Some(slot) => picture_of(slot),
+            None => None,
+        }
+    }
 }
 
 /// The buffers of the stream at a place.
@@ -136,5 +150,16 @@ fn has_picture(slot: &Slot) -> bool
         Slot::Filled(_) => true,
         Slot::Late { .. } => true,
         _ => false,
+    }
+}
+
+/// What the buffer shows the client, where its picture is there.
+fn picture_of(slot: &Slot) -> Option<&[u8]>
+    ensures { option_map (λ bytes. bytes.now) result ≡ picture_of slot.now }
+{
+    match slot {
+        Slot::Filled(pixels) => Some(pixels.bytes()),
+        Slot::Late { pixels, .. } => Some(pixels.bytes()),
+        _ => None,
     }
 }

@@ -18,7 +18,7 @@ impl BufferManager {
     /// Takes a buffer back from the client, with the waiter of the fence that says when the client is done with it.
     pub fn release(&mut self, buffer: BufferId, waiter: Waiter)
         requires may { IsTrue (may_be_released self.old buffer.0) }
-        ensures { self.new ≡ moved buffer.0 Pool (fence_from (Some waiter)) None self.old }
+        ensures { self.new ≡ moved buffer.0 Pool (fence_from (Some waiter)) None None self.old }
     {
         let Some(stream) = stream_of(&self.streams, buffer) else {
             unreachable!();

@@ -96,7 +96,7 @@ impl BufferManager {
     fn take_least(&mut self, stream: u8) -> Option<(Sent, Parked)>
         ensures sent { option_map (λ taken. taken.0) result ≡ least_target_in (homes_with [] self.old) stream }
         ensures parked { IfSome result (λ taken. IsTakenAt self.old.specs (Some taken.0) (Some taken.1)) }
-        ensures moved { IfSome result (λ taken. self.new ≡ moved taken.0.buffer.0 Device None None self.old) }
+        ensures moved { IfSome result (λ taken. self.new ≡ moved taken.0.buffer.0 Device None None None self.old) }
         ensures others { (s : ℕ) → (s ≡ stream → ⊥) →
             least_target_in (homes_with [] self.new) s ≡ least_target_in (homes_with [] self.old) s }
         ensures unchanged { IsNone result → self.new ≡ self.old }

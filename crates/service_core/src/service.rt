@@ -1,18 +1,20 @@
 //! The service: its script, and the history of its moves.
 ghost use Rattle.std.specs.Prelude.{◌≡◌, ◌↔◌, ◌≤◌, IfOk, IsTrue, length, reverse, true};
 ghost use Rattle.std.specs.List.{list_all};
+ghost use Rattle.std.specs.Option.{option_map};
 ghost use Rattle.cam_types.specs.Script.{is_valid};
 ghost use Rattle.run_model.specs.Bounds.{move_bound};
 ghost use Rattle.run_model.specs.History.{trace_of};
 ghost use Rattle.run_model.specs.Played.{pick_at};
 ghost use Rattle.run_model.specs.Run.{IsRun};
 ghost use Rattle.service_core.specs.Answers.{IsNoJobOut, opened, serving};
+ghost use Rattle.service_parts.specs.Pictures.{client_picture};
 ghost use Rattle.service_state.specs.Serving.{IsServing};
 ghost use Rattle.trace_model.specs.Complete.{IsComplete};
 ghost use Rattle.trace_model.specs.Legal.{IsLegal};
 ghost use Rattle.trace_model.specs.Printable.{is_printable};
 
-use cam_types::{NoMemory, Script};
+use cam_types::{BufferId, NoMemory, Script};
 use room_log::RoomLog;
 use script_bounds::move_bound;
 use service_state::ServiceState;
@@ -83,6 +85,15 @@ impl Service {
         ensures valid { IsTrue (is_valid self.now.script) }
     {
         let _ = &self.log;
+    }
+
+    /// What a buffer shows the client: the picture of the frame with which it came back, for its stream. None exactly
+    /// where the client hasn't the buffer, or its picture isn't there yet.
+    pub fn client_buffer(&self, buffer: BufferId) -> Option<&[u8]>
+        ensures picture { option_map (λ bytes. bytes.now) result
+            ≡ client_picture self.now.script (trace_of self.now.history) buffer.0 }
+    {
+        self.state.client_buffer(buffer)
     }
 
     /// How many moves were made.

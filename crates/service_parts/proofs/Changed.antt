@@ -37,6 +37,7 @@ use Rattle.service_parts.specs.Parts.{Parts, kinds, parts}
 use Rattle.service_parts.proofs.Client.{counted}
 use Rattle.service_parts.proofs.Ends.{with_move}
 use Rattle.service_parts.proofs.Accepted.{kinds-noted}
+use Rattle.service_parts.proofs.Shown.{pictures_are}
 
 -- ---- the rows
 
@@ -75,17 +76,17 @@ client-changed script h step e run =
 
 -- ---- all of it
 
-same-parts : (a b : Clients) (c d : Turns) (k l : List Bool) (x y : Homes) (r s : List RowView) (t u : Option Settings) (i j : ℕ) → a ≡ b → c ≡ d → k ≡ l → x ≡ y → r ≡ s → t ≡ u → i ≡ j → ◌≡◌ {A = Parts} (record { client = a; queue = c; kinds = k; buffers = x; rows = r; last = t; clock = i }) (record { client = b; queue = d; kinds = l; buffers = y; rows = s; last = u; clock = j })
-same-parts a b c d k l x y r s t u i j e1 e2 e3 e4 e5 e6 e7 = rw (e1, e2, e3, e4, e5, e6, e7) refl
+same-parts : (a b : Clients) (c d : Turns) (k l : List Bool) (x y : Homes) (v w : List (Option (List ℕ))) (r s : List RowView) (t u : Option Settings) (i j : ℕ) → a ≡ b → c ≡ d → k ≡ l → x ≡ y → v ≡ w → r ≡ s → t ≡ u → i ≡ j → ◌≡◌ {A = Parts} (record { client = a; queue = c; kinds = k; buffers = x; pictures = v; rows = r; last = t; clock = i }) (record { client = b; queue = d; kinds = l; buffers = y; pictures = w; rows = s; last = u; clock = j })
+same-parts a b c d k l x y v w r s t u i j e1 e2 e3 e4 e5 e6 e7 e8 = rw (e1, e2, e3, e4, e5, e6, e7, e8) refl
 
 changed-by : (script : Script) (h : List Move) (step : StepName) (o : Option Entry) → IsRun script (record { step = step; entry = o } ∷ h) → parts script (record { step = step; entry = o } ∷ h) ≡ parts_after script (record { step = step; entry = o }) (parts script h)
 changed-by script h step None run =
-    same-parts _ _ _ _ _ _ _ _ _ _ _ _ _ _ refl refl refl refl (rows-changed script (record { step = step; entry = None }) h run) refl refl
+    same-parts _ _ _ _ _ _ _ _ _ _ _ _ _ _ _ _ refl refl refl refl refl (rows-changed script (record { step = step; entry = None }) h run) refl refl
 changed-by script h step (Some e) run =
     let past = trace_of h in
     let legal = runs_legally script (with_move step e h) run in
     let noted = noted_is script past e legal in
-    same-parts _ _ _ _ _ _ _ _ _ _ _ _ _ _ (client-changed script h step e run) (ap (λ (s : State). s.queue) noted) (kinds-noted script past e legal) (ap (λ (s : State). s.buffers) noted)
+    same-parts _ _ _ _ _ _ _ _ _ _ _ _ _ _ _ _ (client-changed script h step e run) (ap (λ (s : State). s.queue) noted) (kinds-noted script past e legal) (ap (λ (s : State). s.buffers) noted) (pictures_are script h step e run)
     (rows-changed script (record { step = step; entry = Some e }) h run) (ap (λ (s : State). s.last) noted) (ap (λ (s : State). s.clock) noted ∙ clock-same script h e (next_time script past))
 
 pub changed_parts : (script : Script) (m : Move) (h : List Move) → IsRun script (m ∷ h) → parts script (m ∷ h) ≡ parts_after script m (parts script h)

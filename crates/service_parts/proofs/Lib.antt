@@ -8,5 +8,6 @@ pub mod Accepted
 pub mod Shapes
 pub mod Ends
 pub mod Client
+pub mod Shown
 pub mod Changed
 pub mod Complete

@@ -1,3 +1,4 @@
+pub mod Pictures
 pub mod Parts
 pub mod Moves
 pub mod After

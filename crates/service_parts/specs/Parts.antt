@@ -15,17 +15,19 @@ use Rattle.queue_facts.specs.Turns.{Turns, no_turns, turns}
 use Rattle.buffer_facts.specs.Homes.{Homes, homes, no_homes}
 use Rattle.client_facts.specs.Clients.{Clients, clients, no_clients}
 use Rattle.state_facts.specs.States.{State}
+use Rattle.service_parts.specs.Pictures.{pictures}
 
 -- What the parts of a service hold after a history: each is what the definitions say of it.
 
 -- what the client has called; what is to be captured next, and of each accepted request whether its items repeat;
--- where the buffers are; the device's rows, the oldest frame first; the settings that were sent last, and the time of
--- the next shutter
+-- where the buffers are, and the picture that the client has in each; the device's rows, the oldest frame first; the
+-- settings that were sent last, and the time of the next shutter
 pub record Parts : Type 0 where
   pub client : Clients
   pub queue : Turns
   pub kinds : List Bool
   pub buffers : Homes
+  pub pictures : List (Option (List ℕ))
   pub rows : List RowView
   pub last : Option Settings
   pub clock : ℕ
@@ -41,6 +43,7 @@ parts script h = let past = trace_of h in record {
   queue = turns script past;
   kinds = kinds script past;
   buffers = homes past;
+  pictures = pictures script past;
   rows = rows script h;
   last = last_settings script past;
   clock = next_time script past;
@@ -53,6 +56,7 @@ no_parts = record {
   queue = no_turns;
   kinds = [];
   buffers = no_homes;
+  pictures = [];
   rows = [];
   last = None;
   clock = first_shutter;

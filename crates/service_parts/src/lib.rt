@@ -1,15 +1,16 @@
 //! What the parts of a service hold after each history, and how each move carries them on.
 //!
-//! A service keeps the client's calls, the queue, the buffers, the device's rows, the settings that were sent last and
-//! the time of the next shutter. After a history each part is what the definitions say of it (`parts`). Two laws make a
-//! machine of them: which step is ready and which move it makes is read from the parts (`move_by`), and after each move
-//! of a run they are what the move makes of the parts before it (`parts_after`). A third reads from them whether the
-//! run is complete (`is_over`). So a service whose parts these are does what the run allows, and needs nothing of its
-//! past.
+//! A service keeps the client's calls, the queue, the buffers with the client's pictures, the device's rows, the
+//! settings that were sent last and the time of the next shutter. After a history each part is what the definitions say
+//! of it (`parts`). Two laws make a machine of them: which step is ready and which move it makes is read from the parts
+//! (`move_by`), and after each move of a run they are what the move makes of the parts before it (`parts_after`). A
+//! third reads from them whether the run is complete (`is_over`), a fourth the pictures that the client has
+//! (`picture_in`). So a service whose parts these are does what the run allows, and needs nothing of its past.
 #![tactic(auto)]
 
 mod laws;
 
 pub use laws::{
-    each_move_changes_the_parts, each_step_is_read_from_the_parts, the_end_is_read_from_the_parts,
+    each_move_changes_the_parts, each_step_is_read_from_the_parts,
+    the_clients_pictures_are_read_from_the_parts, the_end_is_read_from_the_parts,
 };

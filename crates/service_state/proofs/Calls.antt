@@ -1,5 +1,6 @@
 -- The client's step: what a begin and a call leave.
 use Rattle.std.proofs.Common.{◌≡◌, ◌<◌, ◌≤◌, ◌^◌, ℕ, ◌+◌, Bool, true, false, ◌&&◌, not, List, [], ◌∷◌, Option, Some, None, refl, sym, ap, ◌∙◌, length, if◌then◌else◌, suc, is_some}
+use Rattle.std.specs.Prelude.{replicate}
 use Rattle.std.proofs.lemmas.Bool.{false≢true}
 use Rattle.cam_types.specs.declared.four.Four.{Four}
 use Rattle.cam_types.specs.declared.item.Settings.{Settings}
@@ -20,7 +21,7 @@ use Rattle.run_model.specs.History.{trace_of}
 use Rattle.run_model.specs.Ready.{or_entry}
 use Rattle.queue_facts.specs.Turns.{next_of, turns}
 use Rattle.queue_facts.specs.Turns as queue
-use Rattle.buffer_facts.specs.Homes.{Homes, all_home, configured as configured_with}
+use Rattle.buffer_facts.specs.Homes.{Homes, all_home, configured as configured_with, count_in}
 use Rattle.cam_types.specs.Refusals.{specs_refusal}
 use Rattle.service_state.proofs.Fitting.{few_specs}
 use Rattle.buffer_facts.specs.Homes as buffers
@@ -49,7 +50,7 @@ use Rattle.std.proofs.lemmas.List.FromFn.{length-map-range_with_len}
 use Rattle.service_facts.proofs.AtRest.{configured_home, configured_rest}
 use Rattle.service_facts.proofs.Room.{buffers_fit, requests_fit}
 use Rattle.service_facts.proofs.Taken.{call_taken}
-use Rattle.service_parts.specs.After.{kinds_with, parts_after}
+use Rattle.service_parts.specs.After.{kinds_with, parts_after, pictures_with}
 use Rattle.service_parts.specs.Moves.{move_by}
 use Rattle.service_parts.specs.Parts.{Parts}
 use Rattle.service_state.specs.Answers.{Makes, move_with}
@@ -82,7 +83,7 @@ begins s serving word due =
     let m = move_with Client (Some (Begin word)) in
     let ready = due_ready s (Begin word) due in
     makes s (begin_left s word) m ready
-    (same_parts _ _ refl refl refl refl (sym (whole_left s.script s.parts serving.run m ready refl)) refl refl)
+    (same_parts _ _ refl refl refl refl refl (sym (whole_left s.script s.parts serving.run m ready refl)) refl refl)
 
 -- ---- a call
 
@@ -93,6 +94,7 @@ call_left s i word reply =
       queue = queue.noted s.script (Call i word reply) s.parts.queue;
       kinds = kinds_with s.script (Call i word reply) s.parts.kinds;
       buffers = buffers.noted (Call i word reply) s.parts.buffers;
+      pictures = pictures_with s.parts Client (Call i word reply);
       last = last_after no_settings (Call i word reply) s.parts.last;
     }
 
@@ -107,7 +109,7 @@ calls s serving i word reply due =
     let m = move_with Client (Some (Call i word reply)) in
     let ready = due_ready s (Call i word reply) due in
     makes s (call_left s i word reply) m ready
-    (same_parts _ _ refl refl refl refl (sym (whole_left s.script s.parts serving.run m ready refl)) (any-last no_settings (settings_next (next_of s.parts.queue)) i word reply s.parts.last) refl)
+    (same_parts _ _ refl refl refl refl refl (sym (whole_left s.script s.parts serving.run m ready refl)) (any-last no_settings (settings_next (next_of s.parts.queue)) i word reply s.parts.last) refl)
 
 -- ---- what a call asks of the parts
 
@@ -203,6 +205,12 @@ same_buffers i word (Submitted r) homes not' = refl
 same_buffers i word (Refused code a b) homes not' = refl
 same_buffers i word (Configured each) homes not' = absurd (false≢true (sym not'))
 
+same_pictures : (i : ℕ) (word : Word) (reply : Reply) (p : Parts) → is_configuration reply ≡ false → pictures_with p Client (Call i word reply) ≡ p.pictures
+same_pictures i word Ok p not' = refl
+same_pictures i word (Submitted r) p not' = refl
+same_pictures i word (Refused code a b) p not' = refl
+same_pictures i word (Configured each) p not' = absurd (false≢true (sym not'))
+
 pub same_last : (i : ℕ) (word : Word) (reply : Reply) (last : Option Settings) → is_configuration reply ≡ false → last_after no_settings (Call i word reply) last ≡ last
 same_last i word Ok last not' = refl
 same_last i word (Submitted r) last not' = refl
@@ -251,7 +259,7 @@ plain_calls s serving i word reply other due =
     let m = move_with Client (Some (Call i word reply)) in
     let ready = due_ready s (Call i word reply) due in
     makes s (record s.parts { client = client.noted s.script false false (Call i word reply) s.parts.client; queue = queue.noted s.script (Call i word reply) s.parts.queue; kinds = kinds_with s.script (Call i word reply) s.parts.kinds }) m ready
-    (same_parts _ _ refl refl refl (sym (same_buffers i word reply s.parts.buffers other)) (sym (whole_left s.script s.parts serving.run m ready refl))
+    (same_parts _ _ refl refl refl (sym (same_buffers i word reply s.parts.buffers other)) (sym (same_pictures i word reply s.parts other)) (sym (whole_left s.script s.parts serving.run m ready refl))
     (sym (any-last (settings_next (next_of s.parts.queue)) no_settings i word reply s.parts.last ∙ same_last i word reply s.parts.last other)) refl)
 
 -- an accepted configuration: of a command with these streams, at rest; fresh buffers are what it leaves
@@ -261,8 +269,8 @@ pub record Reconfiguring (s : Serving) (i : ℕ) (word : Word) (reply : Reply) (
   pub home : all_home s.parts.buffers ≡ true
   pub rest : s.parts.rows ≡ []
   pub streams : (client.noted s.script false false (Call i word reply) s.parts.client).streams ≡ specs
-  pub made : (homes : Homes) → homes ≡ configured_with (made_for s.script.profile (s.parts.buffers.first + length s.parts.buffers.places) specs) s.parts.buffers →
-      Makes s (record { script = s.script; parts = record s.parts { client = client.noted s.script false false (Call i word reply) s.parts.client; queue = queue.noted s.script (Call i word reply) s.parts.queue; kinds = kinds_with s.script (Call i word reply) s.parts.kinds; buffers = homes; last = None } }) (move_with Client (Some (Call i word reply)))
+  pub made : (homes : Homes) (pictures : List (Option (List ℕ))) → homes ≡ configured_with (made_for s.script.profile (s.parts.buffers.first + length s.parts.buffers.places) specs) s.parts.buffers → pictures ≡ replicate (count_in (made_for s.script.profile (s.parts.buffers.first + length s.parts.buffers.places) specs)) None →
+      Makes s (record { script = s.script; parts = record s.parts { client = client.noted s.script false false (Call i word reply) s.parts.client; queue = queue.noted s.script (Call i word reply) s.parts.queue; kinds = kinds_with s.script (Call i word reply) s.parts.kinds; buffers = homes; pictures = pictures; last = None } }) (move_with Client (Some (Call i word reply)))
 
 pub reconfiguring : (s : Serving) → IsServing s → (i : ℕ) (word : Word) (reply : Reply) → is_configuration reply ≡ true → due_in s ≡ Some (Call i word reply) → (specs : List StreamSpec) × Reconfiguring s i word reply specs
 reconfiguring s serving i word (Configured each) is due =
@@ -278,8 +286,8 @@ reconfiguring s serving i word (Configured each) is due =
         home = it.1.by.home;
         rest = configures_at_rest s serving i word each due;
         streams = rw it.1.command refl;
-        made = λ homes same. makes s (record s.parts { client = client.noted s.script false false (Call i word (Configured each)) s.parts.client; queue = queue.noted s.script (Call i word (Configured each)) s.parts.queue; kinds = kinds_with s.script (Call i word (Configured each)) s.parts.kinds; buffers = homes; last = None }) m ready
-            (same_parts _ _ refl refl refl (same ∙ ap (λ ms. configured_with ms s.parts.buffers) (sym fresh)) (sym (whole_left s.script s.parts serving.run m ready refl)) refl refl);
+        made = λ homes pictures same shown. makes s (record s.parts { client = client.noted s.script false false (Call i word (Configured each)) s.parts.client; queue = queue.noted s.script (Call i word (Configured each)) s.parts.queue; kinds = kinds_with s.script (Call i word (Configured each)) s.parts.kinds; buffers = homes; pictures = pictures; last = None }) m ready
+            (same_parts _ _ refl refl refl (same ∙ ap (λ ms. configured_with ms s.parts.buffers) (sym fresh)) (shown ∙ ap (λ (ms : List Made). let fresh' : List (Option (List ℕ)) = replicate (count_in ms) None in fresh') (sym fresh)) (sym (whole_left s.script s.parts serving.run m ready refl)) refl refl);
       },
     )
 reconfiguring s serving i word Ok is due = absurd (false≢true is)

@@ -1,5 +1,5 @@
 -- Each step that may end its frame: when it is ready, and what it leaves.
-use Rattle.std.proofs.Common.{◌≡◌, ℕ, Bool, true, false, ◌&&◌, List, Option, Some, None, refl, sym}
+use Rattle.std.proofs.Common.{◌≡◌, ℕ, Bool, true, false, ◌&&◌, List, Option, Some, None, refl, sym, ap, ◌∙◌}
 use Rattle.cam_types.specs.declared.number.FenceNo.{FenceNo}
 use Rattle.cam_types.specs.declared.number.FrameNo.{FrameNo}
 use Rattle.cam_types.specs.declared.number.StreamIx.{StreamIx}
@@ -22,7 +22,7 @@ use Rattle.error_notify.specs.declared.entry.ErrorEntry.TheVariants.{Request, Re
 use Rattle.device_rows.specs.Ready.{is_delivery_ready, is_failed_return_ready, is_finish_ready, is_retire_ready, next_error, next_part}
 use Rattle.device_rows.specs.Rows.{all_stopped, delivered, returned_failed, row_at, target_in, with_part, with_row}
 use Rattle.run_rows.specs.Entries.{error_entry, failed_fence}
-use Rattle.service_parts.specs.After.{parts_after, repeats_in}
+use Rattle.service_parts.specs.After.{parts_after, picture_by, repeats_in, showing, showing_target}
 use Rattle.service_parts.specs.Moves.{digest_by, move_by}
 use Rattle.service_parts.specs.Parts.{Parts}
 use Rattle.service_state.specs.Answers.{Makes, move_with}
@@ -35,17 +35,18 @@ abbrev pub ends_with : Parts → ℕ → (RowView → RowView) → Bool
 ends_with p n f = repeats_in p.kinds (row_at n p.rows) && is_retire_ready (with_row n f p.rows) n
 
 -- the parts after an entry of frame n
-abbrev pub frame_left : Serving → Entry → ℕ → (RowView → RowView) → Homes → Parts
-frame_left s e n f homes =
+abbrev pub frame_left : Serving → Entry → ℕ → (RowView → RowView) → Homes → List (Option (List ℕ)) → Parts
+frame_left s e n f homes pictures =
     record s.parts {
       client = client.noted s.script false (ends_with s.parts n f) e s.parts.client;
       buffers = homes;
+      pictures = pictures;
       rows = left n (with_row n f s.parts.rows);
     }
 
 -- what such a step leaves, and that the client's calls fit
-pub record IsFrameStep (s : Serving) (m : Move) (e : Entry) (n : ℕ) (f : RowView → RowView) (homes : Homes) : Type 0 where
-  pub made : Makes s (record { script = s.script; parts = frame_left s e n f homes }) m
+pub record IsFrameStep (s : Serving) (m : Move) (e : Entry) (n : ℕ) (f : RowView → RowView) (homes : Homes) (pictures : List (Option (List ℕ))) : Type 0 where
+  pub made : Makes s (record { script = s.script; parts = frame_left s e n f homes pictures }) m
   pub fits : Fits (client.noted s.script false (ends_with s.parts n f) e s.parts.client)
 
 -- ---- metadata
@@ -53,14 +54,14 @@ pub record IsFrameStep (s : Serving) (m : Move) (e : Entry) (n : ℕ) (f : RowVi
 part-frame : (p : Parts) (n : FrameNo) (k : ℕ) (part : Part) → IsOfFrame p (move_with (Partial n) (Some (PartialEntry n k part))) (PartialEntry n k part) n (with_part k)
 part-frame p n k part = record { entry = refl; frame = refl; change = refl; keeps = λ row. refl; client = λ script repeats ends t. refl }
 
-pub parted : (s : Serving) → IsServing s → (n : FrameNo) (k : ℕ) (part : Part) → next_part s.script.faults s.parts.rows n.0 ≡ Some (k, part) → IsFrameStep s (move_with (Partial n) (Some (PartialEntry n k part))) (PartialEntry n k part) n.0 (with_part k) s.parts.buffers
+pub parted : (s : Serving) → IsServing s → (n : FrameNo) (k : ℕ) (part : Part) → next_part s.script.faults s.parts.rows n.0 ≡ Some (k, part) → IsFrameStep s (move_with (Partial n) (Some (PartialEntry n k part))) (PartialEntry n k part) n.0 (with_part k) s.parts.buffers s.parts.pictures
 parted s serving n k part at =
     let m = move_with (Partial n) (Some (PartialEntry n k part)) in
     let is = part-frame s.parts n k part in
     let ready : move_by s.script s.parts (Partial n) ≡ Some m = rw at refl in
     record {
-      made = makes s (frame_left s (PartialEntry n k part) n.0 (with_part k) s.parts.buffers) m ready
-          (same_parts _ _ (sym (frame_client s serving m (PartialEntry n k part) n (with_part k) is)) refl refl refl (sym (frame_rows s serving m (PartialEntry n k part) n (with_part k) is)) refl refl);
+      made = makes s (frame_left s (PartialEntry n k part) n.0 (with_part k) s.parts.buffers s.parts.pictures) m ready
+          (same_parts _ _ (sym (frame_client s serving m (PartialEntry n k part) n (with_part k) is)) refl refl refl refl (sym (frame_rows s serving m (PartialEntry n k part) n (with_part k) is)) refl refl);
       fits = frame_fits s serving m (PartialEntry n k part) n (with_part k) is ready;
     }
 
@@ -72,15 +73,15 @@ not_parted s n at = rw at refl
 filled-frame : (p : Parts) (n : FrameNo) (t : StreamIx) (target : TargetView) (digest : List ℕ) → IsOfFrame p (move_with (Deliver n t) (Some (Filled n t target.buffer None digest))) (Filled n t target.buffer None digest) n (delivered t)
 filled-frame p n t target digest = record { entry = refl; frame = refl; change = refl; keeps = λ row. refl; client = λ script repeats ends c. refl }
 
-pub delivers : (s : Serving) → IsServing s → (n : FrameNo) (t : StreamIx) (target : TargetView) (digest : List ℕ) → is_delivery_ready s.script.faults s.parts.rows n.0 t.0 ≡ true → target_in n.0 t.0 s.parts.rows ≡ Some target → digest ≡ digest_by s.parts n.0 t.0 → IsFrameStep s (move_with (Deliver n t) (Some (Filled n t target.buffer None digest))) (Filled n t target.buffer None digest) n.0 (delivered t) (buffers.noted (Filled n t target.buffer None digest) s.parts.buffers)
-delivers s serving n t target digest may at picture =
+pub delivers : (s : Serving) → IsServing s → (n : FrameNo) (t : StreamIx) (target : TargetView) (digest bytes : List ℕ) → is_delivery_ready s.script.faults s.parts.rows n.0 t.0 ≡ true → target_in n.0 t.0 s.parts.rows ≡ Some target → digest ≡ digest_by s.parts n.0 t.0 → bytes ≡ picture_by s.parts n.0 t.0 → IsFrameStep s (move_with (Deliver n t) (Some (Filled n t target.buffer None digest))) (Filled n t target.buffer None digest) n.0 (delivered t) (buffers.noted (Filled n t target.buffer None digest) s.parts.buffers) (showing s.parts target.buffer.0 (Some bytes))
+delivers s serving n t target digest bytes may at picture shown =
     let e = Filled n t target.buffer None digest in
     let m = move_with (Deliver n t) (Some e) in
     let is = filled-frame s.parts n t target digest in
     let ready : move_by s.script s.parts (Deliver n t) ≡ Some m = rw (may, at, picture) refl in
     record {
-      made = makes s (frame_left s e n.0 (delivered t) (buffers.noted e s.parts.buffers)) m ready
-          (same_parts _ _ (sym (frame_client s serving m e n (delivered t) is)) refl refl refl (sym (frame_rows s serving m e n (delivered t) is)) refl refl);
+      made = makes s (frame_left s e n.0 (delivered t) (buffers.noted e s.parts.buffers) (showing s.parts target.buffer.0 (Some bytes))) m ready
+          (same_parts _ _ (sym (frame_client s serving m e n (delivered t) is)) refl refl refl (ap (λ (x : List ℕ). showing s.parts target.buffer.0 (Some x)) shown) (sym (frame_rows s serving m e n (delivered t) is)) refl refl);
       fits = frame_fits s serving m e n (delivered t) is ready;
     }
 
@@ -92,15 +93,15 @@ not_delivered s n t may = rw may refl
 late-frame : (p : Parts) (n : FrameNo) (t : StreamIx) (d : FenceNo) (digest : List ℕ) → IsOfFrame p (move_with (Finish n t) (Some (Late d digest))) (Late d digest) n (delivered t)
 late-frame p n t d digest = record { entry = refl; frame = refl; change = refl; keeps = λ row. refl; client = λ script repeats ends c. refl }
 
-pub finishes : (s : Serving) → IsServing s → (n : FrameNo) (t : StreamIx) (target : TargetView) (d : FenceNo) (digest : List ℕ) → is_finish_ready s.parts.rows n.0 t.0 ≡ true → target_in n.0 t.0 s.parts.rows ≡ Some target → held_in s.parts.buffers target.buffer.0 ≡ Some d → digest ≡ digest_by s.parts n.0 t.0 → IsFrameStep s (move_with (Finish n t) (Some (Late d digest))) (Late d digest) n.0 (delivered t) (buffers.noted (Late d digest) s.parts.buffers)
-finishes s serving n t target d digest may at held picture =
+pub finishes : (s : Serving) → IsServing s → (n : FrameNo) (t : StreamIx) (target : TargetView) (d : FenceNo) (digest bytes : List ℕ) → is_finish_ready s.parts.rows n.0 t.0 ≡ true → target_in n.0 t.0 s.parts.rows ≡ Some target → held_in s.parts.buffers target.buffer.0 ≡ Some d → digest ≡ digest_by s.parts n.0 t.0 → bytes ≡ picture_by s.parts n.0 t.0 → IsFrameStep s (move_with (Finish n t) (Some (Late d digest))) (Late d digest) n.0 (delivered t) (buffers.noted (Late d digest) s.parts.buffers) (showing s.parts target.buffer.0 (Some bytes))
+finishes s serving n t target d digest bytes may at held picture shown =
     let e = Late d digest in
     let m = move_with (Finish n t) (Some e) in
     let is = late-frame s.parts n t d digest in
     let ready : move_by s.script s.parts (Finish n t) ≡ Some m = rw (may, at, held, picture) refl in
     record {
-      made = makes s (frame_left s e n.0 (delivered t) (buffers.noted e s.parts.buffers)) m ready
-          (same_parts _ _ (sym (frame_client s serving m e n (delivered t) is)) refl refl refl (sym (frame_rows s serving m e n (delivered t) is)) refl refl);
+      made = makes s (frame_left s e n.0 (delivered t) (buffers.noted e s.parts.buffers) (showing s.parts target.buffer.0 (Some bytes))) m ready
+          (same_parts _ _ (sym (frame_client s serving m e n (delivered t) is)) refl refl refl (ap (λ (x : List ℕ). showing s.parts target.buffer.0 (Some x)) shown ∙ ap (λ (o : Option TargetView). showing_target s.parts o (picture_by s.parts n.0 t.0)) (sym at)) (sym (frame_rows s serving m e n (delivered t) is)) refl refl);
       fits = frame_fits s serving m e n (delivered t) is ready;
     }
 
@@ -112,15 +113,15 @@ not_finished s n t may = rw may refl
 failed-frame : (p : Parts) (n : FrameNo) (t : StreamIx) (target : TargetView) (f : Option FenceNo) → IsOfFrame p (move_with (ReturnFailed n t) (Some (Failed n t target.buffer f))) (Failed n t target.buffer f) n (returned_failed t)
 failed-frame p n t target f = record { entry = refl; frame = refl; change = refl; keeps = λ row. refl; client = λ script repeats ends c. refl }
 
-pub returns_failed : (s : Serving) → IsServing s → (n : FrameNo) (t : StreamIx) (target : TargetView) (f : Option FenceNo) → is_failed_return_ready s.parts.rows n.0 t.0 ≡ true → target_in n.0 t.0 s.parts.rows ≡ Some target → f ≡ failed_fence (λ k. signalled_in s.parts.buffers k) target → IsFrameStep s (move_with (ReturnFailed n t) (Some (Failed n t target.buffer f))) (Failed n t target.buffer f) n.0 (returned_failed t) (buffers.noted (Failed n t target.buffer f) s.parts.buffers)
+pub returns_failed : (s : Serving) → IsServing s → (n : FrameNo) (t : StreamIx) (target : TargetView) (f : Option FenceNo) → is_failed_return_ready s.parts.rows n.0 t.0 ≡ true → target_in n.0 t.0 s.parts.rows ≡ Some target → f ≡ failed_fence (λ k. signalled_in s.parts.buffers k) target → IsFrameStep s (move_with (ReturnFailed n t) (Some (Failed n t target.buffer f))) (Failed n t target.buffer f) n.0 (returned_failed t) (buffers.noted (Failed n t target.buffer f) s.parts.buffers) (showing s.parts target.buffer.0 None)
 returns_failed s serving n t target f may at fence =
     let e = Failed n t target.buffer f in
     let m = move_with (ReturnFailed n t) (Some e) in
     let is = failed-frame s.parts n t target f in
     let ready : move_by s.script s.parts (ReturnFailed n t) ≡ Some m = rw (may, at, fence) refl in
     record {
-      made = makes s (frame_left s e n.0 (returned_failed t) (buffers.noted e s.parts.buffers)) m ready
-          (same_parts _ _ (sym (frame_client s serving m e n (returned_failed t) is)) refl refl refl (sym (frame_rows s serving m e n (returned_failed t) is)) refl refl);
+      made = makes s (frame_left s e n.0 (returned_failed t) (buffers.noted e s.parts.buffers) (showing s.parts target.buffer.0 None)) m ready
+          (same_parts _ _ (sym (frame_client s serving m e n (returned_failed t) is)) refl refl refl refl (sym (frame_rows s serving m e n (returned_failed t) is)) refl refl);
       fits = frame_fits s serving m e n (returned_failed t) is ready;
     }
 
@@ -155,21 +156,21 @@ same-homes (Result m) homes = refl
 same-homes (Buffer m t) homes = refl
 same-homes Device homes = refl
 
-pub fails : (s : Serving) → IsServing s → (n : FrameNo) (error : ErrorEntry) → next_error s.script.faults s.parts.rows n.0 ≡ Some error → IsErrorOf n error → IsFrameStep s (move_with (Fail n) (Some (error_entry error))) (error_entry error) n.0 (error_change error) s.parts.buffers
+pub fails : (s : Serving) → IsServing s → (n : FrameNo) (error : ErrorEntry) → next_error s.script.faults s.parts.rows n.0 ≡ Some error → IsErrorOf n error → IsFrameStep s (move_with (Fail n) (Some (error_entry error))) (error_entry error) n.0 (error_change error) s.parts.buffers s.parts.pictures
 fails s serving n error at of =
     let e = error_entry error in
     let m = move_with (Fail n) (Some e) in
     let is = error-frame s.parts n error of in
     let ready : move_by s.script s.parts (Fail n) ≡ Some m = rw at refl in
     record {
-      made = makes s (frame_left s e n.0 (error_change error) s.parts.buffers) m ready (by error of ready is);
+      made = makes s (frame_left s e n.0 (error_change error) s.parts.buffers s.parts.pictures) m ready (by error of ready is);
       fits = frame_fits s serving m e n (error_change error) is ready;
     }
   where
-    by : (x : ErrorEntry) → IsErrorOf n x → move_by s.script s.parts (Fail n) ≡ Some (move_with (Fail n) (Some (error_entry x))) → IsOfFrame s.parts (move_with (Fail n) (Some (error_entry x))) (error_entry x) n (error_change x) → frame_left s (error_entry x) n.0 (error_change x) s.parts.buffers ≡ parts_after s.script (move_with (Fail n) (Some (error_entry x))) s.parts
-    by (Request k) o ready is = same_parts _ _ (sym (frame_client s serving (move_with (Fail n) (Some (ErrorRequest k))) (ErrorRequest k) n (marked RequestError) is)) refl refl refl (sym (frame_rows s serving (move_with (Fail n) (Some (ErrorRequest k))) (ErrorRequest k) n (marked RequestError) is)) refl refl
-    by (Result k) o ready is = same_parts _ _ (sym (frame_client s serving (move_with (Fail n) (Some (ErrorResult k))) (ErrorResult k) n (marked ResultError) is)) refl refl refl (sym (frame_rows s serving (move_with (Fail n) (Some (ErrorResult k))) (ErrorResult k) n (marked ResultError) is)) refl refl
-    by (Buffer k t) o ready is = same_parts _ _ (sym (frame_client s serving (move_with (Fail n) (Some (ErrorBuffer k t))) (ErrorBuffer k t) n (marked (Announced t)) is)) refl refl refl (sym (frame_rows s serving (move_with (Fail n) (Some (ErrorBuffer k t))) (ErrorBuffer k t) n (marked (Announced t)) is)) refl refl
+    by : (x : ErrorEntry) → IsErrorOf n x → move_by s.script s.parts (Fail n) ≡ Some (move_with (Fail n) (Some (error_entry x))) → IsOfFrame s.parts (move_with (Fail n) (Some (error_entry x))) (error_entry x) n (error_change x) → frame_left s (error_entry x) n.0 (error_change x) s.parts.buffers s.parts.pictures ≡ parts_after s.script (move_with (Fail n) (Some (error_entry x))) s.parts
+    by (Request k) o ready is = same_parts _ _ (sym (frame_client s serving (move_with (Fail n) (Some (ErrorRequest k))) (ErrorRequest k) n (marked RequestError) is)) refl refl refl refl (sym (frame_rows s serving (move_with (Fail n) (Some (ErrorRequest k))) (ErrorRequest k) n (marked RequestError) is)) refl refl
+    by (Result k) o ready is = same_parts _ _ (sym (frame_client s serving (move_with (Fail n) (Some (ErrorResult k))) (ErrorResult k) n (marked ResultError) is)) refl refl refl refl (sym (frame_rows s serving (move_with (Fail n) (Some (ErrorResult k))) (ErrorResult k) n (marked ResultError) is)) refl refl
+    by (Buffer k t) o ready is = same_parts _ _ (sym (frame_client s serving (move_with (Fail n) (Some (ErrorBuffer k t))) (ErrorBuffer k t) n (marked (Announced t)) is)) refl refl refl refl (sym (frame_rows s serving (move_with (Fail n) (Some (ErrorBuffer k t))) (ErrorBuffer k t) n (marked (Announced t)) is)) refl refl
     by Device o ready is = absurd o
 
 pub device_fails : (s : Serving) → IsServing s → (n : FrameNo) → next_error s.script.faults s.parts.rows n.0 ≡ Some Device → Makes s (record { script = s.script; parts = record s.parts { client = client.noted s.script false false ErrorDevice s.parts.client; rows = all_stopped s.parts.rows } }) (move_with (Fail n) (Some ErrorDevice))
@@ -177,7 +178,7 @@ device_fails s serving n at =
     let m = move_with (Fail n) (Some ErrorDevice) in
     let ready : move_by s.script s.parts (Fail n) ≡ Some m = rw at refl in
     makes s (record s.parts { client = client.noted s.script false false ErrorDevice s.parts.client; rows = all_stopped s.parts.rows }) m ready
-    (same_parts _ _ refl refl refl refl (sym (whole_left s.script s.parts serving.run m ready refl)) refl refl)
+    (same_parts _ _ refl refl refl refl refl (sym (whole_left s.script s.parts serving.run m ready refl)) refl refl)
 
 pub device_fits : (s : Serving) → IsServing s → (n : FrameNo) → next_error s.script.faults s.parts.rows n.0 ≡ Some Device → Fits (client.noted s.script false false ErrorDevice s.parts.client)
 device_fits s serving n at =

@@ -30,9 +30,9 @@ use Rattle.service_state.proofs.Fitting.{fits_left}
 use Rattle.service_state.proofs.Runs.{next_left, rows_open, rows_rise}
 
 -- parts with equal fields are equal
-pub same_parts : (x y : Parts) → x.client ≡ y.client → x.queue ≡ y.queue → x.kinds ≡ y.kinds → x.buffers ≡ y.buffers → x.rows ≡ y.rows → x.last ≡ y.last → x.clock ≡ y.clock → x ≡ y
-same_parts x y a b c d e f g =
-    let k : record { client = x.client; queue = x.queue; kinds = x.kinds; buffers = x.buffers; rows = x.rows; last = x.last; clock = x.clock } ≡ record { client = y.client; queue = y.queue; kinds = y.kinds; buffers = y.buffers; rows = y.rows; last = y.last; clock = y.clock } = rw (a, b, c, d, e, f, g) refl in k
+pub same_parts : (x y : Parts) → x.client ≡ y.client → x.queue ≡ y.queue → x.kinds ≡ y.kinds → x.buffers ≡ y.buffers → x.pictures ≡ y.pictures → x.rows ≡ y.rows → x.last ≡ y.last → x.clock ≡ y.clock → x ≡ y
+same_parts x y a b c d h e f g =
+    let k : record { client = x.client; queue = x.queue; kinds = x.kinds; buffers = x.buffers; pictures = x.pictures; rows = x.rows; last = x.last; clock = x.clock } ≡ record { client = y.client; queue = y.queue; kinds = y.kinds; buffers = y.buffers; pictures = y.pictures; rows = y.rows; last = y.last; clock = y.clock } = rw (a, b, c, d, h, e, f, g) refl in k
 
 -- a move that was ready, with what it left
 pub makes : (s : Serving) (p : Parts) (m : Move) → move_by s.script s.parts m.step ≡ Some m → p ≡ parts_after s.script m s.parts → Makes s (record { script = s.script; parts = p }) m

@@ -1,7 +1,7 @@
 -- A send: when it is ready, what it leaves, and what the device asks of its row.
 use Rattle.std.proofs.Common.{◌≡◌, ◌<◌, ◌^◌, ℕ, ◌+◌, true, false, List, [], ◌∷◌, ◌++◌, Option, Some, None, refl, sym, ap, ◌∙◌, inl, inr, length}
 use Rattle.std.proofs.lemmas.Bool.{cases_Bool}
-use Rattle.cam_types.specs.Four.{four_of}
+use Rattle.cam_types.specs.Four.{four_list, four_of}
 use Rattle.cam_types.specs.declared.four.Four.{Four}
 use Rattle.cam_types.specs.declared.number.FrameNo.{FrameNo}
 use Rattle.cam_types.specs.declared.request.Queued.{Queued}
@@ -29,7 +29,7 @@ use Rattle.std.proofs.lemmas.Bool.{false≢true}
 use Rattle.cam_types.specs.declared.request.WaitingItem.{WaitingItem}
 use Rattle.cam_types.specs.declared.stream.StreamSpec.{StreamSpec}
 use Rattle.buffer_pool.specs.declared.parked.Parked.{Parked}
-use Rattle.buffer_facts.specs.Homes.{least_in}
+use Rattle.buffer_facts.specs.Homes.{least_in, put_all}
 use Rattle.buffer_manager.specs.Taking.{AreTaken, IsTakenAt, IsTakenFor, least_targets_in, target_with_fence}
 use Rattle.device_store.specs.Stored.{AreParked, IsParkedAt, IsParkedIn}
 use Rattle.trace_model.specs.Send.{with_target}
@@ -57,6 +57,7 @@ send_left s next targets =
       client = client.noted s.script next.repeating false (send_entry s.parts next targets) s.parts.client;
       queue = queue.noted s.script (send_entry s.parts next targets) s.parts.queue;
       buffers = buffers.noted (send_entry s.parts next targets) s.parts.buffers;
+      pictures = put_all s.parts.buffers.first None (four_list targets) s.parts.pictures;
       rows = s.parts.rows ++ fresh_row next.item.settings (record { 0 = s.parts.queue.numbers }) next.request targets ∷ [];
       last = Some next.item.settings;
     }
@@ -68,7 +69,7 @@ pub sends : (s : Serving) → IsServing s → (next : Queued) (targets : Four Se
 sends s serving next targets at ready =
     let m = move_with Send (Some (send_entry s.parts next targets)) in
     makes s (send_left s next targets) m ready
-    (same_parts _ _ (rw at refl) refl refl refl (by (next_of s.parts.queue) at ∙ sym (whole_left s.script s.parts serving.run m ready refl)) (rw at refl) refl)
+    (same_parts _ _ (rw at refl) refl refl refl refl (by (next_of s.parts.queue) at ∙ sym (whole_left s.script s.parts serving.run m ready refl)) (rw at refl) refl)
   where
     by : (o : Option Queued) → o ≡ Some next → s.parts.rows ++ fresh_row next.item.settings (record { 0 = s.parts.queue.numbers }) next.request targets ∷ [] ≡ s.parts.rows ++ fresh_row (settings_next o) (record { 0 = s.parts.queue.numbers }) next.request targets ∷ []
     by o e = rw e refl

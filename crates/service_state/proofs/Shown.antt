@@ -5,7 +5,7 @@ use Rattle.std.specs.Option.{option_map}
 use Rattle.std.proofs.lemmas.Bool.{and_from, and_parts}
 use Rattle.std.proofs.lemmas.Bool.Decides.{nat_tests}
 use Rattle.cam_types.specs.Shown.{Shown}
-use Rattle.cam_types.specs.Picture.{is_offered}
+use Rattle.cam_types.specs.Picture.{is_offered, picture as picture_for}
 use Rattle.device_store.proofs.Outs.{picture-buffer}
 use Rattle.cam_types.specs.Four.{four_list}
 use Rattle.cam_types.specs.declared.number.FenceNo.{FenceNo}
@@ -25,6 +25,7 @@ use Rattle.device_store.specs.Steps.{IsBackAt, IsBackRow, IsBackTarget, ShowsAt,
 use Rattle.run_rows.specs.Entries.{failed_fence}
 use Rattle.run_rows.specs.Kept.{has_given_fences}
 use Rattle.service_parts.specs.Moves.{settings_at}
+use Rattle.service_parts.specs.Pictures.{picture_on}
 
 all-at : (specs : List StreamSpec) (s : ℕ) (spec : StreamSpec) → list_all is_offered specs ≡ true → slice_get specs s ≡ Some spec → is_offered spec ≡ true
 all-at [] s spec all at = absurd (cc)
@@ -42,6 +43,7 @@ pub record IsShownFor (specs : List StreamSpec) (n s : ℕ) (rows : List RowView
   pub stream : slice_get specs s ≡ Some spec
   pub whole : IsBufferFor spec target.buffer pixels
   pub picture : bytes ≡ digest_on (slice_get specs s) (settings_at (row_at n rows)) n
+  pub shown : pixels.bytes ≡ picture_on (slice_get specs s) (settings_at (row_at n rows)) n
 
 pub found-frame : (n : ℕ) (rows : List RowView) (row : RowView) → row_at n rows ≡ Some row → row.frame.0 ≡ n
 found-frame n [] row at = absurd (cc)
@@ -63,6 +65,7 @@ shown_for specs offered n s rows pixels bytes shows = by-row (row_at n rows) ref
       stream = is;
       whole = picture-buffer spec row.settings row.frame.0 target.buffer pixels bytes (all-at specs s spec offered is) shown;
       picture = rw (is, at) (by-frame row.frame.0 (found-frame n rows row at) shown.digested);
+      shown = rw (is, at) (shown.bytes ∙ ap (λ (m : ℕ). picture_for spec row.settings m) (found-frame n rows row at));
     }
       where
         by-frame : (m : ℕ) → m ≡ n → bytes ≡ digest spec row.settings m → bytes ≡ digest spec row.settings n

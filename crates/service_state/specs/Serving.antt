@@ -57,6 +57,7 @@ parts_of client captures buffers fences device last clock = record {
   queue = captures.turns;
   kinds = captures.kinds;
   buffers = homes_with fences.signalled buffers;
+  pictures = buffers.pictures;
   rows = device.rows;
   last = last;
   clock = clock;

@@ -1,10 +1,11 @@
 //! What is read of the parts: the open frames, the buffers of the configuration, and the fences that aren't signalled.
 ghost use Rattle.std.specs.Prelude.{◌≡◌, length, slice_get};
 ghost use Rattle.std.specs.Option.{option_map};
+ghost use Rattle.service_parts.specs.After.{picture_in};
 ghost use Rattle.service_state.specs.Serving.{unsignalled};
 
 use crate::state::ServiceState;
-use cam_types::{FenceNo, RowView};
+use cam_types::{BufferId, FenceNo, RowView};
 
 impl ServiceState {
     /// How many frames are open.
@@ -33,6 +34,13 @@ impl ServiceState {
         ensures { result ≡ length self.now.parts.buffers.places }
     {
         self.buffers.buffer_count()
+    }
+
+    /// What a buffer shows the client. None exactly where the client hasn't the buffer, or its picture isn't there.
+    pub fn client_buffer(&self, buffer: BufferId) -> Option<&[u8]>
+        ensures { option_map (λ bytes. bytes.now) result ≡ picture_in self.now.parts buffer.0 }
+    {
+        self.buffers.client_buffer(buffer)
     }
 
     /// How many fences were released and aren't signalled.

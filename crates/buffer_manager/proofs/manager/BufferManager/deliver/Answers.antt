@@ -3,7 +3,7 @@ use Rattle.std.specs.Prelude.{slice_set}
 use Rattle.std.proofs.lemmas.List.{length-set, map-set}
 use Rattle.trace_model.specs.Place.{Pool, is_at}
 use Rattle.buffer_manager.specs.declared.slot.Slot.TheVariants.{Filled}
-use Rattle.buffer_manager.specs.Slots.{fence_of, held_of, place_of}
+use Rattle.buffer_manager.specs.Slots.{fence_of, held_of, picture_of, place_of}
 use Rattle.buffer_manager.proofs.Moves.{kept-same, owner, stocked-away, whole-at}
 use Rattle.buffer_manager.proofs.Spots.{away-at, timely-plain}
 use Rattle.buffer_manager.proofs.manager.BufferManager.deliver.Goals as goal
@@ -31,4 +31,4 @@ returns c =
     let m = c.self.inside in
     let b = c.args.pixels.id.0 in
     let items : c.swap_slot.new.slots.items ≡ slice_set m.slots.items (b - m.first) (Filled c.args.pixels) = rw c.id.ensures at c.swap_slot.ensures.new in
-    rw (← c.self.view_is, items, map-set place_of m.slots.items (b - m.first) (Filled c.args.pixels), map-set fence_of m.slots.items (b - m.first) (Filled c.args.pixels), map-set held_of m.slots.items (b - m.first) (Filled c.args.pixels)) refl
+    rw (← c.self.view_is, items, map-set place_of m.slots.items (b - m.first) (Filled c.args.pixels), map-set fence_of m.slots.items (b - m.first) (Filled c.args.pixels), map-set held_of m.slots.items (b - m.first) (Filled c.args.pixels), map-set picture_of m.slots.items (b - m.first) (Filled c.args.pixels)) refl

@@ -4,7 +4,7 @@ use Rattle.std.proofs.lemmas.List.{length-set, map-set}
 use Rattle.trace_model.specs.Place.{Pool, is_at}
 use Rattle.buffer_manager.specs.declared.slot.Slot.{Slot}
 use Rattle.buffer_manager.specs.declared.slot.Slot.TheVariants.{Early}
-use Rattle.buffer_manager.specs.Slots.{fence_of, held_of, place_of}
+use Rattle.buffer_manager.specs.Slots.{fence_of, held_of, picture_of, place_of}
 use Rattle.buffer_manager.proofs.Moves.{kept-same, owner, stocked-away}
 use Rattle.buffer_manager.proofs.Pictures.{timely-early}
 use Rattle.buffer_manager.proofs.Spots.{away-at}
@@ -33,4 +33,4 @@ returns-clause-moved c =
     let b = c.args.buffer.0 in
     let v : Slot = Early (length m.late.signalled) (length m.late.signalled) in
     let items : c.swap_slot.new.slots.items ≡ slice_set m.slots.items (b - m.first) (Early (length m.late.signalled) (length m.late.signalled)) = rw (c.make_in-signaller.ensures.signaller, c.make_in-signaller.ensures.waiter) at c.swap_slot.ensures.new in
-    rw (← c.self.view_is, items, c.make_in-signaller.ensures.made, c.number.ensures, c.make_in-signaller.ensures.waiter, map-set place_of m.slots.items (b - m.first) (Early (length m.late.signalled) (length m.late.signalled)), map-set fence_of m.slots.items (b - m.first) (Early (length m.late.signalled) (length m.late.signalled)), map-set held_of m.slots.items (b - m.first) (Early (length m.late.signalled) (length m.late.signalled))) refl
+    rw (← c.self.view_is, items, c.make_in-signaller.ensures.made, c.number.ensures, c.make_in-signaller.ensures.waiter, map-set place_of m.slots.items (b - m.first) (Early (length m.late.signalled) (length m.late.signalled)), map-set fence_of m.slots.items (b - m.first) (Early (length m.late.signalled) (length m.late.signalled)), map-set held_of m.slots.items (b - m.first) (Early (length m.late.signalled) (length m.late.signalled)), map-set picture_of m.slots.items (b - m.first) (Early (length m.late.signalled) (length m.late.signalled))) refl

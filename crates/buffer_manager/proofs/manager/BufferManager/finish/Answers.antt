@@ -1,10 +1,10 @@
 use Rattle.std.proofs.Common.{◌≡◌, ◌-◌, ℕ, Some, true, refl, sym, ap, subst, ◌∙◌, Option}
 use Rattle.std.specs.Prelude.{is_some, slice_get, slice_set}
-use Rattle.std.proofs.lemmas.List.{length-set, set-set}
+use Rattle.std.proofs.lemmas.List.{length-set, map-set, set-set}
 use Rattle.trace_model.specs.Place.{Pool, is_at}
 use Rattle.buffer_manager.specs.declared.slot.Slot.{Slot}
 use Rattle.buffer_manager.specs.declared.slot.Slot.TheVariants.{Away, Early, Late}
-use Rattle.buffer_manager.specs.Slots.{awaited_of, fence_of, held_of, place_of}
+use Rattle.buffer_manager.specs.Slots.{awaited_of, fence_of, held_of, picture_of, place_of}
 use Rattle.buffer_manager.proofs.Lists.{get-here, map-set-same}
 use Rattle.buffer_manager.proofs.Moves.{kept-same, owner, stocked-away, whole-at}
 use Rattle.buffer_manager.proofs.Pictures.{early-at, timely-late}
@@ -85,4 +85,4 @@ returns-clause-picture c =
     let late : c.signal.new.self ≡ with_signal early.device.0 m.late = rw signaller at c.signal.ensures.signalled in
     let number = c.signal.ensures.number ∙ signaller in
     let old : slice_get m.slots.items (b - m.first) ≡ Some (Early early.device.0 early.device.0) = rw c.id.ensures at c.swap_slot.ensures.old ∙ ap Some early.got in
-    rw (← c.self.view_is, is, late, number, map-set-same place_of m.slots.items (b - m.first) (Early early.device.0 early.device.0) (Late c.args.pixels early.device.0) old refl, map-set-same fence_of m.slots.items (b - m.first) (Early early.device.0 early.device.0) (Late c.args.pixels early.device.0) old refl, map-set-same held_of m.slots.items (b - m.first) (Early early.device.0 early.device.0) (Late c.args.pixels early.device.0) old refl) refl
+    rw (← c.self.view_is, is, late, number, map-set-same place_of m.slots.items (b - m.first) (Early early.device.0 early.device.0) (Late c.args.pixels early.device.0) old refl, map-set-same fence_of m.slots.items (b - m.first) (Early early.device.0 early.device.0) (Late c.args.pixels early.device.0) old refl, map-set-same held_of m.slots.items (b - m.first) (Early early.device.0 early.device.0) (Late c.args.pixels early.device.0) old refl, map-set picture_of m.slots.items (b - m.first) (Late c.args.pixels early.device.0)) refl

@@ -6,7 +6,7 @@ use Rattle.buffer_manager.specs.declared.slot.Slot.{Slot}
 use Rattle.buffer_manager.specs.declared.slot.Slot.TheVariants.{Home}
 use Rattle.buffer_manager.specs.declared.stream.Stream.{Stream}
 use Rattle.buffer_manager.specs.Managed.{fence_from}
-use Rattle.buffer_manager.specs.Slots.{fence_of, held_of, place_of}
+use Rattle.buffer_manager.specs.Slots.{fence_of, held_of, picture_of, place_of}
 use Rattle.buffer_manager.specs.Streams.{with_given}
 use Rattle.buffer_manager.proofs.Lists.{map-set-same}
 use Rattle.buffer_manager.proofs.Moves.{kept-moved, lent-set, owner, whole-at}
@@ -50,4 +50,4 @@ returns c =
     let items : c.swap_slot.new.slots.items ≡ slice_set m.slots.items (b - m.first) (Home (fence_from c.args.parked.waiter)) = rw (c.id.ensures, c.fence_number-fence.ensures) at c.swap_slot.ensures.new in
     let given = rw found.at at c.give_to.ensures.given in
     let t = with_given c.args.parked found.stream in
-    rw (← c.self.view_is, given, items, map-set-same (λ (s : Stream). s.made) m.streams.items c.args.stream.0 found.stream (with_given c.args.parked found.stream) found.at refl, map-set-same (λ (s : Stream). s.spec) m.streams.items c.args.stream.0 found.stream (with_given c.args.parked found.stream) found.at refl, map-set place_of m.slots.items (b - m.first) (Home (fence_from c.args.parked.waiter)), map-set fence_of m.slots.items (b - m.first) (Home (fence_from c.args.parked.waiter)), map-set held_of m.slots.items (b - m.first) (Home (fence_from c.args.parked.waiter))) refl
+    rw (← c.self.view_is, given, items, map-set-same (λ (s : Stream). s.made) m.streams.items c.args.stream.0 found.stream (with_given c.args.parked found.stream) found.at refl, map-set-same (λ (s : Stream). s.spec) m.streams.items c.args.stream.0 found.stream (with_given c.args.parked found.stream) found.at refl, map-set place_of m.slots.items (b - m.first) (Home (fence_from c.args.parked.waiter)), map-set fence_of m.slots.items (b - m.first) (Home (fence_from c.args.parked.waiter)), map-set held_of m.slots.items (b - m.first) (Home (fence_from c.args.parked.waiter)), map-set picture_of m.slots.items (b - m.first) (Home (fence_from c.args.parked.waiter))) refl

@@ -1,10 +1,10 @@
-use Rattle.std.proofs.Common.{◌≡◌, ◌+◌, ◌<◌, ◌++◌, [], List, Option, None, refl, ap, ◌∙◌, arith, length, map}
+use Rattle.std.proofs.Common.{◌≡◌, ◌+◌, ◌<◌, ◌++◌, [], ℕ, List, Option, None, refl, ap, ◌∙◌, arith, length, map}
 use Rattle.std.proofs.lemmas.List.{length-append, length-map, length-replicate, map-append, map_push}
 use Rattle.cam_types.specs.declared.number.FenceNo.{FenceNo}
 use Rattle.trace_model.specs.Place.{Place}
 use Rattle.buffer_manager.specs.declared.slot.Slot.TheVariants.{Home}
 use Rattle.buffer_manager.specs.declared.stream.Stream.{Stream}
-use Rattle.buffer_manager.specs.Slots.{fence_of, held_of, place_of}
+use Rattle.buffer_manager.specs.Slots.{fence_of, held_of, picture_of, place_of}
 use Rattle.buffer_manager.proofs.Opens.{fresh, kept-more, lent-more, map-replicate, room-parts, size-few, timely-grown, total-few}
 use Rattle.buffer_manager.proofs.manager.BufferManager.open_stream.Goals as goal
 
@@ -60,4 +60,5 @@ returns c =
     let places = map-append place_of m.slots.items (fresh c.pool_size-count.result) ∙ ap (λ (x : List Place). map place_of m.slots.items ++ x) (map-replicate place_of c.pool_size-count.result (Home None)) in
     let fences = map-append fence_of m.slots.items (fresh c.pool_size-count.result) ∙ ap (λ (x : List (Option FenceNo)). map fence_of m.slots.items ++ x) (map-replicate fence_of c.pool_size-count.result (Home None)) in
     let held = map-append held_of m.slots.items (fresh c.pool_size-count.result) ∙ ap (λ (x : List (Option FenceNo)). map held_of m.slots.items ++ x) (map-replicate held_of c.pool_size-count.result (Home None)) in
-    rw (c.push_reserved.ensures.items, c.add_homes.ensures.slots, made, specs, places, fences, held, c.next_buffer.ensures, c.pool_size-count.ensures, ← c.self.view_is) refl
+    let pictures = map-append picture_of m.slots.items (fresh c.pool_size-count.result) ∙ ap (λ (x : List (Option (List ℕ))). map picture_of m.slots.items ++ x) (map-replicate picture_of c.pool_size-count.result (Home None)) in
+    rw (c.push_reserved.ensures.items, c.add_homes.ensures.slots, made, specs, places, fences, held, pictures, c.next_buffer.ensures, c.pool_size-count.ensures, ← c.self.view_is) refl

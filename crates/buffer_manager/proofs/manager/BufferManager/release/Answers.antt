@@ -8,7 +8,7 @@ use Rattle.buffer_manager.specs.declared.slot.Slot.{Slot}
 use Rattle.buffer_manager.specs.declared.slot.Slot.TheVariants.{Away, Home}
 use Rattle.buffer_manager.specs.declared.stream.Stream.{Stream}
 use Rattle.buffer_manager.specs.Managed.{homes_with}
-use Rattle.buffer_manager.specs.Slots.{fence_of, has_picture, held_of, is_sound, is_timely, place_of}
+use Rattle.buffer_manager.specs.Slots.{fence_of, has_picture, held_of, is_sound, is_timely, picture_of, place_of}
 use Rattle.buffer_manager.specs.Streams.{with_given}
 use Rattle.buffer_manager.proofs.Lists.{map-set-same}
 use Rattle.buffer_manager.proofs.Owners.{returned, stream-found, stream-there}
@@ -95,4 +95,4 @@ returns c =
     let given = rw found.at at c.give_to.ensures.given in
     let made = map-set-same (λ (s : Stream). s.made) m.streams.items c.in-Some.stream found.stream (with_given (record { pixels = c.take_pixels.result; waiter = Some c.args.waiter }) found.stream) found.at refl in
     let specs = map-set-same (λ (s : Stream). s.spec) m.streams.items c.in-Some.stream found.stream (with_given (record { pixels = c.take_pixels.result; waiter = Some c.args.waiter }) found.stream) found.at refl in
-    rw (← c.self.view_is, given, items, c.take_pixels.ensures.late, made, specs, map-set place_of m.slots.items (b - m.first) (Home (Some (record { 0 = c.args.waiter }))), map-set fence_of m.slots.items (b - m.first) (Home (Some (record { 0 = c.args.waiter }))), map-set held_of m.slots.items (b - m.first) (Home (Some (record { 0 = c.args.waiter })))) refl
+    rw (← c.self.view_is, given, items, c.take_pixels.ensures.late, made, specs, map-set place_of m.slots.items (b - m.first) (Home (Some (record { 0 = c.args.waiter }))), map-set fence_of m.slots.items (b - m.first) (Home (Some (record { 0 = c.args.waiter }))), map-set held_of m.slots.items (b - m.first) (Home (Some (record { 0 = c.args.waiter }))), map-set picture_of m.slots.items (b - m.first) (Home (Some (record { 0 = c.args.waiter })))) refl

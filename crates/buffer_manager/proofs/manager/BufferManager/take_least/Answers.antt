@@ -10,7 +10,7 @@ use Rattle.buffer_manager.specs.declared.slot.Slot.{Slot}
 use Rattle.buffer_manager.specs.declared.slot.Slot.TheVariants.{Away}
 use Rattle.buffer_manager.specs.declared.stream.Stream.{Stream}
 use Rattle.buffer_manager.specs.Managed.{fence_from, homes_with}
-use Rattle.buffer_manager.specs.Slots.{fence_of, held_of, place_of}
+use Rattle.buffer_manager.specs.Slots.{fence_of, held_of, picture_of, place_of}
 use Rattle.buffer_manager.specs.Streams.{with_home}
 use Rattle.buffer_manager.proofs.Lists.{map-set-same, mapped-get}
 use Rattle.buffer_manager.proofs.Takes.{IsSeen, least-is, moved-away, none-for, others-stay, own-first, sent_for, taken-some, taken-with, target_for}
@@ -93,7 +93,7 @@ returns-clause-moved c =
     let items : c.swap_slot.new.slots.items ≡ slice_set m.slots.items (number c.in-Some.parked - m.first) Away = rw c.id-buffer.ensures at c.swap_slot.ensures.new in
     let made = map-set-same (λ (s : Stream). s.made) m.streams.items c.args.stream taken.stream (with_home taken.rest taken.stream) taken.at refl in
     let specs = map-set-same (λ (s : Stream). s.spec) m.streams.items c.args.stream taken.stream (with_home taken.rest taken.stream) taken.at refl in
-    rw (c.id-buffer.ensures, ← c.self.view_is, taken.left, items, made, specs, map-set place_of m.slots.items (number c.in-Some.parked - m.first) Away, map-set fence_of m.slots.items (number c.in-Some.parked - m.first) Away, map-set held_of m.slots.items (number c.in-Some.parked - m.first) Away) refl
+    rw (c.id-buffer.ensures, ← c.self.view_is, taken.left, items, made, specs, map-set place_of m.slots.items (number c.in-Some.parked - m.first) Away, map-set fence_of m.slots.items (number c.in-Some.parked - m.first) Away, map-set held_of m.slots.items (number c.in-Some.parked - m.first) Away, map-set picture_of m.slots.items (number c.in-Some.parked - m.first) Away) refl
 
 pub returns-clause-others : goal.returns-clause-others
 returns-clause-others c =

@@ -48,7 +48,7 @@ note_end-requires c =
     let picture : ShowsAt i.client.streams c.args.frame.0 c.args.stream.0 i.device.rows c.in_ok-pixels.pixels c.in_ok-pixels.digest = subst (λ x. ShowsAt x c.args.frame.0 c.args.stream.0 i.device.rows c.in_ok-pixels.pixels c.in_ok-pixels.digest) c.self.invariant.plan told.picture in
     let it = shown_for i.client.streams (offered_left i.script s.parts serving.run) c.args.frame.0 c.args.stream.0 i.device.rows c.in_ok-pixels.pixels c.in_ok-pixels.digest picture in
     let ready : is_delivery_ready i.script.faults i.device.rows c.args.frame.0 c.args.stream.0 ≡ true = rw (sym c.self.invariant.faults) (told.ready.0 refl) in
-    rw (c.repeats-repeats.ensures, told.rows) (delivers s serving c.args.frame c.args.stream it.target c.in_ok-pixels.digest ready it.found it.picture).fits
+    rw (c.repeats-repeats.ensures, told.rows) (delivers s serving c.args.frame c.args.stream it.target c.in_ok-pixels.digest c.in_ok-pixels.pixels.bytes ready it.found it.picture it.shown).fits
 
 pub returns : goal.returns
 returns c =
@@ -60,4 +60,4 @@ returns c =
     let it = shown_for i.client.streams (offered_left i.script s.parts serving.run) c.args.frame.0 c.args.stream.0 i.device.rows c.in_ok-pixels.pixels c.in_ok-pixels.digest picture in
     let ready : is_delivery_ready i.script.faults i.device.rows c.args.frame.0 c.args.stream.0 ≡ true = rw (sym c.self.invariant.faults) (told.ready.0 refl) in
     makes_as s c.args.self.now _ _ c.self.view_is c.requires (λ serving'.
-    rw (c.note_end.ensures.client, c.note_end.ensures.device, c.deliver-2.ensures, c.repeats-repeats.ensures, told.rows, c.id-buffer.ensures, it.whole.id) (delivers s serving c.args.frame c.args.stream it.target c.in_ok-pixels.digest ready it.found it.picture).made)
+    rw (c.note_end.ensures.client, c.note_end.ensures.device, c.deliver-2.ensures, c.repeats-repeats.ensures, told.rows, c.id-buffer.ensures, it.whole.id) (delivers s serving c.args.frame c.args.stream it.target c.in_ok-pixels.digest c.in_ok-pixels.pixels.bytes ready it.found it.picture it.shown).made)

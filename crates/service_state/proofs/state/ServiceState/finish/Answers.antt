@@ -60,7 +60,7 @@ note_end-requires c =
     let picture : ShowsAt i.client.streams c.args.frame.0 c.args.stream.0 i.device.rows c.in_ok-pixels.pixels c.in_ok-pixels.digest = subst (λ x. ShowsAt x c.args.frame.0 c.args.stream.0 i.device.rows c.in_ok-pixels.pixels c.in_ok-pixels.digest) c.self.invariant.plan told.picture in
     let it = shown_for i.client.streams (offered_left i.script s.parts serving.run) c.args.frame.0 c.args.stream.0 i.device.rows c.in_ok-pixels.pixels c.in_ok-pixels.digest picture in
     let held : held_in s.parts.buffers it.target.buffer.0 ≡ Some c.finish-fence.result = rw (sym it.whole.id) c.finish-fence.ensures.fence in
-    rw (c.repeats-repeats.ensures, told.rows) (finishes s serving c.args.frame c.args.stream it.target c.finish-fence.result c.in_ok-pixels.digest (told.ready.0 refl) it.found held it.picture).fits
+    rw (c.repeats-repeats.ensures, told.rows) (finishes s serving c.args.frame c.args.stream it.target c.finish-fence.result c.in_ok-pixels.digest c.in_ok-pixels.pixels.bytes (told.ready.0 refl) it.found held it.picture it.shown).fits
 
 pub returns : goal.returns
 returns c =
@@ -72,4 +72,4 @@ returns c =
     let it = shown_for i.client.streams (offered_left i.script s.parts serving.run) c.args.frame.0 c.args.stream.0 i.device.rows c.in_ok-pixels.pixels c.in_ok-pixels.digest picture in
     let held : held_in s.parts.buffers it.target.buffer.0 ≡ Some c.finish-fence.result = rw (sym it.whole.id) c.finish-fence.ensures.fence in
     makes_as s c.args.self.now _ _ c.self.view_is c.requires (λ serving'.
-    rw (c.note_end.ensures.client, c.note_end.ensures.device, c.finish-fence.ensures.picture, c.repeats-repeats.ensures, told.rows) (finishes s serving c.args.frame c.args.stream it.target c.finish-fence.result c.in_ok-pixels.digest (told.ready.0 refl) it.found held it.picture).made)
+    rw (c.note_end.ensures.client, c.note_end.ensures.device, c.finish-fence.ensures.picture, c.repeats-repeats.ensures, told.rows, it.whole.id) (finishes s serving c.args.frame c.args.stream it.target c.finish-fence.result c.in_ok-pixels.digest c.in_ok-pixels.pixels.bytes (told.ready.0 refl) it.found held it.picture it.shown).made)

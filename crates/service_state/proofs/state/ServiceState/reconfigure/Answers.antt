@@ -106,4 +106,4 @@ returns-clause-made c =
     let told = c.configure.ensures in
     let specs : streams_of (Rattle.trace_model.specs.Calls.command_at i.script c.args.index) ≡ it.0 = ap streams_of it.1.command in
     makes_as s c.args.self.now _ _ c.self.view_is c.requires.serving (λ serving'.
-    rw (c.note.ensures, c.take_call.ensures.turns, c.take_call.ensures.kinds, told.device, told.fences, told.buffers, specs) (it.1.made _ (rw v.profile refl)))
+    rw (c.note.ensures, c.take_call.ensures.turns, c.take_call.ensures.kinds, told.device, told.fences, told.buffers, specs) (it.1.made _ _ (rw v.profile refl) (rw v.profile refl)))
