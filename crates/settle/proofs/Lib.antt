@@ -1,4 +1,5 @@
 pub mod OneRun
+pub mod Empty
 pub mod Making
 pub mod Choosing
 pub mod Settling

@@ -1,11 +1,21 @@
-//! Laws on played runs: functions that do nothing, and whose contracts hold of every script and every history.
-ghost use Rattle.std.specs.Prelude.{◌≡◌, List, Some, length, IsTrue};
+//! Laws on played runs and on the jobs that are out: functions that do nothing, and whose contracts hold of every script
+//! and every history.
+ghost use Rattle.std.specs.Prelude.{◌≡◌, List, [], Some, length, IsTrue};
 ghost use Rattle.cam_types.specs.declared.script.Script.{Script as SomeScript};
+ghost use Rattle.job_moves.specs.Outs.{AreOut};
 ghost use Rattle.run_model.specs.declared.step.Move.{Move as SomeMove};
 ghost use Rattle.run_model.specs.Played.{IsPlayedRun, chosen, pick_at};
 ghost use Rattle.run_model.specs.Ready.{is_ready};
+ghost use Rattle.service_core.specs.Answers.{IsNoJobOut};
 
 use run_model::StepName;
+
+/// Where no job is out, empty hands have just the jobs that are out: what `play`, `settle`, `finish` and `close` ask of
+/// a service and of `Hands::new()`.
+#[tactic(auto, using(crate::proofs::Empty::empty_hold))]
+pub fn empty_hands_have_all_jobs_where_none_is_out()
+    ensures { (script : SomeScript) (h : List SomeMove) → IsNoJobOut h → AreOut script h [] }
+{}
 
 /// A script has one played run.
 #[tactic(auto, using(crate::proofs::OneRun::one_played_run))]

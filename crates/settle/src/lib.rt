@@ -12,6 +12,8 @@ mod runs;
 mod stepping;
 mod steps;
 
-pub use laws::{sends_go_first, the_picks_make_one_run};
+pub use laws::{
+    empty_hands_have_all_jobs_where_none_is_out, sends_go_first, the_picks_make_one_run,
+};
 pub use runs::{close, finish, play, settle};
 pub use stepping::{Stepped, pick_step, step_at};
