@@ -1,34 +1,26 @@
 -- What was seen begins what is left at the end.
-use Rattle.std.proofs.Common.{◌≡◌, ℕ, List, [], ◌++◌, Option, reverse, sym, ap, ◌∙◌, subst, IsPermutation}
+use Rattle.std.proofs.Common.{◌≡◌, ℕ, List, ◌++◌, Option, reverse, sym, ap, ◌∙◌, subst}
 use Rattle.std.proofs.lemmas.List.{reverse-append, reverse-reverse}
 use mathlib.Core.List.{IsPrefix}
-use Rattle.cam_types.specs.declared.job.JobView.{JobView}
 use Rattle.cam_types.specs.declared.profile.Profile.{Profile}
 use Rattle.cam_types.specs.declared.script.Script.{Script}
 use Rattle.io_edge.specs.States.{SinkState}
 use Rattle.call_status.specs.Answers.{Answers}
-use Rattle.job_moves.specs.Outs.{AreOut}
 use Rattle.room_log.specs.State.{State}
 use Rattle.run_laws.specs.Lawful.{KeepsLaws}
 use Rattle.run_model.specs.History.{trace_of}
 use Rattle.run_model.specs.Run.{IsRun}
 use Rattle.run_model.specs.declared.step.Move.{Move}
 use Rattle.settle.specs.Stepping.{IsSettledBy}
-use Rattle.shared_camera.specs.JobsOut.{jobs_out}
 use Rattle.trace_model.specs.Complete.{IsComplete}
 use Rattle.trace_model.specs.declared.entry.Entry.{Entry}
 use Rattle.trace_text.specs.Spelling.{spelling}
 use Rattle.turn_lock.proofs.Beginnings.{begins_through}
-use Rattle.turn_lock.proofs.ForCallers.{idle}
 use Rattle.run_calls.specs.Finished.{FinishesAs}
 
 -- moves that are made later stand behind
 pub later : (moves h : List Move) → IsPrefix (reverse h) (reverse (moves ++ h))
 later moves h = (reverse moves, sym (reverse-append moves h))
-
--- no job is out where the list of those that are out is empty
-pub none-out : (script : Script) (h : List Move) (jobs : List JobView) → IsPermutation (jobs_out script h) jobs → jobs ≡ [] → AreOut script h (jobs_out script h) → AreOut script h []
-none-out script h jobs p none out = subst (λ (js : List JobView). AreOut script h js) (idle jobs (jobs_out script h) p none) out
 
 -- what was settled is a whole run, which begins with the moves before
 pub settled-ends : (named : Option Profile) (old new : State) (count status : ℕ) (before after : SinkState) → IsSettledBy old new count → IsRun new.script new.history → ((past : List Entry) → IsComplete old.script past → KeepsLaws old.script past) → Answers 0 (spelling named (reverse (trace_of new.history))) status before after

@@ -6,7 +6,6 @@ ghost use Rattle.turn_lock.specs.Seats.{fixed_of, view};
 ghost use Rattle.shared_camera.specs.Cameras.{script_of};
 ghost use Rattle.run_calls.specs.Finished.{FinishesAs};
 
-use crate::laws::no_job_is_out_of_an_idle_root;
 use call_status::Status;
 use camera_workers::{Gate, run_workers};
 use digest_memory::DigestMemory;
@@ -16,7 +15,7 @@ use run_laws::a_complete_run_keeps_the_laws;
 use run_output::write_trace;
 use service_core::Service;
 use settle::{close, settle};
-use shared_camera::{CamSeat, Shared};
+use shared_camera::{CamSeat, Shared, no_job_is_out_of_an_idle_root};
 use std::sync::Wait;
 use std::thread::Threads;
 use std::time::Clock;

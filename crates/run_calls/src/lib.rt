@@ -6,10 +6,8 @@
 #![tactic(auto)]
 
 mod finish;
-mod laws;
 mod runner;
 
 pub use camera_workers::{Gate, OpenGate};
 pub use finish::{finish_run, scrap_shared};
-pub use laws::no_job_is_out_of_an_idle_root;
 pub use runner::{PreparedRun, prepare_run, run_call, run_prepared};

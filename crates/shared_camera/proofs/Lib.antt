@@ -4,3 +4,4 @@ pub mod Firsts
 pub mod Making
 pub mod Turning
 pub mod LentSeats
+pub mod Idle

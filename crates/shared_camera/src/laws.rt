@@ -1,5 +1,5 @@
-//! A law on the jobs that are out: a function that does nothing, and whose contract holds of every run.
-ghost use Rattle.std.specs.Prelude.{List};
+//! Laws on the jobs that are out: functions that do nothing, and whose contracts hold of every run.
+ghost use Rattle.std.specs.Prelude.{List, [], IsPermutation};
 ghost use Rattle.cam_types.specs.declared.script.Script.{Script as SomeScript};
 ghost use Rattle.job_moves.specs.Outs.{AreOut};
 ghost use Rattle.run_model.specs.Run.{IsRun};
@@ -11,3 +11,12 @@ ghost use Rattle.shared_camera.specs.JobsOut.{jobs_out};
 pub fn the_jobs_that_are_out()
     ensures { (script : SomeScript) (h : List SomeMove) → IsRun script h → AreOut script h (jobs_out script h) }
 {}
+
+/// Where a root has no job as its camera is closed, no job of the service is out: what `settle`, `play` and `close` of
+/// `settle` ask of a service with empty hands. A root that `run_workers` of `camera_workers` leaves has none.
+pub fn no_job_is_out_of_an_idle_root()
+    ensures { (script : SomeScript) (h : List SomeMove) → IsRun script h → IsPermutation (jobs_out script h) []
+        → AreOut script h [] }
+{
+    the_jobs_that_are_out();
+}

@@ -14,6 +14,6 @@ mod shared;
 mod turns;
 
 pub use camera::{CamSeat, Camera};
-pub use laws::the_jobs_that_are_out;
+pub use laws::{no_job_is_out_of_an_idle_root, the_jobs_that_are_out};
 pub use service_core::{Shuttered, Step as Turned};
 pub use shared::Shared;
