@@ -5,5 +5,5 @@ mod line;
 mod run;
 mod script;
 
-pub use line::{AutoLine, LineList};
+pub use line::{AutoLine, LineList, LinePrinter};
 pub use run::{Drawn, draw_up};

@@ -3,7 +3,7 @@ use Rattle.std.specs.Prelude.{◌≡◌, ℕ, Bool, true, false, List, ◌++◌}
 use Rattle.io_edge.specs.States.{SinkState}
 use Rattle.call_status.specs.Answers.{Broken}
 use Rattle.room_log.specs.State.{State}
-use Rattle.trace_writer.specs.Pieces.{Gathers}
+use Rattle.line_output.specs.Pieces.{Gathers}
 use Rattle.candidates_call.specs.Listing.{told}
 use Rattle.candidates_call.specs.declared.teller.Teller.{Teller}
 

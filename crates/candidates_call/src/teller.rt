@@ -8,8 +8,8 @@ use call_status::Status;
 use cam_types::NoMemory;
 use io_edge::Sink;
 use itoa::Buffer;
+use line_output::Pieces;
 use std::alloc::Global;
-use trace_writer::Pieces;
 
 /// What is gathered of a piece, and whether the sink has failed. No call but `new` takes memory.
 #[derive(Drop)]

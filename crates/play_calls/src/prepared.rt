@@ -9,7 +9,7 @@ ghost use Rattle.run_output.specs.Texts.{named_profile, text_in};
 use call_status::Status;
 use cam_types::{NoMemory, Script};
 use digest_memory::DigestMemory;
-use io_edge::{Sink, write_all};
+use io_edge::Sink;
 use job_hands::Hands;
 use job_moves::no_job_is_out_at_first;
 use run_output::{Output, named_profile, write_run};
@@ -110,7 +110,7 @@ fn write_behind<K: Sink>(
     ensures { Answers 0 (front.now ++ text_in output service.now.script service.now.history) result.number
         (K.state sink.old) (K.state sink.new) }
 {
-    match write_all(sink, front) {
+    match writer.write_front(front, sink) {
         Ok(()) => write_run(writer, service, output, sink),
         Err(_) => Status::SINK_FAILED,
     }

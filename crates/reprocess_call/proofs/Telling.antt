@@ -4,13 +4,12 @@ use Rattle.std.proofs.lemmas.Bool.Decides.{nat_tests}
 use Rattle.io_edge.specs.States.{SinkState}
 use Rattle.line_reading.specs.declared.cause.Cause.{Cause}
 use Rattle.line_reading.specs.declared.cause.Cause.TheVariants.{Limit}
-use Rattle.reprocess_model.specs.declared.entry.ReEntry.{ReEntry}
 use Rattle.reprocess_model.specs.declared.plan.Plan.{Plan}
 use Rattle.reprocess_text.specs.Grammar.{plan_of}
 use Rattle.line_reading.specs.declared.cause.TextRefused.TheVariants.{Bad, NoMemory}
 use Rattle.reprocess_output.specs.Lines.{refused_text, run_text}
-use Rattle.call_status.specs.Answers.{Answers, AnswersWithMemory, Tells, TellsBy}
-use Rattle.reprocess_call.specs.Reprocess.{IsWholeRun, Reprocesses, TellsOfPlan}
+use Rattle.call_status.specs.Answers.{AnswersWithMemory, Tells, TellsBy}
+use Rattle.reprocess_call.specs.Reprocess.{PlaysPlan, Reprocesses, TellsOfPlan}
 use Rattle.std.specs.Prelude.{reverse}
 use Rattle.call_status.proofs.Sinks.{AreAnswers}
 use Rattle.line_reading.specs.declared.cause.TextRefused.{TextRefused}
@@ -29,9 +28,9 @@ long_refused None status before after l h = tt
 long_refused (Some input) status before after l h = rw (too-long input l) (inr (refused 0 Limit status before after h))
 
 -- a played run is told
-pub played : (plan : Plan) (past : List ReEntry) (text : List ℕ) (status : ℕ) (before after : SinkState) → IsWholeRun plan past → text ≡ run_text (reverse past) → Answers 0 text status before after → TellsBy (TellsOfPlan (Ok plan)) status before after
-played plan past text status before after run is h =
-    inr (0, text, (refl, record { past = past; run = run; shown = is }), h)
+pub played : (plan : Plan) (status : ℕ) (before after : SinkState) → PlaysPlan plan status before after → TellsBy (TellsOfPlan (Ok plan)) status before after
+played plan status before after h =
+    inr (0, run_text (reverse h.past), (refl, record { past = h.past; run = h.run; shown = refl }), h.answers)
 
 -- ---- a status that belongs to an input
 

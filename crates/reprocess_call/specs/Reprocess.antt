@@ -1,6 +1,7 @@
 -- What `reprocess` answers and writes. (docs/FORMATS.md, reprocessing)
 use Rattle.std.specs.Prelude.{◌≡◌, ℕ, List, Result, Ok, Err, reverse}
 use Rattle.io_edge.specs.States.{SinkState, Writes}
+use Rattle.call_status.specs.Answers.{Answers}
 use Rattle.reprocess_model.specs.Run.{IsPlayedRun, IsRun}
 use Rattle.reprocess_model.specs.declared.entry.ReEntry.{ReEntry}
 use Rattle.reprocess_model.specs.declared.plan.Plan.{Plan}
@@ -19,6 +20,12 @@ pub record IsRunText (plan : Plan) (told : List ℕ) : Type 0 where
   pub past : List ReEntry
   pub run : IsWholeRun plan past
   pub shown : told ≡ run_text (reverse past)
+
+-- the whole text of the plan's run is written, or the status is 4 and the sink failed: nothing else is answered
+pub record PlaysPlan (plan : Plan) (status : ℕ) (before after : SinkState) : Type 0 where
+  pub past : List ReEntry
+  pub run : IsWholeRun plan past
+  pub answers : Answers 0 (run_text (reverse past)) status before after
 
 -- the status and the whole text that belong to what an input means
 abbrev pub TellsOfPlan : Result Plan TextRefused → ℕ → List ℕ → Type 0

@@ -7,17 +7,16 @@ ghost use Rattle.reprocess_model.specs.Plan.{is_plan};
 ghost use Rattle.reprocess_output.specs.Lines.{refused_text};
 ghost use Rattle.reprocess_call.specs.Reprocess.{IsReprocessed, Reprocesses, TellsOfPlan};
 
-use crate::player::play;
+use crate::prepared::{play_prepared, prepare};
 use call_status::{Status, answer};
 use io_edge::{ReadBytes, ReadFault, Sink, Source, read_all};
 use line_reading::{Cause, TextRefused};
-use reprocess_core::Reprocess;
 use reprocess_model::{PLAN_BYTES, Plan};
-use reprocess_output::{refused_text, run_text};
+use reprocess_output::refused_text;
 use reprocess_text::read;
 use std::alloc::Global;
 
-/// Reads a plan, plays it by its picks, and writes its run. All memory is taken before the first write.
+/// Reads a plan, plays it by its picks, and writes its run. All memory is taken before the first step.
 pub fn reprocess_call<S: Source, K: Sink>(alloc: Global, source: &mut S, sink: &mut K) -> Status
     // At status 0 the source was read to its end, its bytes are a plan's text, and what was written is the complete run
     // that the plan's picks choose, and nothing else.
@@ -53,20 +52,13 @@ fn play_text<K: Sink>(alloc: Global, input: &[u8], sink: &mut K) -> Status
     }
 }
 
-/// Plays a plan, and writes its run.
+/// Plays a plan, and writes its run. All memory is taken before the first step.
 fn play_plan<K: Sink>(alloc: Global, plan: Plan, sink: &mut K) -> Status
     requires { IsTrue (is_plan plan) }
     ensures { TellsBy (TellsOfPlan (Result.Ok plan)) result.number (K.state sink.old) (K.state sink.new) }
 {
-    let Ok(opened) = Reprocess::open(alloc, plan) else {
-        return Status::NO_MEMORY;
-    };
-    let mut device = opened;
-    play(&mut device);
-    let text = run_text(alloc, device.lines());
-    device.scrap();
-    match text {
-        Ok(text) => answer(sink, text.as_slice(), Status::DONE),
+    match prepare(alloc, plan) {
+        Ok(prepared) => play_prepared(prepared, sink),
         Err(_) => Status::NO_MEMORY,
     }
 }

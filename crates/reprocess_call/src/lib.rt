@@ -3,5 +3,7 @@
 
 mod call;
 mod player;
+mod prepared;
 
 pub use call::reprocess_call;
+pub use prepared::{Prepared, play_prepared, prepare};

@@ -26,6 +26,10 @@ buffer_text b = 98 ∷ decimal b
 abbrev pub out_text : ReOut → List ℕ
 out_text out = decimal out.stream.0 ++ 58 ∷ buffer_text out.buffer.0
 
+-- `N S bB`, a frame, a stream and a buffer
+abbrev pub place_text : ℕ → ℕ → ℕ → List ℕ
+place_text n s b = decimal n ++ 32 ∷ (decimal s ++ 32 ∷ buffer_text b)
+
 -- the words of a line
 abbrev pub line_words : ReEntry → List (List ℕ)
 line_words (Called index) = codes "call" ∷ decimal index ∷ codes "request" ∷ codes "=" ∷ codes "ok" ∷ []

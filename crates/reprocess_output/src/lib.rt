@@ -5,5 +5,6 @@ mod line;
 mod refusal;
 mod run;
 
+pub use line::LinePrinter;
 pub use refusal::refused_text;
-pub use run::run_text;
+pub use run::RunWriter;

@@ -1,136 +1,191 @@
 //! How each line of a run is written.
-ghost use Rattle.std.specs.Prelude.{◌≡◌, ◌++◌, OnOk, map, option_to_list, string_bytes};
+ghost use Rattle.std.specs.Prelude.{◌≡◌, ◌≤◌, ◌+◌, ◌++◌, length, map, option_to_list};
 ghost use Rattle.cam_types.specs.Four.{four_list};
-ghost use Rattle.reprocess_output.specs.Lines.{behind_spaces, line_of, out_text};
+ghost use Rattle.text_parts.specs.Lines.{line_text};
+ghost use Rattle.reprocess_output.specs.Lines.{behind_spaces, line_of, line_words, out_text, place_text};
 
 use cam_types::{BufferId, Four, FrameNo, NoMemory, StreamIx};
+use line_output::{ROOM, Room};
 use reprocess_model::{InputId, ReEntry, ReOut};
 use std::alloc::Global;
 
+/// Writes the lines of runs. Its room, of 4,096 bytes, is taken when it is made, and no line takes memory.
+#[derive(Drop)]
+pub struct LinePrinter {
+    room: Room,
+}
+
+impl LinePrinter {
+    /// A printer with its room.
+    pub fn new(alloc: Global) -> Result<LinePrinter, NoMemory> {
+        let room = Room::new(alloc)?;
+        Ok(LinePrinter { room })
+    }
+
+    /// The line, with its end, as `docs/FORMATS.md` has it. It takes no memory.
+    pub fn line(&mut self, line: ReEntry) -> &[u8]
+        ensures { result.now ≡ line_of line }
+    {
+        self.room.clear();
+        put_line(&mut self.room, line);
+        self.room.bytes()
+    }
+}
+
 /// Writes an output with its buffer, behind a space, if there is one.
-fn write_out(out: &mut String, given: Option<ReOut>) -> Result<(), NoMemory>
-    ensures { OnOk result
-        (string_bytes out.new ≡ string_bytes out.old ++ behind_spaces (map out_text (option_to_list given))) }
+fn put_out(room: &mut Room, given: Option<ReOut>)
+    requires { length room.old + 40 ≤ ROOM }
+    ensures text { room.new ≡ room.old ++ behind_spaces (map out_text (option_to_list given)) }
+    ensures len { length room.new ≤ length room.old + 40 }
 {
-    match given {
-        Some(given) => {
-            let stream = given.stream.0;
-            let buffer = given.buffer.0;
-            write!(out, " {stream}:b{buffer}")
-        }
-        None => Ok(()),
+    if let Some(given) = given {
+        room.put(b" ");
+        room.put_small(u32::from(given.stream.0));
+        room.put(b":b");
+        room.put_small(given.buffer.0);
     }
 }
 
 /// Writes outputs with their buffers.
-fn write_outs(out: &mut String, given: Four<ReOut>) -> Result<(), NoMemory>
-    ensures { OnOk result
-        (string_bytes out.new ≡ string_bytes out.old ++ behind_spaces (map out_text (four_list given))) }
+fn put_outs(room: &mut Room, given: Four<ReOut>)
+    requires { length room.old + 160 ≤ ROOM }
+    ensures text { room.new ≡ room.old ++ behind_spaces (map out_text (four_list given)) }
+    ensures len { length room.new ≤ length room.old + 160 }
 {
-    write_out(out, given.a)?;
-    write_out(out, given.b)?;
-    write_out(out, given.c)?;
-    write_out(out, given.d)
+    put_out(room, given.a);
+    put_out(room, given.b);
+    put_out(room, given.c);
+    put_out(room, given.d);
+}
+
+/// Writes the line of a call that was accepted.
+fn put_called(room: &mut Room, index: u32)
+    requires { length room.old + 50 ≤ ROOM }
+    ensures { room.new ≡ room.old ++ line_text (line_words (ReEntry.Called index)) }
+{
+    room.put(b"call ");
+    room.put_small(index);
+    room.put(b" request = ok\n");
+}
+
+/// Writes the line of a flush that returned.
+fn put_flushed(room: &mut Room, index: u32)
+    requires { length room.old + 50 ≤ ROOM }
+    ensures { room.new ≡ room.old ++ line_text (line_words (ReEntry.Flushed index)) }
+{
+    room.put(b"call ");
+    room.put_small(index);
+    room.put(b" flush = ok\n");
 }
 
 /// Writes the line of a take.
-#[tactic(auto, unfolding(crate::specs::Lines::line_of))]
-fn write_take(
-    out: &mut String,
-    frame: FrameNo,
-    input: InputId,
-    outputs: Four<ReOut>,
-) -> Result<(), NoMemory>
-    ensures { OnOk result (string_bytes out.new ≡ string_bytes out.old ++ line_of (ReEntry.Take frame input outputs)) }
+fn put_take(room: &mut Room, frame: FrameNo, input: InputId, outputs: Four<ReOut>)
+    requires { length room.old + 250 ≤ ROOM }
+    ensures { room.new ≡ room.old ++ line_text (line_words (ReEntry.Take frame input outputs)) }
 {
-    let number = frame.0;
-    let place = input.0;
-    write!(out, "take {number} i{place}")?;
-    write_outs(out, outputs)?;
-    out.push_str("\n")
+    room.put(b"take ");
+    room.put_small(frame.0);
+    room.put(b" i");
+    room.put_small(input.0);
+    put_outs(room, outputs);
+    room.put(b"\n");
+}
+
+/// Writes the line of a drop.
+fn put_dropped(room: &mut Room, frame: FrameNo)
+    requires { length room.old + 50 ≤ ROOM }
+    ensures { room.new ≡ room.old ++ line_text (line_words (ReEntry.Dropped frame)) }
+{
+    room.put(b"drop ");
+    room.put_small(frame.0);
+    room.put(b"\n");
+}
+
+/// Writes the line of an error.
+fn put_error(room: &mut Room, frame: FrameNo)
+    requires { length room.old + 50 ≤ ROOM }
+    ensures { room.new ≡ room.old ++ line_text (line_words (ReEntry.Error frame)) }
+{
+    room.put(b"error ");
+    room.put_small(frame.0);
+    room.put(b"\n");
+}
+
+/// Writes a frame, a stream and a buffer, with a space between them.
+fn put_place(room: &mut Room, frame: FrameNo, stream: StreamIx, buffer: BufferId)
+    requires { length room.old + 40 ≤ ROOM }
+    ensures text { room.new ≡ room.old ++ place_text frame.0 stream.0 buffer.0 }
+    ensures len { length room.new ≤ length room.old + 40 }
+{
+    room.put_small(frame.0);
+    room.put(b" ");
+    room.put_small(u32::from(stream.0));
+    room.put(b" b");
+    room.put_small(buffer.0);
 }
 
 /// Writes the line of a buffer that comes back with nothing in it.
-#[tactic(auto, unfolding(crate::specs::Lines::line_of))]
-fn write_failed(
-    out: &mut String,
-    frame: FrameNo,
-    stream: StreamIx,
-    buffer: BufferId,
-) -> Result<(), NoMemory>
-    ensures { OnOk result (string_bytes out.new ≡ string_bytes out.old ++ line_of (ReEntry.Failed frame stream buffer)) }
+fn put_failed(room: &mut Room, frame: FrameNo, stream: StreamIx, buffer: BufferId)
+    requires { length room.old + 100 ≤ ROOM }
+    ensures { room.new ≡ room.old ++ line_text (line_words (ReEntry.Failed frame stream buffer)) }
 {
-    let number = frame.0;
-    let output = stream.0;
-    let place = buffer.0;
-    writeln!(out, "failed {number} {output} b{place}")
+    room.put(b"failed ");
+    put_place(room, frame, stream, buffer);
+    room.put(b"\n");
 }
 
 /// Writes the line of a buffer that comes back with its picture.
-#[tactic(auto, unfolding(crate::specs::Lines::line_of))]
-fn write_fill(
-    alloc: Global,
-    out: &mut String,
-    frame: FrameNo,
-    stream: StreamIx,
-    buffer: BufferId,
-    digest: [u8; 32],
-) -> Result<(), NoMemory>
-    ensures { OnOk result
-        (string_bytes out.new ≡ string_bytes out.old ++ line_of (ReEntry.Fill frame stream buffer digest)) }
+fn put_fill(room: &mut Room, frame: FrameNo, stream: StreamIx, buffer: BufferId, digest: [u8; 32])
+    requires { length room.old + 200 ≤ ROOM }
+    ensures { room.new ≡ room.old ++ line_text (line_words (ReEntry.Fill frame stream buffer digest)) }
 {
-    let number = frame.0;
-    let output = stream.0;
-    let place = buffer.0;
-    let text = hex::encode(alloc, digest.as_slice())?;
-    write!(out, "fill {number} {output} b{place} ")?;
-    out.push_str(text.as_str())?;
-    out.push_str("\n")
+    room.put(b"fill ");
+    put_place(room, frame, stream, buffer);
+    room.put(b" ");
+    room.put_hex(&digest);
+    room.put(b"\n");
 }
 
 /// Writes the line of an input that comes back.
-#[tactic(auto, unfolding(crate::specs::Lines::line_of))]
-fn write_input(out: &mut String, frame: FrameNo, input: InputId) -> Result<(), NoMemory>
-    ensures { OnOk result (string_bytes out.new ≡ string_bytes out.old ++ line_of (ReEntry.Input frame input)) }
+fn put_input(room: &mut Room, frame: FrameNo, input: InputId)
+    requires { length room.old + 50 ≤ ROOM }
+    ensures { room.new ≡ room.old ++ line_text (line_words (ReEntry.Input frame input)) }
 {
-    let number = frame.0;
-    let place = input.0;
-    writeln!(out, "input {number} i{place}")
+    room.put(b"input ");
+    room.put_small(frame.0);
+    room.put(b" i");
+    room.put_small(input.0);
+    room.put(b"\n");
 }
 
 /// Writes a line.
 #[tactic(auto, unfolding(crate::specs::Lines::line_of))]
-pub fn write_line(alloc: Global, out: &mut String, line: ReEntry) -> Result<(), NoMemory>
-    ensures { OnOk result (string_bytes out.new ≡ string_bytes out.old ++ line_of line) }
+fn put_line(room: &mut Room, line: ReEntry)
+    requires { length room.old + 250 ≤ ROOM }
+    ensures { room.new ≡ room.old ++ line_of line }
 {
     match line {
-        ReEntry::Called { index } => writeln!(out, "call {index} request = ok"),
-        ReEntry::BeginFlush => out.push_str("begin flush\n"),
-        ReEntry::Flushed { index } => writeln!(out, "call {index} flush = ok"),
+        ReEntry::Called { index } => put_called(room, index),
+        ReEntry::BeginFlush => room.put(b"begin flush\n"),
+        ReEntry::Flushed { index } => put_flushed(room, index),
         ReEntry::Take {
             frame,
             input,
             outputs,
-        } => write_take(out, frame, input, outputs),
-        ReEntry::Dropped { frame } => {
-            let number = frame.0;
-            writeln!(out, "drop {number}")
-        }
-        ReEntry::Error { frame } => {
-            let number = frame.0;
-            writeln!(out, "error {number}")
-        }
+        } => put_take(room, frame, input, outputs),
+        ReEntry::Dropped { frame } => put_dropped(room, frame),
+        ReEntry::Error { frame } => put_error(room, frame),
         ReEntry::Failed {
             frame,
             stream,
             buffer,
-        } => write_failed(out, frame, stream, buffer),
+        } => put_failed(room, frame, stream, buffer),
         ReEntry::Fill {
             frame,
             stream,
             buffer,
             digest,
-        } => write_fill(alloc, out, frame, stream, buffer, digest),
-        ReEntry::Input { frame, input } => write_input(out, frame, input),
+        } => put_fill(room, frame, stream, buffer, digest),
+        ReEntry::Input { frame, input } => put_input(room, frame, input),
     }
 }

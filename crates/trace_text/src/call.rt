@@ -6,9 +6,9 @@ ghost use Rattle.trace_model.specs.Printable.{is_filled, reply_fits};
 ghost use Rattle.text_parts.specs.Lines.{line_text};
 ghost use Rattle.trace_text.specs.Spelling.{behind_spaces, made_words, reply_words, entry_words};
 
-use crate::room::{ROOM, Room};
 use crate::word::{put_buffer, put_request, put_word};
 use cam_types::{Four, Made, Reply, Word};
+use line_output::{ROOM, Room};
 use trace_model::Entry;
 
 /// Writes the buffers of a stream behind a space, if there is the stream.

@@ -3,8 +3,8 @@
 ghost use Rattle.std.specs.Prelude.{◌≡◌, ◌≤◌, ◌+◌, ◌++◌, length};
 ghost use Rattle.trace_text.specs.Spelling.{first_line_of};
 
-use crate::room::{ROOM, Room};
 use cam_types::Profile;
+use line_output::{ROOM, Room};
 
 /// Writes the first line of a trace, with the profile where one is named.
 #[tactic(auto, unfolding(crate::specs::Spelling::first_line_of))]

@@ -6,9 +6,9 @@ ghost use Rattle.meta_rules.specs.Parts.{PartFits};
 ghost use Rattle.text_parts.specs.Lines.{line_text};
 ghost use Rattle.trace_text.specs.Spelling.{behind_spaces, sent_text, part_text, mark_text, place_text, entry_words};
 
-use crate::room::{ROOM, Room};
 use crate::word::{put_buffer, put_device_fence, put_fence, put_fence_number, put_item};
 use cam_types::{BufferId, FenceNo, Four, FrameNo, Part, RequestId, StreamIx};
+use line_output::{ROOM, Room};
 use meta_rules::part_bytes;
 use trace_model::{Entry, Sent};
 

@@ -5,7 +5,6 @@ mod call;
 mod first;
 mod frame;
 mod printer;
-mod room;
 mod summary;
 mod word;
 

@@ -12,9 +12,9 @@ use crate::frame::{
     put_drop, put_early, put_error_buffer, put_error_request, put_error_result, put_failed,
     put_filled, put_late, put_partial, put_release, put_send, put_shutter, put_signal,
 };
-use crate::room::{ROOM, Room};
 use crate::summary::put_summary;
 use cam_types::{NoMemory, Profile};
+use line_output::{ROOM, Room};
 use std::alloc::Global;
 use std::marker::Model;
 use trace_model::Entry;

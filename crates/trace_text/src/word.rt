@@ -4,9 +4,9 @@ ghost use Rattle.std.specs.Prelude.{◌≡◌, ◌≤◌, ◌+◌, ◌++◌, len
 ghost use Rattle.trace_text.specs.Spelling.{buffer_text, fence_number, device_fence, fence_text, request_text, item_text};
 ghost use Rattle.command_words.specs.Words.{word_text};
 
-use crate::room::{ROOM, Room};
 use cam_types::{BufferId, FenceNo, RequestId, Word};
 use command_words::word_text;
+use line_output::{ROOM, Room};
 
 /// Writes a command's word.
 pub fn put_word(room: &mut Room, word: Word)

@@ -8,11 +8,12 @@ ghost use Rattle.trace_model.specs.Printable.{is_printable};
 ghost use Rattle.trace_model.specs.Summary.{summary_of};
 ghost use Rattle.trace_text.specs.Spelling.{line_of, spelling};
 ghost use Rattle.trace_text.specs.Summary.{summary_line};
-ghost use Rattle.trace_writer.specs.Pieces.{Gathers, text_behind};
+ghost use Rattle.line_output.specs.Pieces.{Gathers};
+ghost use Rattle.trace_writer.specs.Texts.{text_behind};
 
-use crate::pieces::Pieces;
 use cam_types::{NoMemory, Profile};
 use io_edge::{Failed, Sink, write_all};
+use line_output::Pieces;
 use std::alloc::Global;
 use std::marker::Model;
 use trace_model::Entry;
@@ -111,6 +112,16 @@ impl TraceWriter {
             trace,
             sink,
         )
+    }
+
+    /// Writes bytes that stand in front of a trace, in such pieces. It takes no memory.
+    pub fn write_front<K: Sink>(&mut self, front: &[u8], sink: &mut K) -> Result<(), Failed>
+        ensures same { self.new ≡ self.old }
+        ensures written { OnOk result (Writes (K.state sink.old) (K.state sink.new) front.now) }
+        ensures failed { OnErr result (Breaks (K.state sink.old) (K.state sink.new) front.now) }
+        ensures faults { Counts result (K.state sink.old).faults (K.state sink.new).faults }
+    {
+        self.pieces.write(front, sink)
     }
 
     /// Writes the line of a trace's summary. It takes no memory.

@@ -1,5 +1,5 @@
 use Rattle.std.proofs.Common.{◌≡◌, [], ◌∷◌, ◌++◌, take}
-use Rattle.std.specs.Prelude.{codes, string_bytes}
+use Rattle.std.specs.Prelude.{codes}
 use Rattle.std.specs.List.{flat_map}
 use Rattle.text_parts.specs.Lines.{line_text}
 use Rattle.auto_output.specs.Lines.{line_of}
@@ -7,4 +7,4 @@ use Rattle.auto_output.proofs.line.front_text.Given as goal
 
 abbrev pub invariant-loop-line : goal.invariant-loop-line
 invariant-loop-line l =
-    string_bytes l.out ≡ line_text (codes "auto" ∷ codes "1" ∷ []) ++ flat_map line_of (take l.line-index l.lines)
+    l.out.items ≡ line_text (codes "auto" ∷ codes "1" ∷ []) ++ flat_map line_of (take l.line-index l.lines)

@@ -1,13 +1,9 @@
-use Rattle.std.proofs.Common.{◌≡◌, arith}
-use Rattle.std.specs.Prelude.{reverse}
-use Rattle.reprocess_output.specs.Lines.{run_text}
-use Rattle.reprocess_call.specs.Reprocess.{IsWholeRun}
+use Rattle.std.proofs.Common.{◌≡◌, arith, ap}
+use Rattle.reprocess_call.specs.Reprocess.{PlaysPlan}
 use Rattle.reprocess_call.proofs.Telling.{played}
 use Rattle.reprocess_call.proofs.call.play_plan.Goals as goal
 
-pub returns-in-Ok-text : goal.returns-in-Ok-text
-returns-in-Ok-text g c =
-    let plan : c.play.new.device.plan ≡ c.args.plan = grind arith in
-    let run : IsWholeRun c.args.plan c.play.new.device.past = rw plan at c.play.ensures.run in
-    let shown : c.as_slice.result.now ≡ run_text (reverse c.play.new.device.past) = grind arith in
-    played c.args.plan c.play.new.device.past c.as_slice.result.now c.answer.result.number (g.K.Sink.state c.args.sink.now) (g.K.Sink.state c.answer.new.sink) run shown c.answer.ensures
+pub returns-in-Ok : goal.returns-in-Ok
+returns-in-Ok g c =
+    let run : PlaysPlan c.args.plan c.play_prepared.result.number (g.K.Sink.state c.args.sink.now) (g.K.Sink.state c.play_prepared.new.sink) = rw c.prepare.ensures at c.play_prepared.ensures in
+    played c.args.plan c.play_prepared.result.number (g.K.Sink.state c.args.sink.now) (g.K.Sink.state c.play_prepared.new.sink) run

@@ -2,7 +2,7 @@
 use Rattle.std.proofs.Common.{◌≡◌, ◌++◌, take}
 use Rattle.std.specs.List.{flat_map}
 use Rattle.trace_text.specs.Spelling.{line_of}
-use Rattle.trace_writer.specs.Pieces.{Gathers}
+use Rattle.line_output.specs.Pieces.{Gathers}
 use Rattle.trace_writer.proofs.writer.put_lines.Given as goal
 
 abbrev pub invariant-loop-entry : goal.invariant-loop-entry

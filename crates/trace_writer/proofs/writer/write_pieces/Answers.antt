@@ -1,8 +1,8 @@
 use Rattle.std.proofs.Common.{◌∙◌, ◌++◌, [], append-nil, codes, refl}
 use Rattle.std.specs.List.{flat_map}
 use Rattle.trace_text.specs.Spelling.{line_of}
-use Rattle.trace_writer.specs.Pieces.{text_behind}
-use Rattle.trace_writer.proofs.Gathering.{broken, err-as, flushed, ok-as, on-err, opened, put, put-broken, shorter}
+use Rattle.trace_writer.specs.Texts.{text_behind}
+use Rattle.line_output.proofs.Gathering.{broken, err-as, flushed, ok-as, on-err, opened, put, put-broken, shorter}
 use Rattle.trace_writer.proofs.Lines.{opened-spelled, spelled}
 use Rattle.trace_writer.proofs.writer.write_pieces.Goals as goal
 

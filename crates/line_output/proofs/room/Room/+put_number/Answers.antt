@@ -1,8 +1,8 @@
 use Rattle.std.proofs.Common.{arith}
 use Rattle.std.proofs.lemmas.Grind.{common_steps}
-use Rattle.trace_text.proofs.Numbers.{number_digit, number_more}
-use Rattle.trace_text.proofs.room.Room.+put_number.Goals as goal
-use Rattle.trace_text.proofs.room.Room.+put_number.Goals.{then-number-ge10, else-number-ge10}
+use Rattle.line_output.proofs.Numbers.{number_digit, number_more}
+use Rattle.line_output.proofs.room.Room.+put_number.Goals as goal
+use Rattle.line_output.proofs.room.Room.+put_number.Goals.{then-number-ge10, else-number-ge10}
 
 pub returns-clause-text : goal.returns-clause-text
 returns-clause-text t c =

@@ -1,4 +1,4 @@
-use Rattle.trace_text.proofs.room.Room.+put_number.Given as goal
+use Rattle.line_output.proofs.room.Room.+put_number.Given as goal
 
 abbrev pub decreases-put_number : goal.decreases-put_number
 decreases-put_number l = l.number

@@ -3,7 +3,7 @@
 ghost use Rattle.std.specs.Prelude.{◌≡◌, ◌-◌, ◌<◌, ◌++◌, [], length, take, min, IfOk, OnOk, OnErr};
 ghost use Rattle.io_edge.specs.Faults.{Counts};
 ghost use Rattle.io_edge.specs.States.{Breaks, Writes};
-ghost use Rattle.trace_writer.specs.Pieces.{Gathers};
+ghost use Rattle.line_output.specs.Pieces.{Gathers};
 
 use cam_types::NoMemory;
 use io_edge::{Failed, Sink, write_all};
@@ -93,5 +93,16 @@ impl Pieces {
             done += self.gather(&bytes[done..]);
         }
         Ok(())
+    }
+
+    /// Writes bytes alone, in pieces as they fill, and the rest at the end; what was gathered before is forgotten.
+    pub fn write<K: Sink>(&mut self, bytes: &[u8], sink: &mut K) -> Result<(), Failed>
+        ensures written { OnOk result (Writes (K.state sink.old) (K.state sink.new) bytes.now) }
+        ensures failed { OnErr result (Breaks (K.state sink.old) (K.state sink.new) bytes.now) }
+        ensures faults { Counts result (K.state sink.old).faults (K.state sink.new).faults }
+    {
+        self.clear();
+        self.put(bytes, sink)?;
+        self.flush(sink)
     }
 }

@@ -1,8 +1,8 @@
 use Rattle.std.proofs.Common.{◌≡◌, ◌∙◌, ◌+◌, ◌++◌, arith, rules, ap, sym, append_assoc, length-drop, take, drop, List, ℕ, take-append-drop}
 use Rattle.std.proofs.lemmas.List.{take_rest}
 use Rattle.std.proofs.Math.Seq.{take-add}
-use Rattle.trace_writer.proofs.Gathering.{after, broken, longer, on-err, shorter}
-use Rattle.trace_writer.proofs.pieces.Pieces.put.Goals as goal
+use Rattle.line_output.proofs.Gathering.{after, broken, longer, on-err, shorter}
+use Rattle.line_output.proofs.pieces.Pieces.put.Goals as goal
 
 pub returns-in_err-make_room-clause-failed : goal.returns-in_err-make_room-clause-failed
 returns-in_err-make_room-clause-failed g c =

@@ -4,7 +4,7 @@ use Rattle.std.proofs.lemmas.List.{take-append-le}
 use Rattle.std.proofs.Math.Seq.{take-append-add}
 use Rattle.io_edge.specs.States.{Breaks, SinkState, Writes}
 use Rattle.std.proofs.KnownBytes.{Appends-trans}
-use Rattle.trace_writer.specs.Pieces.{Gathers}
+use Rattle.line_output.specs.Pieces.{Gathers}
 
 -- what is put is gathered
 pub longer : (a b : SinkState) (g h t u x : List ℕ) → Gathers a b g t → h ≡ g ++ x → t ++ x ≡ u → Gathers a b h u

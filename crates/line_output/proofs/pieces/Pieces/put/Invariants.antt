@@ -1,7 +1,7 @@
 -- What was put so far is written or gathered, and no fault was counted.
 use Rattle.std.proofs.Common.{◌≡◌, ◌-◌, ◌≤◌, ◌++◌, length, take}
-use Rattle.trace_writer.specs.Pieces.{Gathers}
-use Rattle.trace_writer.proofs.pieces.Pieces.put.Given as goal
+use Rattle.line_output.specs.Pieces.{Gathers}
+use Rattle.line_output.proofs.pieces.Pieces.put.Given as goal
 
 abbrev pub invariant-loop-done : goal.invariant-loop-done
 invariant-loop-done g l = record {
