@@ -4,9 +4,9 @@ use Rattle.std.proofs.lemmas.Bool.Decides.{nat_tests}
 use Rattle.io_edge.specs.States.{SinkState}
 use Rattle.call_status.specs.Answers.{AnswersWithMemory, Tells, TellsBy}
 use Rattle.hal_text.specs.Meaning.{log_of}
-use Rattle.hal_text.specs.declared.cause.Cause.{Cause}
-use Rattle.hal_text.specs.declared.cause.Cause.TheVariants.{TooLong}
-use Rattle.hal_text.specs.declared.cause.LogRefused.TheVariants.{Bad}
+use Rattle.hal_lines.specs.declared.cause.Cause.{Cause}
+use Rattle.hal_lines.specs.declared.cause.Cause.TheVariants.{TooLong}
+use Rattle.hal_text.specs.declared.refused.LogRefused.TheVariants.{Bad}
 use Rattle.hal_call.specs.Judging.{Judges, JudgesLog, refusal_text}
 use Rattle.hal_call.specs.declared.form.Form.{Form}
 

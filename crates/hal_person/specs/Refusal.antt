@@ -1,8 +1,8 @@
 -- The line that refuses a text, for a person. (docs/FORMATS.md, hal log)
 use Rattle.std.specs.Prelude.{ℕ, List, [], ◌∷◌, ◌++◌, codes, decimal}
-use Rattle.hal_text.specs.Causes.{number_of}
-use Rattle.hal_text.specs.declared.cause.Cause.{Cause}
-use Rattle.hal_text.specs.declared.cause.Cause.TheVariants.{Truncated, BadNumber, BadLine, TooLong}
+use Rattle.hal_lines.specs.Causes.{number_of}
+use Rattle.hal_lines.specs.declared.cause.Cause.{Cause}
+use Rattle.hal_lines.specs.declared.cause.Cause.TheVariants.{Truncated, BadNumber, BadLine, TooLong}
 
 abbrev pub cause_sentence : Cause → List ℕ
 cause_sentence Truncated = codes "no line counts, and the first one that does is to be hal 1 K"

@@ -9,11 +9,10 @@ use Rattle.hal_model.specs.declared.event.HalEvent.TheVariants.{OpenBegin, OpenO
 use Rattle.hal_spelling.specs.Fits.{fits, has_begin, have_begins, is_count, is_typed, is_valid, is_well_made}
 use Rattle.hal_spelling.specs.Spelling.{event_line, event_words, first_words, text_of}
 use Rattle.hal_text.specs.declared.log.HalLog.{HalLog}
-use Rattle.hal_text.specs.Lines.{count_of}
+use Rattle.hal_lines.specs.Lines.{count_of, event_by_words}
 use Rattle.hal_text.specs.Meaning.{added, after, after_line, after_words, empty_log, log_from, log_of, said, text_limit}
-use Rattle.hal_text.specs.Told.{event_by_words}
-use Rattle.hal_text.specs.Values.{◌>>=◌}
-use Rattle.hal_text.proofs.AgainLines.{event-again, event-are-words}
+use Rattle.hal_lines.specs.Values.{◌>>=◌}
+use Rattle.hal_lines.proofs.AgainLines.{event-again, event-are-words}
 use Rattle.line_reading.specs.Lines.{is_printable}
 use Rattle.text_parts.specs.Lines.{line_text, lines_of}
 use Rattle.text_parts.specs.Words.{is_plain, is_word}

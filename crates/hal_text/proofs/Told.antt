@@ -4,15 +4,15 @@ use Rattle.std.specs.List.{AllZip, list_all}
 use Rattle.std.proofs.lemmas.List.{length-append}
 use Rattle.hal_model.specs.declared.event.HalEvent.{HalEvent}
 use Rattle.hal_spelling.specs.Fits.{has_begin}
-use Rattle.hal_text.specs.declared.cause.Cause.{Cause}
-use Rattle.hal_text.specs.declared.cause.Cause.TheVariants.{BadLine, TooLong}
-use Rattle.hal_text.specs.declared.cause.LogRefused.{LogRefused}
-use Rattle.hal_text.specs.declared.cause.LogRefused.TheVariants.{Bad}
+use Rattle.hal_lines.specs.declared.cause.Cause.{Cause}
+use Rattle.hal_lines.specs.declared.cause.Cause.TheVariants.{BadLine, TooLong}
+use Rattle.hal_text.specs.declared.refused.LogRefused.{LogRefused}
+use Rattle.hal_text.specs.declared.refused.LogRefused.TheVariants.{Bad}
 use Rattle.hal_text.specs.declared.log.HalLog.{HalLog}
-use Rattle.hal_text.specs.Lines.{count_of, event_of}
+use Rattle.hal_lines.specs.Lines.{count_of, event_of, event_by_words}
 use Rattle.hal_text.specs.Meaning.{added, after, after_line, after_words, at_line, empty_log, log_from, log_of}
-use Rattle.hal_text.specs.Told.{IsTold, event_by_words, line_at}
-use Rattle.hal_text.specs.Values.{◌>>=◌}
+use Rattle.hal_text.specs.Told.{IsTold, line_at}
+use Rattle.hal_lines.specs.Values.{◌>>=◌}
 use Rattle.line_reading.specs.Lines.{is_comment, is_printable}
 use Rattle.text_parts.specs.Lines.{lines_of}
 use Rattle.text_parts.specs.Words.{loose_words}

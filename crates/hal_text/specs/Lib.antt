@@ -1,6 +1,3 @@
-pub mod Causes
-pub mod Values
-pub mod Lines
 pub mod Meaning
 pub mod Begun
 pub mod Reader

@@ -3,13 +3,13 @@ use Rattle.std.specs.Prelude.{ℕ, ◌+◌, List, [], ◌∷◌, ◌++◌, lengt
 use Rattle.std.specs.List.{list_all}
 use Rattle.hal_model.specs.declared.event.HalEvent.{HalEvent}
 use Rattle.hal_spelling.specs.Fits.{has_begin}
-use Rattle.hal_text.specs.declared.cause.Cause.{Cause}
-use Rattle.hal_text.specs.declared.cause.Cause.TheVariants.{Truncated, BadLine, TooLong}
-use Rattle.hal_text.specs.declared.cause.LogRefused.{LogRefused}
-use Rattle.hal_text.specs.declared.cause.LogRefused.TheVariants.{Bad}
+use Rattle.hal_lines.specs.declared.cause.Cause.{Cause}
+use Rattle.hal_lines.specs.declared.cause.Cause.TheVariants.{Truncated, BadLine, TooLong}
+use Rattle.hal_text.specs.declared.refused.LogRefused.{LogRefused}
+use Rattle.hal_text.specs.declared.refused.LogRefused.TheVariants.{Bad}
 use Rattle.hal_text.specs.declared.log.HalLog.{HalLog}
-use Rattle.hal_text.specs.Lines.{count_of, event_of}
-use Rattle.hal_text.specs.Values.{◌>>=◌}
+use Rattle.hal_lines.specs.Lines.{count_of, event_of}
+use Rattle.hal_lines.specs.Values.{◌>>=◌}
 use Rattle.line_reading.specs.Lines.{is_comment, is_printable}
 use Rattle.text_parts.specs.Lines.{lines_of}
 use Rattle.text_parts.specs.Words.{loose_words}

@@ -1,7 +1,7 @@
 -- The line that refuses a text. (docs/FORMATS.md)
 use Rattle.std.specs.Prelude.{ℕ, List, [], ◌∷◌, codes, decimal}
-use Rattle.hal_text.specs.declared.cause.Cause.{Cause}
-use Rattle.hal_text.specs.Causes.{number_of}
+use Rattle.hal_lines.specs.declared.cause.Cause.{Cause}
+use Rattle.hal_lines.specs.Causes.{number_of}
 use Rattle.text_parts.specs.Lines.{line_text}
 
 -- `refused hal LINE CAUSE`

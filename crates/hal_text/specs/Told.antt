@@ -1,17 +1,9 @@
 -- Where the events of a log stand in its text.
-use Rattle.std.specs.Prelude.{ℕ, ◌≡◌, ◌-◌, List, [], ◌∷◌, slice_index_or, Result, Ok, Err}
+use Rattle.std.specs.Prelude.{ℕ, ◌≡◌, ◌-◌, List, [], slice_index_or, Ok}
 use Rattle.std.specs.List.{AllZip}
-use Rattle.hal_model.specs.declared.event.HalEvent.{HalEvent}
-use Rattle.hal_text.specs.declared.cause.Cause.{Cause}
-use Rattle.hal_text.specs.declared.cause.Cause.TheVariants.{BadLine}
 use Rattle.hal_text.specs.declared.log.HalLog.{HalLog}
-use Rattle.hal_text.specs.Lines.{event_of}
+use Rattle.hal_lines.specs.Lines.{event_by_words}
 use Rattle.text_parts.specs.Words.{loose_words}
-
--- the event that words mean
-abbrev pub event_by_words : List (List ℕ) → Result HalEvent Cause
-event_by_words [] = Err BadLine
-event_by_words (word ∷ words) = event_of word words
 
 -- line n, counted from 1
 abbrev pub line_at : List (List ℕ) → ℕ → List ℕ

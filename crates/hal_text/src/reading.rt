@@ -6,13 +6,14 @@ ghost use Rattle.hal_spelling.specs.Fits.{is_valid, is_well_made};
 ghost use Rattle.hal_text.specs.Begun.{Knows};
 ghost use Rattle.hal_text.specs.Drafts.{Stands, is_short};
 ghost use Rattle.hal_text.specs.Meaning.{added, after, after_words, at_end, log_of};
-ghost use Rattle.hal_text.specs.Reader.{Answers, GivesBy};
+ghost use Rattle.hal_lines.specs.Reader.{GivesBy};
+ghost use Rattle.hal_text.specs.Reader.{Answers};
 
 use crate::begun::Begun;
-use crate::cause::{Cause, LineRefused, LogRefused, refused};
-use crate::line::{count_of, event_of};
 use crate::log::HalLog;
+use crate::refused::{LogRefused, refused};
 use cam_types::Listing;
+use hal_lines::{Cause, LineRefused, count_of, event_of};
 use hal_model::HalEvent;
 use line_reading::is_printable;
 use std::alloc::Global;

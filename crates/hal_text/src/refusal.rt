@@ -3,8 +3,8 @@
 ghost use Rattle.std.specs.Prelude.{◌≡◌, IfOk};
 ghost use Rattle.hal_text.specs.Refusal.{refused_text};
 
-use crate::cause::Cause;
 use cam_types::NoMemory;
+use hal_lines::Cause;
 use std::alloc::Global;
 
 /// The line that refuses a text: `refused hal LINE CAUSE`.

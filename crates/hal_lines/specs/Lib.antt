@@ -1,0 +1,4 @@
+pub mod Causes
+pub mod Values
+pub mod Lines
+pub mod Reader

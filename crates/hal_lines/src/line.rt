@@ -1,0 +1,87 @@
+//! What a line means.
+
+ghost use Rattle.std.specs.Prelude.{◌≡◌, ◌∷◌, IfOk, IsTrue};
+ghost use Rattle.text_parts.specs.Words.{loose_words};
+ghost use Rattle.hal_spelling.specs.Fits.{is_count, is_well_made};
+ghost use Rattle.hal_lines.specs.Lines.{count_of, event_in, event_of, kind_of};
+ghost use Rattle.hal_lines.specs.Reader.{Gives};
+
+use crate::call::{close_of, configure_of, flush_of, init_of, open_of, request_of, template_of};
+use crate::callback::{notice_of, result_of, shutter_of};
+use crate::cause::{Cause, LineRefused};
+use crate::kind::Kind;
+use crate::value::count;
+use hal_model::HalEvent;
+use line_reading::is_end;
+use std::alloc::Global;
+use text_parts::next_loose_word;
+
+/// The kind of a line, by its first word.
+#[tactic(auto, unfolding(crate::specs::Lines::kind_of))]
+fn kind_of(word: &[u8]) -> Option<Kind>
+    ensures { result ≡ kind_of word.now }
+{
+    match word {
+        b"open" => Some(Kind::Open),
+        b"init" => Some(Kind::Init),
+        b"template" => Some(Kind::Template),
+        b"configure" => Some(Kind::Configure),
+        b"request" => Some(Kind::Request),
+        b"shutter" => Some(Kind::Shutter),
+        b"error" => Some(Kind::Error),
+        b"result" => Some(Kind::Result),
+        b"flush" => Some(Kind::Flush),
+        b"close" => Some(Kind::Close),
+        _ => None,
+    }
+}
+
+/// An event, by the kind of its line and the words behind the first.
+#[tactic(auto, unfolding(crate::specs::Lines::event_in))]
+fn event_in(alloc: Global, kind: Kind, words: &[u8]) -> Result<HalEvent, LineRefused>
+    ensures value { Gives result (event_in kind (loose_words words.now)) }
+    ensures valid { IfOk result (λ event. IsTrue (is_well_made event)) }
+{
+    match kind {
+        Kind::Open => Ok(open_of(words)?),
+        Kind::Init => Ok(init_of(words)?),
+        Kind::Template => Ok(template_of(words)?),
+        Kind::Configure => configure_of(alloc, words),
+        Kind::Request => request_of(alloc, words),
+        Kind::Shutter => Ok(shutter_of(words)?),
+        Kind::Error => Ok(notice_of(words)?),
+        Kind::Result => result_of(alloc, words),
+        Kind::Flush => Ok(flush_of(words)?),
+        Kind::Close => Ok(close_of(words)?),
+    }
+}
+
+/// An event, by the first word of its line and the words behind it.
+#[tactic(auto, unfolding(crate::specs::Lines::event_of))]
+pub fn event_of(alloc: Global, word: &[u8], words: &[u8]) -> Result<HalEvent, LineRefused>
+    ensures value { Gives result (event_of word.now (loose_words words.now)) }
+    ensures valid { IfOk result (λ event. IsTrue (is_well_made event)) }
+{
+    match kind_of(word) {
+        Some(kind) => event_in(alloc, kind, words),
+        None => Err(LineRefused::Bad(Cause::BadLine)),
+    }
+}
+
+/// The number of a line that is `hal 1 K`.
+#[tactic(auto, unfolding(crate::specs::Lines::count_of))]
+pub fn count_of(word: &[u8], words: &[u8]) -> Result<u32, Cause>
+    ensures value { result ≡ count_of (word.now ∷ loose_words words.now) }
+    ensures valid { IfOk result (λ parts. IsTrue (is_count parts)) }
+{
+    let (version, rest) = next_loose_word(words).ok_or(Cause::BadLine)?;
+    let (number, rest) = next_loose_word(rest).ok_or(Cause::BadLine)?;
+    if !is_end(rest) {
+        return Err(Cause::BadLine);
+    }
+    if word == b"hal".as_slice() && version == b"1".as_slice() {
+        count(number)
+    } else {
+        Err(Cause::BadLine)
+    }
+}
