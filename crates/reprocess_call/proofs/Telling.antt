@@ -7,10 +7,9 @@ use Rattle.line_reading.specs.declared.cause.Cause.TheVariants.{Limit}
 use Rattle.reprocess_model.specs.declared.plan.Plan.{Plan}
 use Rattle.reprocess_text.specs.Grammar.{plan_of}
 use Rattle.line_reading.specs.declared.cause.TextRefused.TheVariants.{Bad, NoMemory}
-use Rattle.reprocess_output.specs.Lines.{refused_text, run_text}
+use Rattle.reprocess_output.specs.Lines.{refused_text}
 use Rattle.call_status.specs.Answers.{AnswersWithMemory, Tells, TellsBy}
-use Rattle.reprocess_call.specs.Reprocess.{PlaysPlan, Reprocesses, TellsOfPlan}
-use Rattle.std.specs.Prelude.{reverse}
+use Rattle.reprocess_call.specs.Reprocess.{Reprocesses, TellsOfPlan}
 use Rattle.call_status.proofs.Sinks.{AreAnswers}
 use Rattle.line_reading.specs.declared.cause.TextRefused.{TextRefused}
 
@@ -26,11 +25,6 @@ refused line cause status before after (inr h) = inr (1, refused_text line cause
 pub long_refused : (left : Option (List ℕ)) (status : ℕ) (before after : SinkState) → IfSome left (λ all. 65536 < length all) → AnswersWithMemory 1 (refused_text 0 Limit) status before after → Tells Reprocesses left status before after
 long_refused None status before after l h = tt
 long_refused (Some input) status before after l h = rw (too-long input l) (inr (refused 0 Limit status before after h))
-
--- a played run is told
-pub played : (plan : Plan) (status : ℕ) (before after : SinkState) → PlaysPlan plan status before after → TellsBy (TellsOfPlan (Ok plan)) status before after
-played plan status before after h =
-    inr (0, run_text (reverse h.past), (refl, record { past = h.past; run = h.run; shown = refl }), h.answers)
 
 -- ---- a status that belongs to an input
 

@@ -5,7 +5,7 @@ use Rattle.play_calls.proofs.prepared.write_behind.Goals as goal
 
 pub returns-in-Ok : goal.returns-in-Ok
 returns-in-Ok g c =
-    behind c.args.front.now (text_in c.args.output c.args.service.now.script c.args.service.now.history) c.write_run.result.number (g.K.Sink.state c.args.sink.now) (g.K.Sink.state c.write_front.new.sink) (g.K.Sink.state c.write_run.new.sink) c.in-Ok.ensures.ok c.in-Ok.ensures.faults c.write_run.ensures
+    behind c.args.front.now (text_in c.args.output c.args.service.now.script c.args.service.now.history) c.write_run.result.number (g.K.Sink.state c.args.sink.now) (g.K.Sink.state c.write_front.new.sink) (g.K.Sink.state c.write_run.new.sink) c.in-Ok.ensures.written c.in-Ok.ensures.faults c.write_run.ensures
 
 pub returns-in-Err : goal.returns-in-Err
 returns-in-Err g c =
