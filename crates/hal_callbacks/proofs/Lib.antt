@@ -1,2 +1,3 @@
 pub mod Astray
+pub mod LaterRows
 pub mod Packed

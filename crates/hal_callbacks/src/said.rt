@@ -11,8 +11,9 @@ ghost use Rattle.hal_table.specs.State.{state_of};
 
 use crate::later::is_later;
 use hal_model::{HalEvent, Pack, Returned};
+use hal_row::has_number;
 use hal_rows::{Order, PartRow, Row, TargetRow};
-use hal_table::{HalTable, has_number};
+use hal_table::HalTable;
 
 // ---- any callback
 

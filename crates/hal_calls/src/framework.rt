@@ -1,5 +1,7 @@
 //! The rules that bind the framework: whether an event breaks them.
 ghost use Rattle.std.specs.Prelude.{◌≡◌, ◌==◌, ◌+◌, ◌&&◌, ◌||◌, ℕ, count_by, find, min, nat_lt, not, option_copied, sum_by};
+ghost use Rattle.std.specs.Map.Iter.{ShowsInOrder, deref_pair};
+ghost use Rattle.hal_rows.specs.declared.row.Row.{Row as ARow};
 ghost use Rattle.std.specs.List.{list_all, list_any};
 ghost use Rattle.hal_model.specs.Framework.{has_no_output, has_two_inputs, is_past, is_twice_stream};
 ghost use Rattle.hal_model.specs.Words.{is_begin};
@@ -12,9 +14,10 @@ use crate::stream::{
     is_unknown_in, is_without_target, stream_count,
 };
 use hal_model::{HalEvent, HalStream, HalTarget, StreamMax};
+use hal_row::row::is_in_call;
 use hal_rows::{Device, Row, TargetRow};
 use hal_table::HalTable;
-use hal_table::row::is_in_call;
+use lru::Iter;
 
 /// Whether a call begins.
 fn is_begin(event: &HalEvent) -> bool
@@ -118,10 +121,18 @@ pub fn is_in_flight(row: &Row) -> bool
     is_in_call(row) || (is_awaited(row) && !row.flushed)
 }
 
-fn is_some_in_flight(rows: &[Row]) -> bool
-    ensures { result ≡ list_any is_row_in_flight rows.now }
+fn is_some_in_flight_of(rows: Iter<'_, u32, Row>) -> bool
+    requires { ShowsInOrder (deref_pair {K = ℕ} {X = ARow}) }
+    ensures { result ≡ list_any (λ e. is_row_in_flight e.1) rows.entry }
 {
-    rows.iter().any(|row| is_in_flight(row))
+    let mut rows = rows;
+    rows.any(|(_, row)| is_in_flight(row))
+}
+
+fn is_some_in_flight(table: &HalTable) -> bool
+    ensures { result ≡ list_any is_row_in_flight (state_of table.now).rows }
+{
+    is_some_in_flight_of(table.rows())
 }
 
 /// Whether a configuration begins while requests are in flight.
@@ -129,22 +140,16 @@ pub fn configure_in_flight(event: &HalEvent, table: &HalTable) -> bool
     ensures { result ≡ configure_in_flight_at event.now (state_of table.now) }
 {
     match event {
-        HalEvent::ConfigureBegin { .. } => is_some_in_flight(table.rows()),
+        HalEvent::ConfigureBegin { .. } => is_some_in_flight(table),
         _ => false,
     }
-}
-
-fn is_some_in_call(rows: &[Row]) -> bool
-    ensures { result ≡ list_any is_row_in_call rows.now }
-{
-    rows.iter().any(|row| is_in_call(row))
 }
 
 /// Whether a request or a configure is in call.
 fn is_calling(table: &HalTable) -> bool
     ensures { result ≡ (is_requesting_at (state_of table.now) || table.now.device.configure.out) }
 {
-    is_some_in_call(table.rows()) || table.device().configure.out
+    table.is_requesting() || table.device().configure.out
 }
 
 fn is_in_other_call(device: &Device) -> bool
@@ -178,59 +183,23 @@ pub fn call_after_close(event: &HalEvent, table: &HalTable) -> bool
 
 // ---- requests
 
-fn is_called_from(frame: u32, row: &Row) -> bool
-    ensures { result ≡ is_row_called_from frame row.now }
-{
-    is_in_call(row) && row.frame >= frame
-}
-
-fn is_some_called_from(frame: u32, rows: &[Row]) -> bool
-    ensures { result ≡ list_any (is_row_called_from frame) rows.now }
-{
-    rows.iter().any(|row| is_called_from(frame, row))
-}
-
 /// Whether a request's number isn't above those before it.
 pub fn frame_number(event: &HalEvent, table: &HalTable) -> bool
     ensures { result ≡ frame_number_at event.now (state_of table.now) }
 {
     match event {
         HalEvent::RequestBegin { frame, .. } => {
-            u64::from(*frame) < table.device().top || is_some_called_from(*frame, table.rows())
+            u64::from(*frame) < table.device().top || table.is_called_from(*frame)
         }
         _ => false,
     }
-}
-
-fn is_holding(number: u32, target: &TargetRow) -> bool
-    ensures { result ≡ is_holding number target.now }
-{
-    target.target.buffer == number && !target.back
-}
-
-fn is_held_in(number: u32, targets: &[TargetRow]) -> bool
-    ensures { result ≡ list_any (is_holding number) targets.now }
-{
-    targets.iter().any(|target| is_holding(number, target))
-}
-
-fn is_held_by(number: u32, row: &Row) -> bool
-    ensures { result ≡ list_any (is_holding number) row.now.targets }
-{
-    is_held_in(number, row.targets.as_slice())
-}
-
-fn is_held(number: u32, rows: &[Row]) -> bool
-    ensures { result ≡ is_held_at number rows.now }
-{
-    rows.iter().any(|row| is_held_by(number, row))
 }
 
 /// Whether the target's buffer is held, or stands twice among the targets.
 pub fn is_held_target(targets: &[HalTarget], table: &HalTable, target: &HalTarget) -> bool
     ensures { result ≡ is_held_target_at targets.now (state_of table.now) target.now }
 {
-    is_held(target.buffer, table.rows()) || is_twice_buffer(targets, target)
+    table.is_held(target.buffer) || is_twice_buffer(targets, target)
 }
 
 fn is_some_held(targets: &[HalTarget], table: &HalTable) -> bool
@@ -269,32 +238,6 @@ pub fn repeated_stream(event: &HalEvent, table: &HalTable) -> bool
     }
 }
 
-fn is_holding_for(number: u32, target: &TargetRow) -> bool
-    ensures { result ≡ is_holding_for number target.now }
-{
-    target.target.stream == number && !target.back
-}
-
-fn held_in(number: u32, targets: &[TargetRow]) -> usize
-    ensures { result ≡ count_by (is_holding_for number) targets.now }
-{
-    targets
-        .iter()
-        .filter(|target| is_holding_for(number, target))
-        .count()
-}
-
-/// How many buffers of the stream are held, or the greatest number that is kept.
-fn held_count(number: u32, rows: &[Row]) -> u64
-    ensures { result ≡ min (held_count_at number rows.now) u64.MAX }
-{
-    let mut count = 0u64;
-    for row in rows {
-        count = count.saturating_add(held_in(number, row.targets.as_slice()) as u64);
-    }
-    count
-}
-
 /// Whether the number is above what the device takes, unless that is 0.
 fn is_past(most: Option<&StreamMax>, count: u64) -> bool
     ensures { (n : ℕ) → count ≡ min n u64.MAX → result ≡ is_past (option_copied most.entry) n }
@@ -309,7 +252,7 @@ fn is_past(most: Option<&StreamMax>, count: u64) -> bool
 pub fn is_too_many(targets: &[HalTarget], table: &HalTable, target: &HalTarget) -> bool
     ensures { result ≡ is_too_many_at targets.now (state_of table.now) target.now }
 {
-    let held = held_count(target.stream, table.rows());
+    let held = table.held_count(target.stream);
     let count = held.saturating_add(stream_count(target.stream, targets) as u64);
     is_past(
         find_most(table.device().most.as_slice(), target.stream),

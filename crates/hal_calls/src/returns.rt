@@ -12,10 +12,10 @@ use crate::stream::{
     is_unnamed,
 };
 use hal_model::{HalError, HalEvent, HalStream, StreamMax};
+use hal_row::row::is_in_call;
 use hal_rows::{Device, Row, TargetRow};
 use hal_table::HalTable;
-use hal_table::row::is_in_call;
-use hal_table::word::is_no_device;
+use hal_words::word::is_no_device;
 
 // ---- calls that are accepted
 

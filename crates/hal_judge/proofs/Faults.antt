@@ -1,5 +1,6 @@
 -- What is at fault, put together.
 use Rattle.std.proofs.Common.{◌≡◌, ◌∙◌, ℕ, suc, ◌+◌, ◌<◌, Bool, true, false, List, [], ◌∷◌, ◌++◌, None, refl, sym, ap, arith, filter, get_or, length, map, take, if◌then◌else◌}
+use Rattle.std.specs.Map.{values_of}
 use Rattle.std.proofs.Math.Seq.{take-suc}
 use Rattle.basic_lemmas.proofs.Lists.{map-map}
 use Rattle.hal_model.specs.declared.event.HalStream.{HalStream}
@@ -45,14 +46,20 @@ silences-append (r ∷ xs) ys =
     ap (λ z. at_target_rows r.frame (filter (is_row_unannounced_at r) r.targets) ++ z) (silences-append xs ys)
     ∙ sym (append-turned (at_target_rows r.frame (filter (is_row_unannounced_at r) r.targets)) (row_silences xs) (row_silences ys))
 
-silences-step : (e : HalEvent) (rows : List Row) (i : ℕ) (d : Row) → i < length rows → row_silences (filter (is_row_silent e) (take (i + 1) rows)) ≡ row_silences (filter (is_row_silent e) (take i rows)) ++ row_silences (filter (is_row_silent e) (get_or rows i d ∷ []))
-silences-step e rows i d l =
-    let s : i + 1 ≡ suc i = omega arith in
-    rw (s, take-suc rows i d l, filter-append (is_row_silent e) (take i rows) (get_or rows i d ∷ [])) (silences-append (filter (is_row_silent e) (take i rows)) (filter (is_row_silent e) (get_or rows i d ∷ [])))
+-- one more row, with what is told of it before what is told of those that are left
+pub silences_next : (e : HalEvent) (k : ℕ) (r : Row) (t u : List (ℕ × Row)) (old new all : List Fault) → t ≡ (k, r) ∷ u → new ≡ old ++ silence_of e r → old ++ row_silences (filter (is_row_silent e) (values_of t)) ≡ all → new ++ row_silences (filter (is_row_silent e) (values_of u)) ≡ all
+silences_next e k r t u old new all is now' so =
+    ap (λ z. z ++ row_silences (filter (is_row_silent e) (values_of u))) now'
+    ∙ (append-turned old (silence_of e r) (row_silences (filter (is_row_silent e) (values_of u)))
+    ∙ (ap (λ z. old ++ z) (sym split)
+    ∙ (ap (λ z. old ++ row_silences (filter (is_row_silent e) (values_of z))) (sym is) ∙ so)))
+  where
+    split : row_silences (filter (is_row_silent e) (r ∷ values_of u)) ≡ silence_of e r ++ row_silences (filter (is_row_silent e) (values_of u))
+    split = ap row_silences (filter-append (is_row_silent e) (r ∷ []) (values_of u)) ∙ silences-append (filter (is_row_silent e) (r ∷ [])) (filter (is_row_silent e) (values_of u))
 
-pub silences_more : (e : HalEvent) (rows : List Row) (i : ℕ) (r : Row) (old new : List Fault) → i < length rows → r ≡ get_or rows i r → old ≡ row_silences (filter (is_row_silent e) (take i rows)) → new ≡ old ++ silence_of e r → new ≡ row_silences (filter (is_row_silent e) (take (i + 1) rows))
-silences_more e rows i r old new l item before' now' =
-    now' ∙ (ap (λ z. old ++ silence_of e z) item ∙ (ap (λ z. z ++ silence_of e (get_or rows i r)) before' ∙ sym (silences-step e rows i r l)))
+pub silences_end : (e : HalEvent) (t : List (ℕ × Row)) (old all : List Fault) → t ≡ [] → old ++ row_silences (filter (is_row_silent e) (values_of t)) ≡ all → old ≡ all
+silences_end e t old all is so =
+    sym (append-nil old) ∙ (ap (λ z. old ++ row_silences (filter (is_row_silent e) (values_of z))) (sym is) ∙ so)
 
 -- ---- one more element
 
@@ -61,21 +68,16 @@ filter_more {X} p xs i d wanted old new l before' is now' =
     let s : i + 1 ≡ suc i = omega arith in
     now' ∙ (rw (before', is) (sym (rw (s, take-suc xs i d l) (filter-append p (take i xs) (get_or xs i d ∷ [])))))
 
-pub kept_more : {X Y : Type 0} (f : X → Y) (p : X → Bool) (xs : List X) (i : ℕ) (d : X) (wanted : Bool) (old new : List Y) → i < length xs → old ≡ map f (filter p (take i xs)) → wanted ≡ p (get_or xs i d) → new ≡ old ++ (if wanted then f (get_or xs i d) ∷ [] else []) → new ≡ map f (filter p (take (i + 1) xs))
-kept_more {X} {Y} f p xs i d wanted old new l before' is now' =
-    let s : i + 1 ≡ suc i = omega arith in
-    now' ∙ (rw (before', is) (sym (rw (s, take-suc xs i d l, filter-append p (take i xs) (get_or xs i d ∷ [])) (map-append f (filter p (take i xs)) (filter p (get_or xs i d ∷ [])) ∙ ap (λ z. map f (filter p (take i xs)) ++ z) (by (p (get_or xs i d)))))))
-  where
-    by : (b : Bool) → map f (if b then get_or xs i d ∷ [] else []) ≡ (if b then f (get_or xs i d) ∷ [] else [])
-    by true = refl
-    by false = refl
-
--- the same of an element that is owned
-pub kept_item : {X Y : Type 0} (f : X → Y) (p : X → Bool) (xs : List X) (i : ℕ) (x : X) (wanted : Bool) (old new : List Y) → i < length xs → x ≡ get_or xs i x → old ≡ map f (filter p (take i xs)) → wanted ≡ p x → new ≡ old ++ (if wanted then f x ∷ [] else []) → new ≡ map f (filter p (take (i + 1) xs))
-kept_item f p xs i x wanted old new l item before' is now' =
-    kept_more f p xs i x wanted old new l before' (is ∙ ap p item) (now' ∙ ap (λ z. old ++ (if wanted then f z ∷ [] else [])) item)
-
 -- requests as faults
 pub rows_told : (rows : List Row) → at_frames (map frame_of rows) ≡ at_rows rows
 rows_told [] = refl
 rows_told (r ∷ rows) = ap (λ z. at r.frame None ∷ z) (rows_told rows)
+
+-- the numbers of rows that pass a test, beside theirs
+pub frames_told : (p : Row → Bool) (es : List (ℕ × Row)) → map (λ e. frame_of e.1) (filter (λ e. p e.1) es) ≡ map frame_of (filter p (values_of es))
+frames_told p [] = refl
+frames_told p (e ∷ es) = go (p e.1) (frames_told p es)
+  where
+    go : (b : Bool) → map (λ (x : ℕ × Row). frame_of x.1) (filter (λ (x : ℕ × Row). p x.1) es) ≡ map frame_of (filter p (values_of es)) → map (λ (x : ℕ × Row). frame_of x.1) (if b then e ∷ filter (λ (x : ℕ × Row). p x.1) es else filter (λ (x : ℕ × Row). p x.1) es) ≡ map frame_of (if b then e.1 ∷ filter p (values_of es) else filter p (values_of es))
+    go true so = ap (λ (z : List ℕ). e.1.frame ∷ z) so
+    go false so = so

@@ -1,5 +1,7 @@
 //! What an event is at fault in that breaks a rule.
-ghost use Rattle.std.specs.Prelude.{◌≡◌, ◌==◌, ◌&&◌, ◌∷◌, [], ◌++◌, None, Some, filter, map, not, option_copied, IfOk, OnOk, if◌then◌else◌};
+ghost use Rattle.std.specs.Prelude.{◌≡◌, ◌==◌, ◌&&◌, ◌∷◌, [], ◌++◌, None, Some, filter, map, not, option_copied, IfOk, OnOk, if◌then◌else◌, ℕ};
+ghost use Rattle.std.specs.Map.Iter.{ShowsInOrder, deref_pair};
+ghost use Rattle.hal_rows.specs.declared.row.Row.{Row as ARow};
 ghost use Rattle.hal_model.specs.Rules.{at, at_buffers, at_frames, at_stream, at_targets, frame_in, plain};
 ghost use Rattle.hal_model.specs.Callbacks.{has_acquire, is_unclear};
 ghost use Rattle.hal_model.specs.Device.{is_idle_most, is_unnamed};
@@ -20,9 +22,10 @@ use hal_calls::stream::{
     is_idle_most, is_target_unknown_in, is_twice_stream, is_unknown_in, is_unnamed,
 };
 use hal_model::{Fault, HalEvent, HalStream, HalTarget, Returned, StreamMax};
+use hal_row::row::{is_outstanding, is_unannounced_at};
 use hal_rows::{Row, TargetRow};
 use hal_table::HalTable;
-use hal_table::row::{is_outstanding, is_unannounced_at};
+use lru::Iter;
 use std::alloc::Global;
 
 // ---- one fault
@@ -104,13 +107,19 @@ fn is_meant(which: Which, event: &HalEvent, row: &Row) -> bool
     }
 }
 
-fn add_frame(wanted: bool, frame: u32, frames: &mut Vec<u32>) -> Result<(), NoMemory>
-    ensures { OnOk result (frames.new.items ≡ frames.old.items ++ (if wanted then frame ∷ [] else [])) }
+fn frames_of(
+    alloc: Global,
+    which: Which,
+    event: &HalEvent,
+    rows: Iter<'_, u32, Row>,
+) -> Result<Vec<u32>, NoMemory>
+    requires { ShowsInOrder (deref_pair {K = ℕ} {X = ARow}) }
+    ensures { IfOk result (λ frames. frames.items
+        ≡ map (λ e. frame_of e.1) (filter (λ e. is_meant which event.now e.1) rows.entry)) }
 {
-    if wanted {
-        frames.push(frame)?;
-    }
-    Ok(())
+    rows.filter(|(_, row)| is_meant(which, event, row))
+        .map(|(_, row)| row.frame)
+        .collect(alloc)
 }
 
 /// The numbers of the requests that are meant.
@@ -118,15 +127,12 @@ pub(crate) fn frames_meant(
     alloc: Global,
     which: Which,
     event: &HalEvent,
-    rows: &[Row],
+    table: &HalTable,
 ) -> Result<Vec<u32>, NoMemory>
-    ensures { IfOk result (λ frames. frames.items ≡ map frame_of (filter (is_meant which event.now) rows.now)) }
+    ensures { IfOk result (λ frames. frames.items
+        ≡ map frame_of (filter (is_meant which event.now) (state_of table.now).rows)) }
 {
-    let mut frames = Vec::new(alloc);
-    for row in rows {
-        let wanted = is_meant(which, event, row);
-        add_frame(wanted, row.frame, &mut frames)?;
-    }
+    let frames = frames_of(alloc, which, event, table.rows())?;
     Ok(frames)
 }
 
@@ -142,11 +148,12 @@ pub(crate) fn rows_meant(
     alloc: Global,
     which: Which,
     event: &HalEvent,
-    rows: &[Row],
+    table: &HalTable,
 ) -> Result<Vec<Fault>, NoMemory>
-    ensures { IfOk result (λ faults. faults.items ≡ at_rows (filter (is_meant which event.now) rows.now)) }
+    ensures { IfOk result (λ faults. faults.items
+        ≡ at_rows (filter (is_meant which event.now) (state_of table.now).rows)) }
 {
-    let frames = frames_meant(alloc, which, event, rows)?;
+    let frames = frames_meant(alloc, which, event, table)?;
     at_frames(alloc, frames.as_slice())
 }
 
@@ -187,12 +194,13 @@ fn add_silent(
 pub(crate) fn rows_silent(
     alloc: Global,
     event: &HalEvent,
-    rows: &[Row],
+    table: &HalTable,
 ) -> Result<Vec<Fault>, NoMemory>
-    ensures { IfOk result (λ faults. faults.items ≡ row_silences (filter (is_row_silent event.now) rows.now)) }
+    ensures { IfOk result (λ faults. faults.items
+        ≡ row_silences (filter (is_row_silent event.now) (state_of table.now).rows)) }
 {
     let mut faults = Vec::new(alloc);
-    for row in rows {
+    for (_, row) in table.rows() {
         add_silent(alloc, event, row, &mut faults)?;
     }
     Ok(faults)

@@ -341,7 +341,7 @@ fn faults(
         Rule::NoOutput => own(alloc, event),
         Rule::NoSettings => own(alloc, event),
         Rule::TwoInputs => one(alloc, plain()),
-        Rule::ConfigureInFlight => rows_meant(alloc, Which::InFlight, event, table.rows()),
+        Rule::ConfigureInFlight => rows_meant(alloc, Which::InFlight, event, table),
         Rule::OverlappingCalls => one(alloc, plain()),
         Rule::CallAfterClose => one(alloc, plain()),
         Rule::FrameNumber => own(alloc, event),
@@ -362,7 +362,7 @@ fn faults(
         Rule::UnknownFrame => own(alloc, event),
         Rule::CallbackAfterClose => own(alloc, event),
         Rule::CallbackAfterFailure => own(alloc, event),
-        Rule::FailedWithFrames => rows_meant(alloc, Which::Outstanding, event, table.rows()),
+        Rule::FailedWithFrames => rows_meant(alloc, Which::Outstanding, event, table),
         Rule::ShutterTwice => own(alloc, event),
         Rule::ShutterAfterRequestError => own(alloc, event),
         Rule::EmptyResult => own(alloc, event),
@@ -382,10 +382,10 @@ fn faults(
         Rule::RequestErrorLate => own(alloc, event),
         Rule::ErrorForGoodBuffer => one(alloc, named(event)),
         Rule::ErrorUnknownStream => one(alloc, named(event)),
-        Rule::FlushLeft => rows_meant(alloc, Which::Left, event, table.rows()),
-        Rule::CloseLeft => rows_meant(alloc, Which::Outstanding, event, table.rows()),
-        Rule::FailedWithoutNotice => rows_silent(alloc, event, table.rows()),
-        Rule::NoShutter => rows_meant(alloc, Which::Unlit, event, table.rows()),
+        Rule::FlushLeft => rows_meant(alloc, Which::Left, event, table),
+        Rule::CloseLeft => rows_meant(alloc, Which::Outstanding, event, table),
+        Rule::FailedWithoutNotice => rows_silent(alloc, event, table),
+        Rule::NoShutter => rows_meant(alloc, Which::Unlit, event, table),
     }
 }
 

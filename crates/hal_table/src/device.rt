@@ -1,17 +1,18 @@
 //! What is known of the device, and how an event is noted in it.
 ghost use Rattle.std.specs.Prelude.{◌≡◌, ◌<◌, ◌&&◌, ◌||◌, [], false, length, IfOk, OnOk, if◌then◌else◌};
 ghost use Rattle.hal_rows.specs.declared.device.Call.{Call as ACall};
-ghost use Rattle.hal_rows.specs.Device.{above, asked_after, begun_after, device_of, kills, most_after, note_device, settings_after, streams_after, top_after};
+ghost use Rattle.hal_rows.specs.Device.{asked_after, begun_after, device_of, kills, most_after, note_device, settings_after, streams_after, top_after};
 ghost use Rattle.hal_table.specs.Devices.{call_after};
 
-use crate::word::{
+use cam_types::{Listing, NoMemory};
+use hal_model::{HalEvent, HalStream, StreamMax};
+use hal_rows::{Call, Device};
+use hal_tops::above;
+use hal_words::word::{
     begins_close, begins_configure, begins_flush, begins_request, configures, ends_close,
     ends_configure, ends_flush, inited, inits, is_error_device, is_init_ok, is_no_device, opened,
     opens, stands, templated, templates,
 };
-use cam_types::{Listing, NoMemory};
-use hal_model::{HalEvent, HalStream, StreamMax};
-use hal_rows::{Call, Device};
 use std::alloc::{AllocError, Global};
 
 // ---- calls
@@ -142,14 +143,6 @@ fn top_after(event: &HalEvent, top: u64) -> u64
         HalEvent::RequestOk { frame } => above(*frame, top),
         _ => top,
     }
-}
-
-/// One above the number, or what is above it.
-pub(crate) fn above(number: u32, top: u64) -> u64
-    ensures { result ≡ above number top }
-{
-    let number = u64::from(number);
-    if number < top { top } else { number + 1 }
 }
 
 /// How many requests were begun. An error where the number is too great to be kept.

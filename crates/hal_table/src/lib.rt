@@ -2,14 +2,7 @@
 //! that brought something back. Each event is noted in it.
 #![tactic(auto)]
 
-pub mod buffer;
 mod device;
-mod order;
-pub mod row;
-mod rows;
 mod table;
-mod target;
-pub mod word;
 
 pub use table::HalTable;
-pub use target::has_number;

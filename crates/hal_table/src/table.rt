@@ -1,20 +1,24 @@
 //! The state of a judge.
-ghost use Rattle.std.specs.Prelude.{◌≡◌, ◌∷◌, ℕ, find, map, option_copied, IfOk, OnOk};
-ghost use Rattle.hal_model.specs.Words.{begins_request};
-ghost use Rattle.hal_rows.specs.Judged.{ends_again_at, excused_at, is_row, names_idle_at, of_called, of_live};
+ghost use Rattle.std.specs.Prelude.{◌≡◌, ◌∷◌, ℕ, false, option_copied, true, IfOk, OnOk};
+ghost use Rattle.std.specs.List.{list_any};
+ghost use Rattle.std.specs.Map.{values_of};
+ghost use Rattle.std.specs.Map.Iter.{ShowsInOrder, deref_pair};
+ghost use Rattle.hal_rows.specs.declared.row.Row.{Row as ARow};
+ghost use Rattle.hal_rows.specs.Judged.{ends_again_at, excused_at, held_count_at, is_held_at, is_requesting_at, is_row, is_row_called_from, names_idle_at, of_called, of_live};
 ghost use Rattle.hal_rows.specs.Noting.{first_state, is_stray_at, next_state, noted};
 ghost use Rattle.hal_rows.specs.Row.{fresh_row, row_for, rows_but};
-ghost use Rattle.hal_table.specs.Settled.{IsTopped};
+ghost use Rattle.hal_tops.specs.Settled.{IsTopped};
 ghost use Rattle.hal_table.specs.State.{state_of};
 
 use crate::device::{new_device, note_device};
-use crate::order::{Top, top_in};
-use crate::row::{Start, is_in_call};
-use crate::rows::{begin_row, find_row, note_rows, raise_found};
-use crate::word::is_open_ok;
 use cam_types::{Listing, NoMemory};
+use hal_live::LiveRows;
 use hal_model::{HalEvent, HalTarget};
+use hal_row::row::{Start, fresh_row, is_in_call};
 use hal_rows::{Device, Order, Row};
+use hal_tops::{Tops, raise_found};
+use hal_words::word::is_open_ok;
+use lru::Iter;
 use std::alloc::Global;
 
 /// What a judge keeps of a log: the device, the rows of the live requests, and for each order who was begun last of the
@@ -23,21 +27,21 @@ use std::alloc::Global;
 pub struct HalTable {
     alloc: Global,
     device: Device,
-    rows: Vec<Row>,
-    tops: Vec<Top>,
+    rows: LiveRows,
+    tops: Tops,
 }
 
 impl HalTable {
-    /// The state of the empty log.
-    pub fn new(alloc: Global) -> HalTable
-        ensures { (k : ℕ) → state_of result ≡ first_state k }
+    /// The state of the empty log. An error only where memory runs out.
+    pub fn new(alloc: Global) -> Result<HalTable, NoMemory>
+        ensures { IfOk result (λ table. (k : ℕ) → state_of table ≡ first_state k) }
     {
-        HalTable {
+        Ok(HalTable {
             alloc,
             device: new_device(alloc),
-            rows: Vec::new(alloc),
-            tops: Vec::new(alloc),
-        }
+            rows: LiveRows::new(alloc)?,
+            tops: Tops::new(alloc),
+        })
     }
 
     /// What is known of the device.
@@ -47,25 +51,54 @@ impl HalTable {
         &self.device
     }
 
-    /// The rows of the live requests, that which was begun last first.
-    pub fn rows(&self) -> &[Row]
-        ensures { result.now ≡ (state_of self.now).rows }
+    /// The rows of the live requests, that which was begun last first, each beside its request's number.
+    pub fn rows(&self) -> Iter<'_, u32, Row>
+        ensures rows { values_of result ≡ (state_of self.now).rows }
+        ensures runs { ShowsInOrder (deref_pair {K = ℕ} {X = ARow}) }
     {
-        &self.rows
+        self.rows.iter()
     }
 
     /// One above the rank of the last-begun of the requests that brought back what the order asks for.
     pub fn top(&self, order: Order) -> u64
         ensures { result ≡ (state_of self.now).top order }
     {
-        top_in(&self.tops, order)
+        self.tops.get(order)
     }
 
     /// The row of a request, if it is live.
     pub fn row_for(&self, frame: u32) -> Option<&Row>
         ensures { option_copied result ≡ row_for frame (state_of self.now).rows }
     {
-        find_row(&self.rows, frame)
+        self.rows.row_for(frame)
+    }
+
+    /// Whether a request is in call.
+    pub fn is_requesting(&self) -> bool
+        ensures { result ≡ is_requesting_at (state_of self.now) }
+    {
+        self.rows.is_calling()
+    }
+
+    /// Whether a request is in call whose number isn't below this one.
+    pub fn is_called_from(&self, frame: u32) -> bool
+        ensures { result ≡ list_any (is_row_called_from frame) (state_of self.now).rows }
+    {
+        self.rows.is_called_from(frame)
+    }
+
+    /// Whether a live request holds the buffer.
+    pub fn is_held(&self, buffer: u32) -> bool
+        ensures { result ≡ is_held_at buffer (state_of self.now).rows }
+    {
+        self.rows.is_held(buffer)
+    }
+
+    /// How many buffers of the stream live requests hold.
+    pub fn held_count(&self, stream: u32) -> u64
+        ensures { result ≡ held_count_at stream (state_of self.now).rows }
+    {
+        self.rows.held_count(stream)
     }
 
     /// Whether a request is live.
@@ -128,13 +161,14 @@ impl HalTable {
         ensures { OnOk result (state_of self.new ≡ next_state parts event.now (state_of self.old)) }
     {
         if is_open_ok(event) {
-            *self = HalTable::new(self.alloc);
+            *self = HalTable::new(self.alloc)?;
             return Ok(());
         }
         if self.is_stray(event) {
             return Ok(());
         }
-        self.note_heard(parts, event, excused)
+        self.note_heard(parts, event, excused)?;
+        Ok(())
     }
 
     /// Notes an event that is heard.
@@ -163,14 +197,8 @@ impl HalTable {
             }
             _ => {
                 let flushing = self.device.flush.out;
-                note_rows(
-                    self.alloc,
-                    parts,
-                    flushing,
-                    event,
-                    &mut self.rows,
-                    &mut self.tops,
-                )?;
+                self.rows
+                    .note(self.alloc, parts, flushing, event, &mut self.tops)?;
                 note_device(self.alloc, event, &mut self.device)?;
                 Ok(())
             }
@@ -185,13 +213,12 @@ impl HalTable {
         targets: &Listing<HalTarget>,
     ) -> Result<(), NoMemory>
         ensures device { self.new.device ≡ self.old.device }
-        ensures rows { OnOk result (self.new.rows.items ≡ fresh_row parts start.frame start.rank targets.now start.same
-            start.initialized start.dead start.excused ∷ rows_but start.frame self.old.rows.items) }
-        ensures tops { OnOk result (IsTopped (row_for start.frame self.old.rows.items)
-            self.old.tops.items self.new.tops.items) }
+        ensures rows { OnOk result (self.new.rows ≡ fresh_row parts start.frame start.rank targets.now start.same
+            start.initialized start.dead start.excused ∷ rows_but start.frame self.old.rows) }
+        ensures tops { OnOk result (IsTopped (row_for start.frame self.old.rows) self.old.tops self.new.tops) }
     {
-        raise_found(&mut self.tops, find_row(&self.rows, start.frame))?;
-        begin_row(self.alloc, parts, start, targets, &mut self.rows)?;
-        Ok(())
+        raise_found(&mut self.tops, self.rows.row_for(start.frame))?;
+        let row = fresh_row(self.alloc, parts, start, targets)?;
+        self.rows.begin(self.alloc, row)
     }
 }

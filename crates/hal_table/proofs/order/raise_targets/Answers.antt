@@ -1,5 +1,0 @@
-use Rattle.hal_table.proofs.Tops.{raised_more}
-use Rattle.hal_table.proofs.order.raise_targets.Goals as goal
-
-pub loop-target-preserved : goal.loop-target-preserved
-loop-target-preserved c = raised_more c.args.rank c.args.targets.now c.loop-target.target-index _ _ _ _ c.loop-target-test.true c.loop-target.invariant c.in_ok-raise_target.ensures
