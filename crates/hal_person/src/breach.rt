@@ -176,7 +176,7 @@ fn is_same_event(last: Option<Breach>, breach: &Breach) -> bool
 }
 
 /// Whether it is of the same event and rule.
-fn is_same_heading(last: Option<Breach>, breach: &Breach) -> bool
+pub fn is_same_heading(last: Option<Breach>, breach: &Breach) -> bool
     ensures { result ≡ is_same_heading last breach.now }
 {
     match last {

@@ -10,6 +10,8 @@ mod search;
 mod sentence;
 mod sum;
 
+pub use breach::is_same_heading;
 pub use person::person_text;
 pub use refusal::refused_text;
+pub use search::front;
 pub use sentence::sentence_of;

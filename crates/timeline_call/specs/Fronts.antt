@@ -4,8 +4,9 @@ use Rattle.cam_types.specs.declared.script.Script.{Script}
 use Rattle.trace_check.specs.declared.verdict.Verdict.{Verdict}
 use Rattle.trace_check.specs.declared.verdict.Verdict.TheVariants.{IllegalAt}
 use Rattle.trace_model.specs.declared.entry.Entry.{Entry}
+use Rattle.timeline_chart.specs.declared.chart.Chart.{Chart}
+use Rattle.timeline_model.specs.Charts.{chart_of}
 use Rattle.timeline_model.specs.Timelines.{timeline}
-use Rattle.timeline_model.specs.declared.drawn.Timeline.{Timeline}
 use Rattle.timeline_svg.specs.Pictures.{svg_text}
 use Rattle.timeline_json.specs.Timelines.{json_text}
 use Rattle.timeline_call.specs.declared.form.Form.{Form}
@@ -22,12 +23,12 @@ abbrev pub fault_in : List Entry → Verdict → Option Entry
 fault_in entries (IllegalAt position _) = slice_get entries position
 fault_in entries _ = None
 
--- the text of a timeline in a form
-abbrev pub text_in : Form → Timeline → Option Entry → List ℕ → List ℕ
-text_in Svg shown fault note = svg_text shown fault note
-text_in Perfetto shown fault note = json_text shown fault note
+-- the text of a chart in a form
+abbrev pub text_in : Form → Chart → List ℕ
+text_in Svg chart = svg_text chart
+text_in Perfetto chart = json_text chart
 
 -- the timeline of the entries that are allowed, with the one that isn't and the verdict
 unfoldable pub text_of : Form → Script → List Entry → Verdict → List ℕ
 text_of form script entries v =
-    text_in form (timeline script (reverse (front entries v))) (fault_in entries v) (note_text v)
+    text_in form (chart_of (timeline script (reverse (front entries v))) (fault_in entries v) (note_text v))

@@ -1,3 +1,5 @@
 pub mod Notes
 pub mod Fronts
+pub mod Kinds
+pub mod Logs
 pub mod Shown

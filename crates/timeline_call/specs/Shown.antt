@@ -1,7 +1,14 @@
 -- What `timeline` answers and writes. (docs/FORMATS.md)
-use Rattle.std.specs.Prelude.{◌≡◌, ◌≢◌, ℕ, List, Result, Ok, Err, length, nat_lt, reverse, true, false, ◌⊎◌}
+use Rattle.std.specs.Prelude.{◌≡◌, ◌≢◌, ℕ, Bool, List, Result, Ok, Err, length, nat_lt, reverse, true, false, ◌⊎◌}
 use Rattle.io_edge.specs.States.{SinkState, Writes}
 use Rattle.cam_types.specs.declared.script.Script.{Script}
+use Rattle.hal_text.specs.Meaning.{log_of}
+use Rattle.hal_text.specs.declared.cause.LogRefused.{LogRefused}
+use Rattle.hal_text.specs.declared.cause.LogRefused.TheVariants.{Bad as BadLog, NoMemory as NoLogMemory}
+use Rattle.hal_text.specs.declared.log.HalLog.{HalLog}
+use Rattle.hal_person.specs.Refusal.{refused_text as refused_log_text}
+use Rattle.hal_timeline.specs.Charts.{breaches_of}
+use Rattle.hal_timeline.specs.Groups.{is_some_breach}
 use Rattle.line_reading.specs.Causes.{number_of}
 use Rattle.line_reading.specs.declared.cause.TextRefused.{TextRefused}
 use Rattle.line_reading.specs.declared.cause.TextRefused.TheVariants.{Bad, NoMemory}
@@ -21,6 +28,8 @@ use Rattle.judge_text.specs.Parts.{first_line, script_part, trace_part}
 use Rattle.judge_text.specs.Profiles.{profile_of}
 use Rattle.timeline_call.specs.declared.form.Form.{Form}
 use Rattle.timeline_call.specs.Fronts.{text_of}
+use Rattle.timeline_call.specs.Kinds.{is_hal}
+use Rattle.timeline_call.specs.Logs.{log_status, log_text}
 
 -- the trace has this verdict, and the text is its timeline
 pub record HasTimeline (form : Form) (script : Script) (trace : TraceList) (status : ℕ) (text : List ℕ) : Type 0 where
@@ -55,15 +64,27 @@ ShowsWhole form input status text =
     let n = first_line input in
     ShowsParts form n (script_of (script_part input)) (trace_of n (trace_part input)) status text
 
--- the status and the whole text that belong to an input: it is too long, or has two parts
+-- of what a text means as a hal log
+abbrev pub ShowsLog : Form → Result HalLog LogRefused → ℕ → List ℕ → Type 0
+ShowsLog form (Ok log) status text = (status ≡ log_status log) × (text ≡ log_text form log)
+ShowsLog form (Err (BadLog line cause)) status text = (status ≡ 1) × (text ≡ refused_log_text line cause)
+ShowsLog form (Err NoLogMemory) status text = ⊥
+
+-- of an input that is a hal log, or isn't
+abbrev pub ShowsKind : Form → List ℕ → Bool → ℕ → List ℕ → Type 0
+ShowsKind form input true status text = ShowsLog form (log_of input) status text
+ShowsKind form input false status text = ShowsWhole form input status text
+
+-- the status and the whole text that belong to an input: it is too long, or is of one of the kinds
 abbrev pub Shows : Form → List ℕ → ℕ → List ℕ → Type 0
 Shows form input status text =
     ((nat_lt input_limit (length input) ≡ true) × (status ≡ 1) × (text ≡ refused_trace_text 0 45))
-    ⊎ ((nat_lt input_limit (length input) ≡ false) × ShowsWhole form input status text)
+    ⊎ ((nat_lt input_limit (length input) ≡ false) × ShowsKind form input (is_hal input) status text)
 
 -- the input is a script and a trace of its profile, the trace is a complete legal run of the script, and its timeline
 -- was written, and nothing else
-pub record IsShown (form : Form) (input : List ℕ) (before after : SinkState) : Type 0 where
+pub record IsTraceShown (form : Form) (input : List ℕ) (before after : SinkState) : Type 0 where
+  pub kind : is_hal input ≡ false
   pub script : Script
   pub meaning : script_of (script_part input) ≡ Ok script
   pub trace : TraceList
@@ -71,3 +92,14 @@ pub record IsShown (form : Form) (input : List ℕ) (before after : SinkState) :
   pub agreeing : profile_of trace ≡ script.profile
   pub complete : IsComplete script (reverse trace.entries)
   pub written : Writes before after (text_of form script trace.entries Legal)
+
+-- the input is a hal log that breaks none of the rules, and its timeline was written, and nothing else
+pub record IsLogShown (form : Form) (input : List ℕ) (before after : SinkState) : Type 0 where
+  pub kind : is_hal input ≡ true
+  pub log : HalLog
+  pub meaning : log_of input ≡ Ok log
+  pub kept : is_some_breach (breaches_of log) ≡ false
+  pub written : Writes before after (log_text form log)
+
+abbrev pub IsShown : Form → List ℕ → SinkState → SinkState → Type 0
+IsShown form input before after = IsTraceShown form input before after ⊎ IsLogShown form input before after

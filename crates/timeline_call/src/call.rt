@@ -1,4 +1,4 @@
-//! `timeline`: a script and a trace are read, the trace is judged, and it is drawn.
+//! `timeline`: a script and a trace, or a hal log, is read and judged, and it is drawn.
 ghost use Rattle.std.specs.Prelude.{◌≡◌, ◌≢◌, ◌≤◌, IfSome, length, true};
 ghost use Rattle.std.specs.List.{list_all};
 ghost use Rattle.trace_model.specs.Printable.{is_printable};
@@ -10,9 +10,12 @@ ghost use Rattle.judge_text.specs.Lines.{verdict_status};
 ghost use Rattle.call_status.specs.Answers.{AnswersWithMemory, Tells, TellsBy, Untouched};
 ghost use Rattle.trace_check.specs.Verdict.{IsVerdict};
 ghost use Rattle.timeline_call.specs.Fronts.{text_of};
-ghost use Rattle.timeline_call.specs.Shown.{IsShown, Shows, ShowsBoth, ShowsTrace, ShowsWhole};
+ghost use Rattle.timeline_call.specs.Kinds.{is_hal};
+ghost use Rattle.timeline_call.specs.Shown.{IsShown, Shows, ShowsBoth, ShowsKind, ShowsTrace, ShowsWhole};
 
 use crate::form::Form;
+use crate::kind::is_hal;
+use crate::log::show_log;
 use crate::picture::text_of;
 use call_status::{Status, answer};
 use cam_types::Script;
@@ -28,16 +31,17 @@ use trace_reader::{TRACE_BYTES, TraceRefused, read_is_spelled};
 /// The cause of a trace whose profile isn't the script's.
 const PROFILE_DIFFERS: u8 = 46;
 
-/// Reads a script followed by a trace, and writes the timeline of the trace, also of one that isn't legal or complete.
-/// Where the input isn't such a script and trace, it writes the line of `check`. The status is that of `check`.
+/// Reads a script followed by a trace, and writes the timeline of the trace, also of one that isn't legal or complete;
+/// or reads a hal log, and writes its timeline, also of one that breaks rules. Where the input isn't that, it writes the
+/// line of `check`, or that of `hal`. The status is that of `check`, or of `hal`.
 pub fn timeline_call<S: Source, K: Sink>(
     alloc: Global,
     source: &mut S,
     sink: &mut K,
     form: Form,
 ) -> Status
-    // At status 0 the source was read to its end, its bytes are a script and a complete legal trace of its profile, and
-    // the timeline of the trace was written, and nothing else.
+    // At status 0 the source was read to its end, its bytes are a script and a complete legal trace of its profile, or a
+    // hal log that breaks none of the rules, and the timeline of that was written, and nothing else.
     ensures whole { result.number ≡ 0 → IsAtEnd (S.left source.new)
         × IfSome (S.left source.old) (λ input. IsShown form input (K.state sink.old) (K.state sink.new)) }
     // Each status and each text has its cause in the input's meaning: where no end failed and memory was there, the
@@ -61,6 +65,19 @@ pub fn timeline_call<S: Source, K: Sink>(
 
 /// Writes the timeline of an input that was read.
 fn show_input<K: Sink>(alloc: Global, form: Form, input: &[u8], sink: &mut K) -> Status
+    requires { length input.now ≤ 134217728 }
+    ensures { TellsBy (ShowsKind form input.now (is_hal input.now)) result.number
+        (K.state sink.old) (K.state sink.new) }
+{
+    if is_hal(input) {
+        show_log(alloc, form, input, sink)
+    } else {
+        show_parts(alloc, form, input, sink)
+    }
+}
+
+/// Writes the timeline of an input that is a script and a trace.
+fn show_parts<K: Sink>(alloc: Global, form: Form, input: &[u8], sink: &mut K) -> Status
     requires { length input.now ≤ 134217728 }
     ensures { TellsBy (ShowsWhole form input.now) result.number (K.state sink.old) (K.state sink.new) }
 {

@@ -1,8 +1,10 @@
-//! `timeline` draws a trace: see `specs/`.
+//! `timeline` draws a trace or a hal log: see `specs/`.
 #![tactic(auto)]
 
 mod call;
 mod form;
+mod kind;
+mod log;
 mod note;
 mod picture;
 

@@ -1,17 +1,15 @@
 //! The text of a trace that was judged.
-ghost use Rattle.std.specs.Prelude.{◌≡◌, ◌<◌, ◌^◌, IfOk, IfSome, IsTrue, length, true};
+ghost use Rattle.std.specs.Prelude.{◌≡◌, ◌<◌, ◌^◌, IfOk, length, true};
 ghost use Rattle.std.specs.List.{list_all};
 ghost use Rattle.trace_check.specs.Verdict.{IsVerdict};
 ghost use Rattle.trace_model.specs.Printable.{is_printable};
-ghost use Rattle.timeline_call.specs.Fronts.{fault_in, front, text_in, text_of};
+ghost use Rattle.timeline_call.specs.Fronts.{fault_in, front, text_of};
 
-use crate::form::Form;
+use crate::form::{Form, text_in};
 use crate::note::note_text;
 use cam_types::{NoMemory, Script};
 use std::alloc::Global;
-use timeline_json::json_text;
-use timeline_model::{Timeline, timeline_of};
-use timeline_svg::svg_text;
+use timeline_model::{chart_of, timeline_of};
 use trace_check::Verdict;
 use trace_model::Entry;
 
@@ -40,24 +38,6 @@ fn fault_in(entries: &[Entry], verdict: Verdict) -> Option<Entry>
     }
 }
 
-/// The text of a timeline, with the entry behind it that isn't allowed, and a note.
-fn text_in(
-    alloc: Global,
-    form: Form,
-    shown: &Timeline,
-    fault: Option<Entry>,
-    note: &[u8],
-) -> Result<Vec<u8>, NoMemory>
-    requires drawn { IsTrue (list_all (λ one. is_printable one.entry) shown.now.drawn) }
-    requires fault { IfSome fault (λ entry. IsTrue (is_printable entry)) }
-    ensures { IfOk result (λ text. text.items ≡ text_in form shown.now fault note.now) }
-{
-    match form {
-        Form::Svg => svg_text(alloc, shown, fault, note),
-        Form::Perfetto => json_text(alloc, shown, fault, note),
-    }
-}
-
 /// The text of a trace that has the verdict.
 #[tactic(auto, unfolding(crate::specs::Fronts::text_of))]
 pub fn text_of(
@@ -75,11 +55,6 @@ pub fn text_of(
     let legal = front(entries, verdict);
     let shown = timeline_of(alloc, script, legal)?;
     let note = note_text(alloc, verdict)?;
-    text_in(
-        alloc,
-        form,
-        &shown,
-        fault_in(entries, verdict),
-        note.as_slice(),
-    )
+    let chart = chart_of(alloc, &shown, fault_in(entries, verdict), note.as_slice())?;
+    text_in(alloc, form, &chart)
 }

@@ -1,7 +1,6 @@
 -- The kinds of trace events of Chrome. (our own choice of names)
-use Rattle.std.specs.Prelude.{ℕ, List, ◌∷◌, codes}
+use Rattle.std.specs.Prelude.{ℕ, List, codes}
 use Rattle.serde_json.specs.Data.{Data, number, unsigned, string, object, member, no_members}
-use Rattle.serde_json.specs.Written.{compact_text}
 use Rattle.timeline_json.specs.declared.track.Track.{Track}
 
 -- the line of an entry
@@ -66,10 +65,3 @@ naming_data what track called =
 -- the verdict on the trace
 abbrev pub verdict_data : List ℕ → Data
 verdict_data note = object (member (codes "verdict") (string note) no_members)
-
--- the text of a name, and that of a step of a flow behind a comma (44)
-unfoldable pub naming_text : List ℕ → Track → List ℕ → List ℕ
-naming_text what track name = compact_text (naming_data what track (called_data name))
-
-unfoldable pub flow_event_text : Track → ℕ → ℕ → List ℕ → List ℕ
-flow_event_text track place n phase = 44 ∷ compact_text (flow_data track place n phase)

@@ -1,132 +1,150 @@
--- The events of a timeline (our own choice): a place is a microsecond, as the trace events count.
-use Rattle.std.specs.Prelude.{ℕ, ◌+◌, ◌-◌, ◌*◌, Bool, true, false, List, [], ◌∷◌, ◌++◌, Option, Some, None, codes, decimal, length, map, nat_lt, if◌then◌else◌}
+-- The events of a chart (our own choice): a place is a microsecond, as the trace events count.
+use Rattle.std.specs.Prelude.{ℕ, ◌+◌, ◌-◌, Bool, true, false, ◌||◌, List, [], ◌∷◌, ◌++◌, Option, Some, None, codes, decimal, map, if◌then◌else◌}
 use Rattle.std.specs.List.{flat_map}
-use Rattle.std.specs.Option.{option_map}
 use Rattle.serde_json.specs.Data.{Data, Items, array, object, member, no_members, item, no_items}
 use Rattle.serde_json.specs.Written.{compact_text}
-use Rattle.trace_model.specs.declared.entry.Entry.{Entry}
-use Rattle.trace_model.specs.declared.entry.Entry.TheVariants.{Begin, Call, Send, Dropped, Filled, Failed, ErrorDevice, Early, Late}
-use Rattle.trace_text.specs.Spelling.{line_of}
-use Rattle.timeline_model.specs.Lines.{shown_line}
-use Rattle.timeline_model.specs.declared.drawn.Drawn.{Drawn}
-use Rattle.timeline_model.specs.declared.drawn.Timeline.{Timeline}
-use Rattle.timeline_model.specs.declared.drawn.Unfinished.{Unfinished}
-use Rattle.timeline_model.specs.declared.seat.Seat.{Seat}
-use Rattle.timeline_json.specs.Events.{called_data, count_data, flow_data, flow_event_text, levels_data, line_data, naming_data, naming_text, slice_data, verdict_data}
+use Rattle.timeline_chart.specs.declared.chart.Chart.{Chart}
+use Rattle.timeline_chart.specs.declared.chart.Group.{Group}
+use Rattle.timeline_chart.specs.declared.chart.Kind.{Kind}
+use Rattle.timeline_chart.specs.declared.chart.Kind.TheVariants.{Trace, Hal}
+use Rattle.timeline_chart.specs.declared.chart.Lane.{Lane}
+use Rattle.timeline_chart.specs.declared.chart.Piece.{Piece}
+use Rattle.timeline_chart.specs.declared.look.Look.{Look}
+use Rattle.timeline_chart.specs.declared.look.Look.TheVariants.{Send, Filled, Failed, Early, Late, RequestBegin, Unclear}
+use Rattle.timeline_json.specs.Events.{called_data, count_data, flow_data, levels_data, line_data, naming_data, slice_data, verdict_data}
 use Rattle.timeline_json.specs.Plain.{plain}
-use Rattle.timeline_json.specs.Tracks.{name_text, named, row_track, track_of}
+use Rattle.timeline_json.specs.Tracks.{call_text, fault_text, look_text, named, own, track_of}
 use Rattle.timeline_json.specs.declared.track.Track.{Track}
 
--- a slice begins where what the entry ends began, or else at its place
+-- a slice begins where what ends there began, or else at its place
 abbrev pub start_of : ℕ → Option ℕ → ℕ
 start_of place (Some from) = from
 start_of place None = place
 
--- the number of an entry's line in the trace, and its line
-abbrev pub numbered_line : ℕ → Entry → List ℕ
-numbered_line place e = decimal (place + 2) ++ 32 ∷ map plain (shown_line e)
+-- the number of a line, and the line
+abbrev pub numbered_line : ℕ → List ℕ → List ℕ
+numbered_line line title = decimal line ++ 32 ∷ map plain title
 
--- the slice of an entry, up to its place
-unfoldable pub entry_slice : Drawn → Data
-entry_slice d =
-    slice_data (track_of d.entry d.seat) (start_of d.place d.since) (d.place + 1 - start_of d.place d.since) (name_text d.entry) (line_data (numbered_line d.place d.entry))
+-- the slice of a piece, up to its place, with what is told of it
+unfoldable pub piece_slice : ℕ → List ℕ → Piece → Data
+piece_slice place told p =
+    slice_data (track_of p.look p.seat) (start_of place p.since) (place + 1 - start_of place p.since) (named (look_text p.look) p.frame) (line_data told)
 
--- the levels are told where they may change
-abbrev pub counts_at : Entry → Bool
-counts_at (Begin _) = true
-counts_at (Call _ _ _) = true
-counts_at (Send _ _ _ _ _) = true
-counts_at (Dropped _ _ _) = true
-counts_at ErrorDevice = true
-counts_at _ = false
+-- a flow begins with the send or the request, and goes on with each buffer that comes back or is filled
+abbrev pub begins_flow : Look → Bool
+begins_flow Send = true
+begins_flow RequestBegin = true
+begins_flow _ = false
+
+abbrev pub goes_on : Look → Bool
+goes_on Filled = true
+goes_on Failed = true
+goes_on Unclear = true
+goes_on Early = true
+goes_on Late = true
+goes_on _ = false
+
+abbrev pub phase_of : Look → List ℕ
+phase_of look = if begins_flow look then codes "s" else codes "t"
+
+abbrev pub flow_of : ℕ → Piece → Option ℕ → List Data
+flow_of place p (Some n) =
+    if begins_flow p.look || goes_on p.look
+    then flow_data (track_of p.look p.seat) place n (phase_of p.look) ∷ []
+    else []
+flow_of place p None = []
+
+unfoldable pub piece_events : ℕ → List ℕ → Piece → List Data
+piece_events place told p = piece_slice place told p ∷ flow_of place p p.frame
+
+-- a line that isn't allowed, or breaks a rule
+unfoldable pub fault_event : Kind → ℕ → List ℕ → Data
+fault_event kind place told = slice_data (own 6) place 1 (fault_text kind) (line_data told)
+
+abbrev pub fault_events : Kind → ℕ → List ℕ → Bool → List Data
+fault_events kind place told broken = if broken then fault_event kind place told ∷ [] else []
 
 abbrev pub one_if : Bool → ℕ
 one_if b = if b then 1 else 0
 
-unfoldable pub level_events : Drawn → List Data
-level_events d =
-    if counts_at d.entry then count_data d.place (levels_data d.queued (one_if d.stopping)) ∷ [] else []
+-- the level and the band, where they may have changed
+unfoldable pub level_events : Group → List Data
+level_events g = if g.counted then count_data g.place (levels_data g.level (one_if g.stopping)) ∷ [] else []
 
--- the frame whose flow begins or goes on with the entry
-abbrev pub flow_frame : Entry → Option Seat → Option ℕ
-flow_frame (Send n _ _ _ _) seat = Some n.0
-flow_frame (Filled n _ _ _ _) seat = Some n.0
-flow_frame (Failed n _ _ _) seat = Some n.0
-flow_frame (Early n _ _ _) seat = Some n.0
-flow_frame (Late _ _) seat = option_map (λ s. s.target.frame.0) seat
-flow_frame _ seat = None
+abbrev pub told_of : Group → List ℕ
+told_of g = numbered_line g.line g.title
 
--- a flow begins with the send, and goes on with each buffer that comes back or is filled
-abbrev pub phase_of : Entry → List ℕ
-phase_of (Send _ _ _ _ _) = codes "s"
-phase_of _ = codes "t"
+unfoldable pub group_events : Kind → Group → List Data
+group_events kind g =
+    flat_map (piece_events g.place (told_of g)) g.pieces
+    ++ (fault_events kind g.place (told_of g) g.broken ++ level_events g)
 
-abbrev pub flow_of : Drawn → Option ℕ → List Data
-flow_of d (Some n) = flow_data (track_of d.entry d.seat) d.place n (phase_of d.entry) ∷ []
-flow_of d None = []
+abbrev pub fault_of : Kind → Option Group → List Data
+fault_of kind (Some g) = group_events kind g
+fault_of kind None = []
 
-unfoldable pub flow_events : Drawn → List Data
-flow_events d = flow_of d (flow_frame d.entry d.seat)
-
-unfoldable pub drawn_events : Drawn → List Data
-drawn_events d = entry_slice d ∷ (level_events d ++ flow_events d)
-
--- a buffer that the device isn't done with, up to the end
-unfoldable pub unfinished_event : ℕ → Unfinished → Data
-unfinished_event last bar =
-    slice_data (row_track (Some bar.seat)) (start_of last bar.since) (last + 1 - start_of last bar.since) (named (codes "frame") (Some bar.seat.target.frame.0)) (line_data (codes "isn't done"))
-
--- the entry that isn't allowed
-unfoldable pub fault_events : ℕ → Option Entry → List Data
-fault_events place (Some e) =
-    slice_data (record { process = 1; thread = 6 }) place 1 (codes "not allowed") (line_data (numbered_line place e)) ∷ []
-fault_events place None = []
+-- a bar that isn't ended, up to the end
+unfoldable pub unfinished_event : ℕ → Piece → Data
+unfinished_event last p = piece_slice last (codes "isn't done") p
 
 abbrev pub thread : ℕ → List ℕ → Data
-thread number name = naming_data (codes "thread_name") (record { process = 1; thread = number }) (called_data name)
+thread number name = naming_data (codes "thread_name") (own number) (called_data name)
 
--- a stream's process, where there is that stream
-abbrev pub stream_name : ℕ → ℕ → List Data
-stream_name streams s =
-    if nat_lt s streams
-    then naming_data (codes "process_name") (record { process = 2 + s; thread = 0 }) (called_data (named (codes "stream") (Some s))) ∷ []
-    else []
+-- a stream's process
+abbrev pub stream_name : Lane → Data
+stream_name lane =
+    naming_data (codes "process_name") (record { process = 2 + lane.place; thread = 0 }) (called_data (named (codes "stream") (Some lane.stream)))
 
 abbrev pub camera_data : Data
-camera_data = naming_data (codes "process_name") (record { process = 1; thread = 0 }) (called_data (codes "camera"))
+camera_data = naming_data (codes "process_name") (own 0) (called_data (codes "camera"))
 
-unfoldable pub thread_names : List Data
-thread_names =
+-- the threads that each trace has
+abbrev pub trace_threads : List Data
+trace_threads =
     thread 1 (codes "calls") ∷ thread 2 (codes "send, drop") ∷ thread 3 (codes "shutter") ∷ thread 4 (codes "metadata")
     ∷ thread 5 (codes "fences") ∷ thread 6 (codes "not allowed") ∷ []
 
-unfoldable pub stream_names : ℕ → List Data
-stream_names streams =
-    stream_name streams 0 ++ (stream_name streams 1 ++ (stream_name streams 2 ++ stream_name streams 3))
+-- those that each hal log has, one for each kind of call among them
+abbrev pub hal_threads : List Data
+hal_threads =
+    thread 2 (codes "request") ∷ thread 3 (codes "shutter") ∷ thread 4 (codes "metadata") ∷ thread 6 (codes "breach")
+    ∷ []
 
--- all events behind the first: names, each entry in order, the buffers that aren't done, and the entry that isn't
--- allowed
-unfoldable pub more_events : Timeline → Option Entry → List Data
-more_events t fault =
-    thread_names
-    ++ (stream_names t.streams
-    ++ (flat_map drawn_events t.drawn
-    ++ (map (unfinished_event (length t.drawn)) t.unfinished ++ fault_events (length t.drawn) fault)))
+abbrev pub call_threads : List Data
+call_threads =
+    thread 7 (codes "open") ∷ thread 8 (codes "initialize") ∷ thread 9 (codes "template") ∷ thread 10 (codes "configure")
+    ∷ thread 11 (codes "flush") ∷ thread 12 (codes "close") ∷ []
+
+abbrev pub thread_names : Kind → List Data
+thread_names Trace = trace_threads
+thread_names Hal = hal_threads ++ call_threads
+
+-- all events behind the first: names, each line in order, the bars that aren't ended, and the line that isn't allowed
+unfoldable pub more_events : Chart → List Data
+more_events c =
+    thread_names c.kind
+    ++ (map stream_name c.lanes
+    ++ (flat_map (group_events c.kind) c.groups
+    ++ (map (unfinished_event c.count) c.unfinished ++ fault_of c.kind c.fault)))
 
 abbrev pub items_of : List Data → Items
 items_of [] = no_items
 items_of (d ∷ ds) = item d (items_of ds)
 
+-- a note as a line of text; 10 is LF
+abbrev pub note_line : List ℕ → List ℕ
+note_line note = map plain note ++ 10 ∷ []
+
 -- the whole
-unfoldable pub trace_data : Timeline → Option Entry → List ℕ → Data
-trace_data t fault note =
+unfoldable pub trace_data : Chart → Data
+trace_data c =
     object
-    (member (codes "otherData") (verdict_data (map plain note))
-    (member (codes "traceEvents") (array (items_of (camera_data ∷ more_events t fault))) no_members))
+    (member (codes "otherData") (verdict_data (flat_map note_line c.notes))
+    (member (codes "traceEvents") (array (items_of (camera_data ∷ more_events c))) no_members))
 
 -- its text
-unfoldable pub json_text : Timeline → Option Entry → List ℕ → List ℕ
-json_text t fault note = compact_text (trace_data t fault note)
+unfoldable pub json_text : Chart → List ℕ
+json_text c = compact_text (trace_data c)
 
 -- events, each behind a comma (44)
 abbrev pub behind_commas : List Data → List ℕ
@@ -134,46 +152,60 @@ behind_commas events = flat_map (λ d. 44 ∷ compact_text d) events
 
 -- ---- the parts of the text, as the code writes them. No public contract speaks of them.
 
-abbrev pub flow_text : Drawn → Option ℕ → List ℕ
-flow_text d (Some n) = flow_event_text (track_of d.entry d.seat) d.place n (phase_of d.entry)
-flow_text d None = []
+abbrev pub piece_text : ℕ → List ℕ → Piece → List ℕ
+piece_text place told p = behind_commas (piece_events place told p)
 
-abbrev pub drawn_text : Drawn → List ℕ
-drawn_text d =
-    (44 ∷ compact_text (entry_slice d))
-    ++ (behind_commas (level_events d) ++ flow_text d (flow_frame d.entry d.seat))
+abbrev pub group_text : Kind → Group → List ℕ
+group_text kind g =
+    flat_map (piece_text g.place (told_of g)) g.pieces
+    ++ (behind_commas (fault_events kind g.place (told_of g) g.broken) ++ behind_commas (level_events g))
+
+abbrev pub fault_group_text : Kind → Option Group → List ℕ
+fault_group_text kind (Some g) = group_text kind g
+fault_group_text kind None = []
 
 unfoldable pub thread_text : ℕ → List ℕ → List ℕ
 thread_text number name = 44 ∷ compact_text (thread number name)
 
-unfoldable pub threads_text : List ℕ
-threads_text =
+unfoldable pub trace_threads_text : List ℕ
+trace_threads_text =
     thread_text 1 (codes "calls")
     ++ (thread_text 2 (codes "send, drop")
     ++ (thread_text 3 (codes "shutter")
     ++ (thread_text 4 (codes "metadata") ++ (thread_text 5 (codes "fences") ++ thread_text 6 (codes "not allowed")))))
 
-abbrev pub streams_text : ℕ → List ℕ
-streams_text streams =
-    behind_commas (stream_name streams 0)
-    ++ (behind_commas (stream_name streams 1)
-    ++ (behind_commas (stream_name streams 2) ++ behind_commas (stream_name streams 3)))
+unfoldable pub hal_threads_text : List ℕ
+hal_threads_text =
+    thread_text 2 (codes "request")
+    ++ (thread_text 3 (codes "shutter") ++ (thread_text 4 (codes "metadata") ++ thread_text 6 (codes "breach")))
+
+unfoldable pub call_threads_text : List ℕ
+call_threads_text =
+    thread_text 7 (codes "open")
+    ++ (thread_text 8 (codes "initialize")
+    ++ (thread_text 9 (codes "template")
+    ++ (thread_text 10 (codes "configure") ++ (thread_text 11 (codes "flush") ++ thread_text 12 (codes "close")))))
+
+abbrev pub threads_text : Kind → List ℕ
+threads_text Trace = trace_threads_text
+threads_text Hal = hal_threads_text ++ call_threads_text
 
 unfoldable pub verdict_text : List ℕ → List ℕ
 verdict_text note = codes "{\"otherData\":" ++ compact_text (verdict_data note)
 
 unfoldable pub camera_text : List ℕ
-camera_text =
-    codes ",\"traceEvents\":["
-    ++ naming_text (codes "process_name") (record { process = 1; thread = 0 }) (codes "camera")
+camera_text = codes ",\"traceEvents\":[" ++ compact_text camera_data
 
-abbrev pub head_text : List ℕ → List ℕ
-head_text note = verdict_text (map plain note) ++ camera_text
+abbrev pub head_text : List (List ℕ) → List ℕ
+head_text notes = verdict_text (flat_map note_line notes) ++ camera_text
 
-abbrev pub rest_text : Timeline → Option Entry → List ℕ
-rest_text t fault =
-    threads_text
-    ++ (streams_text t.streams
-    ++ (flat_map drawn_text t.drawn
-    ++ (flat_map (λ bar. 44 ∷ compact_text (unfinished_event (length t.drawn) bar)) t.unfinished
-    ++ (behind_commas (fault_events (length t.drawn) fault) ++ codes "]}"))))
+unfoldable pub names_text : Chart → List ℕ
+names_text c = threads_text c.kind ++ flat_map (λ lane. 44 ∷ compact_text (stream_name lane)) c.lanes
+
+unfoldable pub events_text : Chart → List ℕ
+events_text c =
+    flat_map (group_text c.kind) c.groups
+    ++ (flat_map (λ p. 44 ∷ compact_text (unfinished_event c.count p)) c.unfinished ++ fault_group_text c.kind c.fault)
+
+unfoldable pub rest_text : Chart → List ℕ
+rest_text c = names_text c ++ (events_text c ++ codes "]}")

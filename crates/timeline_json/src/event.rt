@@ -2,7 +2,7 @@
 ghost use Rattle.std.specs.Prelude.{◌≡◌, ◌++◌, ◌∷◌, IfOk, OnOk};
 ghost use Rattle.serde_json.specs.View.{view};
 ghost use Rattle.serde_json.specs.Written.{compact_text};
-ghost use Rattle.timeline_json.specs.Events.{called_data, count_data, flow_data, flow_event_text, levels_data, line_data, naming_data, naming_text, slice_data, verdict_data};
+ghost use Rattle.timeline_json.specs.Events.{called_data, count_data, flow_data, levels_data, line_data, naming_data, slice_data, verdict_data};
 
 use crate::text::{put_event, put_value};
 use crate::track::Track;
@@ -114,7 +114,6 @@ pub fn put_levels(
 }
 
 /// Writes a step of the flow of a frame.
-#[tactic(auto, unfolding(crate::specs::Events::flow_event_text))]
 pub fn put_flow(
     out: &mut Vec<u8>,
     alloc: Global,
@@ -124,7 +123,7 @@ pub fn put_flow(
     phase: &str,
 ) -> Result<(), NoMemory>
     ensures { OnOk result (out.new.items ≡ out.old.items
-        ++ flow_event_text track place frame phase.now) }
+        ++ 44 ∷ compact_text (flow_data track place frame phase.now)) }
 {
     let event = flow(alloc, track, place, frame, phase)?;
     put_event(out, alloc, &event)
@@ -154,7 +153,6 @@ pub fn put_name(
 }
 
 /// Writes the name of a process or a track as a value.
-#[tactic(auto, unfolding(crate::specs::Events::naming_text))]
 pub fn put_naming(
     out: &mut Vec<u8>,
     alloc: Global,
@@ -162,7 +160,8 @@ pub fn put_naming(
     track: Track,
     name: &str,
 ) -> Result<(), NoMemory>
-    ensures { OnOk result (out.new.items ≡ out.old.items ++ naming_text what.now track name.now) }
+    ensures { OnOk result (out.new.items ≡ out.old.items
+        ++ compact_text (naming_data what.now track (called_data name.now))) }
 {
     let value = name_value(alloc, what, track, name)?;
     put_value(out, alloc, &value)

@@ -1,9 +1,10 @@
-//! A timeline as trace events of Chrome, in JSON. See `specs/`.
+//! A chart as trace events of Chrome, in JSON. See `specs/`.
 #![tactic(auto)]
 
 mod event;
 mod events;
 mod text;
 mod track;
+mod whole;
 
-pub use events::json_text;
+pub use whole::json_text;

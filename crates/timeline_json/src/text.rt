@@ -19,14 +19,22 @@ fn plain(byte: u8) -> char
     }
 }
 
+/// Writes a line as text.
+pub fn put_plain(text: &mut String, line: &[u8]) -> Result<(), NoMemory>
+    ensures { OnOk result (string_bytes text.new ≡ string_bytes text.old ++ map plain line.now) }
+{
+    for byte in line {
+        text.push(plain(*byte))?;
+    }
+    Ok(())
+}
+
 /// A line as text.
 pub fn plain_text(alloc: Global, line: &[u8]) -> Result<String, NoMemory>
     ensures { IfOk result (λ text. string_bytes text ≡ map plain line.now) }
 {
     let mut text = String::new(alloc);
-    for byte in line {
-        text.push(plain(*byte))?;
-    }
+    put_plain(&mut text, line)?;
     Ok(text)
 }
 

@@ -1,12 +1,11 @@
 //! The tracks, and what a slice is called.
 ghost use Rattle.std.specs.Prelude.{◌≡◌, IfOk, string_bytes};
-ghost use Rattle.timeline_json.specs.Tracks.{frame_in, kind_text, name_text, named, row_track, track_of};
+ghost use Rattle.timeline_json.specs.Tracks.{call_text, call_thread, fault_text, look_text, named, own, row_track, track_of};
 
 use cam_types::NoMemory;
 use command_words::word_text;
 use std::alloc::Global;
-use timeline_model::Seat;
-use trace_model::Entry;
+use timeline_chart::{HalCall, Kind, Look, Seat};
 
 /// A track: a thread of a process, as the trace events call them. Process 1 has what the whole camera does, and each
 /// stream has a process of its own, whose threads are its rows.
@@ -16,89 +15,108 @@ pub struct Track {
     pub thread: u64,
 }
 
-/// The track of a row of a stream, or one for what has none.
-pub fn row_track(seat: Option<Seat>) -> Track
-    ensures { result ≡ row_track seat }
-{
-    match seat {
-        Some(seat) => Track {
-            process: 2 + u64::from(seat.target.stream.0),
-            thread: 1 + u64::from(seat.row),
-        },
-        None => Track {
-            process: 1,
-            thread: 6,
-        },
-    }
-}
-
 /// The thread of process 1 with the number.
-fn own(thread: u64) -> Track
-    ensures { result ≡ record { process = 1; thread = thread } }
+pub fn own(thread: u64) -> Track
+    ensures { result ≡ own thread }
 {
     Track { process: 1, thread }
 }
 
-/// The track of an entry.
-pub fn track_of(entry: Entry, seat: Option<Seat>) -> Track
-    ensures { result ≡ track_of entry seat }
+/// The track of a row of a stream, or one for what has none.
+fn row_track(seat: Option<Seat>) -> Track
+    ensures { result ≡ row_track seat }
 {
-    match entry {
-        Entry::Begin { .. } => own(1),
-        Entry::Call { .. } => own(1),
-        Entry::Send { .. } => own(2),
-        Entry::Dropped { .. } => own(2),
-        Entry::Shutter { .. } => own(3),
-        Entry::ErrorDevice => own(3),
-        Entry::Partial { .. } => own(4),
-        Entry::ErrorRequest { .. } => own(4),
-        Entry::ErrorResult { .. } => own(4),
-        Entry::Release { .. } => own(5),
-        Entry::Signal { .. } => own(5),
+    match seat {
+        Some(seat) => Track {
+            process: 2 + u64::from(seat.lane),
+            thread: 1 + u64::from(seat.row),
+        },
+        None => own(4),
+    }
+}
+
+fn call_thread(call: HalCall) -> u64
+    ensures { result ≡ call_thread call }
+{
+    match call {
+        HalCall::Open => 7,
+        HalCall::Init => 8,
+        HalCall::Template => 9,
+        HalCall::Configure => 10,
+        HalCall::Flush => 11,
+        HalCall::Close => 12,
+    }
+}
+
+/// The track of a piece.
+pub fn track_of(look: Look, seat: Option<Seat>) -> Track
+    ensures { result ≡ track_of look seat }
+{
+    match look {
+        Look::Begin => own(1),
+        Look::Call { .. } => own(1),
+        Look::Send => own(2),
+        Look::Dropped => own(2),
+        Look::RequestBegin => own(2),
+        Look::RequestOk => own(2),
+        Look::RequestError => own(2),
+        Look::Shutter { .. } => own(3),
+        Look::ErrorDevice => own(3),
+        Look::Partial { .. } => own(4),
+        Look::ErrorRequest => own(4),
+        Look::ErrorResult => own(4),
+        Look::Release => own(5),
+        Look::Signal => own(5),
+        Look::CallBegin { call } => own(call_thread(call)),
+        Look::CallOk { call } => own(call_thread(call)),
+        Look::CallError { call } => own(call_thread(call)),
         _ => row_track(seat),
     }
 }
 
-/// What an entry of the kind is called.
-fn kind_text(entry: Entry) -> &'static str
-    ensures { result.now ≡ kind_text entry }
+fn call_text(call: HalCall) -> &'static str
+    ensures { result.now ≡ call_text call }
 {
-    match entry {
-        Entry::Begin { .. } => "begin",
-        Entry::Call { word, .. } => word_text(word),
-        Entry::Send { .. } => "send",
-        Entry::Dropped { .. } => "drop",
-        Entry::Shutter { .. } => "shutter",
-        Entry::Partial { .. } => "partial",
-        Entry::Filled { .. } => "ok",
-        Entry::Failed { .. } => "failed",
-        Entry::ErrorRequest { .. } => "error request",
-        Entry::ErrorResult { .. } => "error result",
-        Entry::ErrorBuffer { .. } => "error buffer",
-        Entry::ErrorDevice => "error device",
-        Entry::Release { .. } => "release",
-        Entry::Signal { .. } => "signal",
-        Entry::Early { .. } => "early",
-        Entry::Late { .. } => "filled",
+    match call {
+        HalCall::Open => "open",
+        HalCall::Init => "initialize",
+        HalCall::Template => "template",
+        HalCall::Configure => "configure",
+        HalCall::Flush => "flush",
+        HalCall::Close => "close",
     }
 }
 
-/// The frame that an entry names.
-fn frame_in(entry: Entry) -> Option<u32>
-    ensures { result ≡ frame_in entry }
+/// What a piece of the look is called.
+pub fn look_text(look: Look) -> &'static str
+    ensures { result.now ≡ look_text look }
 {
-    match entry {
-        Entry::Send { frame, .. } => Some(frame.0),
-        Entry::Dropped { frame, .. } => Some(frame.0),
-        Entry::Shutter { frame, .. } => Some(frame.0),
-        Entry::Partial { frame, .. } => Some(frame.0),
-        Entry::Filled { frame, .. } => Some(frame.0),
-        Entry::Failed { frame, .. } => Some(frame.0),
-        Entry::ErrorRequest { frame } => Some(frame.0),
-        Entry::ErrorResult { frame } => Some(frame.0),
-        Entry::ErrorBuffer { frame, .. } => Some(frame.0),
-        Entry::Early { frame, .. } => Some(frame.0),
-        _ => None,
+    match look {
+        Look::Begin => "begin",
+        Look::Call { word } => word_text(word),
+        Look::Send => "send",
+        Look::Dropped => "drop",
+        Look::Shutter { .. } => "shutter",
+        Look::Partial { .. } => "partial",
+        Look::Filled => "ok",
+        Look::Failed => "failed",
+        Look::ErrorRequest => "error request",
+        Look::ErrorResult => "error result",
+        Look::ErrorBuffer => "error buffer",
+        Look::ErrorDevice => "error device",
+        Look::Release => "release",
+        Look::Signal => "signal",
+        Look::Early => "early",
+        Look::Late => "filled",
+        Look::CallBegin { .. } => "begin",
+        Look::CallOk { call } => call_text(call),
+        Look::CallError { call } => call_text(call),
+        Look::RequestBegin => "request",
+        Look::RequestOk => "accepted",
+        Look::RequestError => "refused",
+        Look::Refused => "refused",
+        Look::Unclear => "unclear",
+        Look::Unfinished => "not done",
     }
 }
 
@@ -112,9 +130,12 @@ pub fn named(alloc: Global, word: &str, number: Option<u32>) -> Result<String, N
     }
 }
 
-/// What the slice of an entry is called: its kind and its frame.
-pub fn name_text(alloc: Global, entry: Entry) -> Result<String, NoMemory>
-    ensures { IfOk result (λ text. string_bytes text ≡ name_text entry) }
+/// What a line that is at fault is called.
+pub fn fault_text(kind: Kind) -> &'static str
+    ensures { result.now ≡ fault_text kind }
 {
-    named(alloc, kind_text(entry), frame_in(entry))
+    match kind {
+        Kind::Trace => "not allowed",
+        Kind::Hal => "breach",
+    }
 }

@@ -1,25 +1,14 @@
 -- A legal trace up to an entry, and as many drawings as entries.
-use Rattle.std.proofs.Common.{◌≡◌, ℕ, zero, suc, ◌<◌, ◌+◌, List, [], ◌∷◌, ◌++◌, refl, sym, ap, ◌∙◌, arith, length, length-append, reverse, take, drop, get_or, subst}
-use Rattle.std.proofs.lemmas.List.{length-reverse, reverse-append}
+use Rattle.std.proofs.Common.{◌≡◌, ℕ, suc, ◌<◌, List, [], ◌∷◌, ◌++◌, refl, sym, ap, ◌∙◌, arith, length, length-append, reverse, take, drop, get_or, subst}
+use Rattle.std.proofs.Math.Seq.{take-suc}
+use Rattle.std.proofs.lemmas.List.{length-reverse, length-take-le, reverse-append, take-append-drop}
 use Rattle.cam_types.specs.declared.script.Script.{Script}
 use Rattle.trace_model.specs.declared.entry.Entry.{Entry}
 use Rattle.trace_model.specs.Legal.{IsLegal}
 use Rattle.timeline_model.specs.Drawings.{all_drawn, drawn_of}
 
--- one entry more
-take-more : {X : Type 0} (xs : List X) (i : ℕ) (d : X) → i < length xs → take (suc i) xs ≡ take i xs ++ get_or xs i d ∷ []
-take-more [] i d less = absurd (omega arith)
-take-more (x ∷ xs) zero d less = refl
-take-more (x ∷ xs) (suc i) d less = ap (λ l. x ∷ l) (take-more xs i d (omega arith))
-
 pub newest : {X : Type 0} (xs : List X) (i : ℕ) (d : X) → i < length xs → reverse (take (suc i) xs) ≡ get_or xs i d ∷ reverse (take i xs)
-newest xs i d less = ap reverse (take-more xs i d less) ∙ reverse-append (take i xs) (get_or xs i d ∷ [])
-
-split-at : {X : Type 0} (xs : List X) (p : ℕ) → take p xs ++ drop p xs ≡ xs
-split-at [] zero = refl
-split-at [] (suc p) = refl
-split-at (x ∷ xs) zero = refl
-split-at (x ∷ xs) (suc p) = ap (λ l. x ∷ l) (split-at xs p)
+newest xs i d less = ap reverse (take-suc xs i d less) ∙ reverse-append (take i xs) (get_or xs i d ∷ [])
 
 legal-after : (script : Script) (later past : List Entry) → IsLegal script (later ++ past) → IsLegal script past
 legal-after script [] past legal = legal
@@ -27,20 +16,15 @@ legal-after script (e ∷ later) past legal = legal-after script later past lega
 
 pub legal_before : (script : Script) (trace : List Entry) (p : ℕ) → IsLegal script (reverse trace) → IsLegal script (reverse (take p trace))
 legal_before script trace p legal =
-    let whole : reverse trace ≡ reverse (drop p trace) ++ reverse (take p trace) = ap reverse (sym (split-at trace p)) ∙ reverse-append (take p trace) (drop p trace) in
+    let whole : reverse trace ≡ reverse (drop p trace) ++ reverse (take p trace) = ap reverse (sym (take-append-drop p trace)) ∙ reverse-append (take p trace) (drop p trace) in
     legal-after script (reverse (drop p trace)) (reverse (take p trace)) (subst (IsLegal script) whole legal)
 
 -- the entry at a place is the newest of a legal past
 pub legal_at : (script : Script) (trace : List Entry) (i : ℕ) (d : Entry) → i < length trace → IsLegal script (reverse trace) → IsLegal script (get_or trace i d ∷ reverse (take i trace))
 legal_at script trace i d less legal = subst (IsLegal script) (newest trace i d less) (legal_before script trace (suc i) legal)
 
-short-length : {X : Type 0} (xs : List X) (i : ℕ) → i < length xs → length (take i xs) ≡ i
-short-length [] i less = absurd (omega arith)
-short-length (x ∷ xs) zero less = refl
-short-length (x ∷ xs) (suc i) less = ap (λ n. suc n) (short-length xs i (omega arith))
-
 pub taken_length : {X : Type 0} (xs : List X) (i : ℕ) → i < length xs → length (reverse (take i xs)) ≡ i
-taken_length xs i less = length-reverse (take i xs) ∙ short-length xs i less
+taken_length xs i less = length-reverse (take i xs) ∙ length-take-le i xs (omega arith)
 
 pub drawn_length : (script : Script) (past : List Entry) → length (all_drawn script past) ≡ length past
 drawn_length script [] = refl

@@ -1,3 +1,2 @@
 mod Queues
-mod Ranges
 mod Fronts

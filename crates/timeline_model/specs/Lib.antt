@@ -1,6 +1,5 @@
-pub mod Seats
-pub mod Starts
 pub mod Drawings
 pub mod Walks
 pub mod Timelines
 pub mod Lines
+pub mod Charts

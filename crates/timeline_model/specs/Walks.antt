@@ -7,8 +7,7 @@ use Rattle.trace_model.specs.Queue.{queued, queued_items}
 use Rattle.trace_model.specs.Stopping.{has_failed, stops_by}
 use Rattle.trace_model.specs.declared.entry.Entry.{Entry}
 use Rattle.trace_model.specs.declared.entry.Entry.TheVariants.{Call, Send, Dropped}
-use Rattle.timeline_model.specs.Drawings.{most_streams, seats}
-use Rattle.timeline_model.specs.Starts.{begun_at}
+use Rattle.timeline_model.specs.Drawings.{begun_at, most_streams, seats}
 use Rattle.timeline_model.specs.declared.walk.Walk.{Walk}
 
 -- how many items wait after an entry of a legal trace

@@ -1,8 +1,9 @@
 //! How much of an entry's line is shown.
 ghost use Rattle.std.specs.Prelude.{◌≡◌, IsTrue};
 ghost use Rattle.trace_model.specs.Printable.{is_printable};
-ghost use Rattle.timeline_model.specs.Lines.{front_of, shown_length, shown_line};
+ghost use Rattle.timeline_model.specs.Lines.{shown_length, shown_line};
 
+use timeline_chart::front_of;
 use trace_model::Entry;
 use trace_text::Printer;
 
@@ -16,14 +17,6 @@ fn shown_length(entry: Entry) -> usize
         Entry::Late { .. } => 40,
         _ => 160,
     }
-}
-
-/// The front of a line, without its end.
-fn front_of(line: &[u8], most: usize) -> &[u8]
-    ensures { result.now ≡ front_of most line.now }
-{
-    let length = line.len().saturating_sub(1).min(most);
-    &line[..length]
 }
 
 /// What is shown of an entry's line in the trace.

@@ -1,13 +1,19 @@
 //! What an entry ends, by the entries before it.
-ghost use Rattle.std.specs.Prelude.{◌≡◌, ◌<◌, ◌^◌, length, reverse, option_copied, find};
+ghost use Rattle.std.specs.Prelude.{◌≡◌, reverse, option_copied, find};
 ghost use Rattle.trace_model.specs.Entry.{is_early_with};
-ghost use Rattle.timeline_model.specs.Drawings.{since, target_in, target_of};
+ghost use Rattle.timeline_model.specs.Drawings.{since, since_seat, target_in, target_of};
 
-use crate::seat::Target;
-use crate::start::{Start, last_place};
-use cam_types::FenceNo;
+use cam_types::{FenceNo, FrameNo, StreamIx};
 use judge_entries::entry::is_early_with;
+use timeline_chart::Seat;
 use trace_model::Entry;
+
+/// A frame's target.
+#[derive(Clone, Copy, Debug, PartialEq, Eq)]
+pub struct Target {
+    pub frame: FrameNo,
+    pub stream: StreamIx,
+}
 
 /// The entry with which a buffer came back early, with the device fence.
 fn early_with(entries: &[Entry], fence: FenceNo) -> Option<&Entry>
@@ -53,17 +59,26 @@ pub fn target_in(entries: &[Entry], entry: &Entry) -> Option<Target>
     }
 }
 
-/// The place where what an entry ends began; `begun` is the place of the begin that has no call yet.
-pub fn since(entries: &[Entry], begun: Option<u32>, entry: &Entry) -> Option<u32>
-    requires { length entries.now < 2 ^ 32 }
-    ensures { result ≡ since entry.now begun (reverse entries.now) }
+fn since_seat(seat: Option<Seat>) -> Option<u32>
+    ensures { result ≡ since_seat seat }
+{
+    match seat {
+        Some(seat) => Some(seat.since),
+        None => None,
+    }
+}
+
+/// The place where what an entry ends began; `begun` is the place of the begin that has no call yet, `seat` that of the
+/// target that it speaks of.
+pub fn since(entry: &Entry, begun: Option<u32>, seat: Option<Seat>) -> Option<u32>
+    ensures { result ≡ since entry.now begun seat }
 {
     match *entry {
         Entry::Call { .. } => begun,
-        Entry::Filled { frame, .. } => last_place(entries, Start::Send(frame)),
-        Entry::Failed { frame, .. } => last_place(entries, Start::Send(frame)),
-        Entry::Early { frame, .. } => last_place(entries, Start::Send(frame)),
-        Entry::Late { fence, .. } => last_place(entries, Start::Early(fence)),
+        Entry::Filled { .. } => since_seat(seat),
+        Entry::Failed { .. } => since_seat(seat),
+        Entry::Early { .. } => since_seat(seat),
+        Entry::Late { .. } => since_seat(seat),
         _ => None,
     }
 }

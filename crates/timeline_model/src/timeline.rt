@@ -1,17 +1,16 @@
 //! The timeline of a legal trace.
-ghost use Rattle.std.specs.Prelude.{◌≡◌, ◌+◌, ◌*◌, ◌<◌, ◌≤◌, ◌^◌, ◌++◌, ◌∷◌, [], IfOk, OnOk, Option, length, map, option_copied, reverse, take};
+ghost use Rattle.std.specs.Prelude.{◌≡◌, ◌+◌, ◌*◌, ◌<◌, ◌≤◌, ◌^◌, ◌∷◌, [], IfOk, OnOk, length, reverse};
 ghost use Rattle.trace_model.specs.Legal.{IsLegal};
-ghost use Rattle.timeline_model.specs.Drawings.{all_drawn, drawn_of, seat_for, seats};
-ghost use Rattle.timeline_model.specs.Timelines.{timeline, unfinished_of};
+ghost use Rattle.timeline_model.specs.Drawings.{all_drawn, drawn_of, seat_for};
+ghost use Rattle.timeline_model.specs.Timelines.{timeline};
 ghost use Rattle.timeline_model.specs.Walks.{Fits};
 
-use crate::drawn::{Bars, Drawn, Timeline, Unfinished};
-use crate::past::{since, target_in};
-use crate::seat::{Seat, Target, seat_of};
-use crate::start::{Start, last_place};
+use crate::drawn::{Drawn, Timeline};
+use crate::past::{Target, since, target_in};
 use crate::walk::Walk;
 use cam_types::{Listing, NoMemory, Script};
 use std::alloc::Global;
+use timeline_chart::{Seat, Series, seat_of};
 use trace_model::Entry;
 
 /// The seat of a target, where there is one.
@@ -19,7 +18,7 @@ fn seat_for(seats: &[Seat], target: Option<Target>) -> Option<Seat>
     ensures { result ≡ seat_for target seats.now }
 {
     match target {
-        Some(target) => seat_of(seats, target),
+        Some(target) => seat_of(seats, target.frame.0, u32::from(target.stream.0)),
         None => None,
     }
 }
@@ -39,8 +38,8 @@ fn draw(
     ensures fits { OnOk result (Fits script.now (entry.now ∷ reverse entries.now) walk.new) }
     ensures queue { OnOk result (walk.new.queued ≤ (length entries.now + 1) * 4294967295) }
 {
-    let began = since(entries, walk.begun, entry);
     let seat = seat_for(walk.seats.as_slice(), target_in(entries, entry));
+    let began = since(entry, walk.begun, seat);
     walk.note(script, entries, entry)?;
     Ok(Drawn {
         place: entries.len() as u32,
@@ -74,31 +73,6 @@ fn draw_all(
     Ok(all)
 }
 
-/// Where the bar of a buffer that isn't back begins.
-fn unfinished_of(entries: &[Entry], seat: Seat) -> Unfinished
-    requires { length entries.now < 2 ^ 32 }
-    ensures { result ≡ unfinished_of (reverse entries.now) seat }
-{
-    let early = last_place(entries, Start::EarlyOf(seat.target));
-    let since = match early {
-        Some(place) => Some(place),
-        None => last_place(entries, Start::Send(seat.target.frame)),
-    };
-    Unfinished { seat, since }
-}
-
-/// The bars that aren't ended.
-fn all_unfinished(alloc: Global, entries: &[Entry], seats: &[Seat]) -> Result<Bars, NoMemory>
-    requires { length entries.now < 2 ^ 32 }
-    ensures { IfOk result (λ bars. bars ≡ map (unfinished_of (reverse entries.now)) seats.now) }
-{
-    let mut all = Bars::new(alloc);
-    for seat in seats {
-        all.push(unfinished_of(entries, *seat))?;
-    }
-    Ok(all)
-}
-
 /// What a timeline shows of a legal trace of the script.
 pub fn timeline_of(alloc: Global, script: &Script, entries: &[Entry]) -> Result<Timeline, NoMemory>
     requires legal { IsLegal script.now (reverse entries.now) }
@@ -107,11 +81,10 @@ pub fn timeline_of(alloc: Global, script: &Script, entries: &[Entry]) -> Result<
 {
     let mut walk = Walk::new(alloc);
     let drawn = draw_all(alloc, &mut walk, script, entries)?;
-    let unfinished = all_unfinished(alloc, entries, walk.seats.as_slice())?;
     Ok(Timeline {
         depth: script.profile.depth,
         streams: walk.streams,
         drawn,
-        unfinished,
+        unfinished: Series::of(walk.seats),
     })
 }

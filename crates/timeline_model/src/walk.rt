@@ -6,17 +6,16 @@ ghost use Rattle.trace_model.specs.Calls.{begun};
 ghost use Rattle.trace_model.specs.Legal.{IsLegal};
 ghost use Rattle.trace_model.specs.Stopping.{has_failed, is_stopping, stops_by};
 ghost use Rattle.trace_model.specs.declared.entry.Entry.{Entry as SomeEntry};
-ghost use Rattle.timeline_model.specs.Drawings.{configured, seats_after};
-ghost use Rattle.timeline_model.specs.Starts.{begun_at};
+ghost use Rattle.timeline_model.specs.Drawings.{begun_at, begun_anew, configured, seats_after, with_sent, with_targets, without_target};
 ghost use Rattle.timeline_model.specs.Walks.{Fits, queued_by};
 
-use crate::past::target_in;
-use crate::seat::{Seat, leave, seat_targets};
-use cam_types::{Four, Made, NoMemory, Reply, Script};
+use crate::past::{Target, target_in};
+use cam_types::{Four, FrameNo, Made, NoMemory, Reply, Script};
 use judge_entries::command::{command_at, queued_items};
 use judge_entries::entry::is_stop_word;
 use std::alloc::Global;
-use trace_model::Entry;
+use timeline_chart::{Seat, keep_other, seat_of, take_seat};
+use trace_model::{Entry, Sent};
 
 /// What stands after the entries so far.
 #[derive(Drop)]
@@ -123,12 +122,79 @@ fn streams_after(entry: &Entry, streams: u32) -> u32
     streams.max(configured(entry))
 }
 
+/// Gives a target that is sent its row.
+fn take_sent(
+    seats: &mut Vec<Seat>,
+    frame: FrameNo,
+    place: u32,
+    sent: Option<Sent>,
+) -> Result<(), NoMemory>
+    ensures { OnOk result (seats.new.items ≡ with_sent frame.0 place sent seats.old.items) }
+{
+    match sent {
+        Some(sent) => take_seat(
+            seats,
+            Seat {
+                frame: frame.0,
+                buffer: u32::from(sent.stream.0),
+                lane: sent.stream.0,
+                row: 0,
+                since: place,
+            },
+        ),
+        None => Ok(()),
+    }
+}
+
+/// Gives each target of a frame its row.
+fn take_targets(
+    seats: &mut Vec<Seat>,
+    frame: FrameNo,
+    place: u32,
+    targets: Four<Sent>,
+) -> Result<(), NoMemory>
+    ensures { OnOk result (seats.new.items ≡ with_targets frame.0 place targets seats.old.items) }
+{
+    take_sent(seats, frame, place, targets.a)?;
+    take_sent(seats, frame, place, targets.b)?;
+    take_sent(seats, frame, place, targets.c)?;
+    take_sent(seats, frame, place, targets.d)
+}
+
+/// Takes the seat of a target away, where there is one.
+fn leave(seats: &mut Vec<Seat>, target: Option<Target>)
+    ensures { seats.new.items ≡ without_target target seats.old.items }
+{
+    if let Some(target) = target {
+        keep_other(seats, target.frame.0, u32::from(target.stream.0));
+    }
+}
+
+/// Begins the bar of a seat anew, in the same row.
+fn begin_anew(seats: &mut Vec<Seat>, place: u32, seat: Option<Seat>) -> Result<(), NoMemory>
+    ensures { OnOk result (seats.new.items ≡ begun_anew place seat seats.old.items) }
+{
+    match seat {
+        Some(seat) => {
+            keep_other(seats, seat.frame, seat.buffer);
+            seats.push(Seat {
+                since: place,
+                ..seat
+            })?;
+            Ok(())
+        }
+        None => Ok(()),
+    }
+}
+
 /// Notes in which rows bars stand after an entry.
 fn note_seats(seats: &mut Vec<Seat>, entries: &[Entry], entry: &Entry) -> Result<(), NoMemory>
+    requires { length entries.now < 4294967295 }
     ensures { OnOk result (seats.new.items ≡ seats_after entry.now (reverse entries.now) seats.old.items) }
 {
+    let place = entries.len() as u32;
     match *entry {
-        Entry::Send { frame, targets, .. } => seat_targets(seats, frame, targets),
+        Entry::Send { frame, targets, .. } => take_targets(seats, frame, place, targets),
         Entry::Filled { .. } => {
             leave(seats, target_in(entries, entry));
             Ok(())
@@ -136,6 +202,10 @@ fn note_seats(seats: &mut Vec<Seat>, entries: &[Entry], entry: &Entry) -> Result
         Entry::Failed { .. } => {
             leave(seats, target_in(entries, entry));
             Ok(())
+        }
+        Entry::Early { frame, stream, .. } => {
+            let seat = seat_of(seats.as_slice(), frame.0, u32::from(stream.0));
+            begin_anew(seats, place, seat)
         }
         Entry::Late { .. } => {
             leave(seats, target_in(entries, entry));

@@ -1,17 +1,34 @@
--- What goes through the whole picture (our own choice): lines that take a step at each entry. 86 is `V`.
-use Rattle.std.specs.Prelude.{ℕ, ◌-◌, ◌*◌, Bool, List, ◌∷◌, ◌++◌, codes, decimal, min, if◌then◌else◌}
-use Rattle.timeline_model.specs.declared.drawn.Drawn.{Drawn}
+-- What goes through the whole picture (our own choice): lines that take a step at each place. 86 is `V`.
+use Rattle.std.specs.Prelude.{ℕ, ◌+◌, ◌-◌, ◌*◌, Bool, List, ◌∷◌, ◌++◌, codes, decimal, min, if◌then◌else◌}
+use Rattle.std.specs.List.{flat_map}
+use Rattle.timeline_chart.specs.declared.chart.Group.{Group}
+use Rattle.timeline_chart.specs.declared.chart.Kind.{Kind}
+use Rattle.timeline_svg.specs.Places.{shift}
 
--- the queue's length after an entry, two pixels an item, up to twenty
-abbrev pub queue_y : ℕ → ℕ
-queue_y queued = 120 - 2 * min queued 20
+-- where the line of the level has its ground
+abbrev pub ground_y : Kind → ℕ
+ground_y kind = 120 + shift kind
 
-abbrev pub queue_step : Drawn → List ℕ
-queue_step d = 86 ∷ (decimal (queue_y d.queued) ++ codes "h10")
+-- how many items wait, or requests are live, two pixels each, up to twenty
+abbrev pub level_y : Kind → ℕ → ℕ
+level_y kind level = ground_y kind - 2 * min level 20
 
--- down to the picture's bottom while a flush, a disconnect or a failure stops frames
+abbrev pub level_step : Kind → Group → List ℕ
+level_step kind g = 86 ∷ (decimal (level_y kind g.level) ++ codes "h10")
+
+-- down to the picture's bottom while something stops
 abbrev pub band_y : ℕ → Bool → ℕ
 band_y bottom stopping = if stopping then bottom else 16
 
-abbrev pub band_step : ℕ → Drawn → List ℕ
-band_step bottom d = 86 ∷ (decimal (band_y bottom d.stopping) ++ codes "h10")
+abbrev pub band_step : ℕ → Group → List ℕ
+band_step bottom g = 86 ∷ (decimal (band_y bottom g.stopping) ++ codes "h10")
+
+unfoldable pub bands_text : ℕ → List Group → List ℕ
+bands_text bottom groups =
+    codes "<path class='u' d='M100 16" ++ (flat_map (band_step bottom) groups ++ codes "V16z'/>\n")
+
+unfoldable pub level_text : Kind → List Group → List ℕ
+level_text kind groups =
+    codes "<path class='q' d='M100 "
+    ++ (decimal (ground_y kind)
+    ++ (flat_map (level_step kind) groups ++ (codes "V" ++ (decimal (ground_y kind) ++ codes "z'/>\n"))))

@@ -1,9 +1,9 @@
 pub mod Escapes
 pub mod Places
-pub mod Titles
 pub mod Marks
 pub mod Bars
 pub mod Words
 pub mod Levels
 pub mod Lanes
+pub mod Groups
 pub mod Pictures

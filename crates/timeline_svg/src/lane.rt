@@ -1,18 +1,25 @@
 //! The lanes behind the marks, with their names, and the ruler above them.
-ghost use Rattle.std.specs.Prelude.{◌≡◌, ◌++◌, ◌<◌, ◌^◌, OnOk};
+ghost use Rattle.std.specs.Prelude.{◌≡◌, ◌++◌, OnOk};
 ghost use Rattle.std.specs.List.{flat_map};
-ghost use Rattle.timeline_svg.specs.Lanes.{lanes_text, name_text, names_text, repeat_text, ruler_step, stream_name, stream_stripe, stripe_text, tick_text};
+ghost use Rattle.timeline_svg.specs.Lanes.{fences_stripe, kind_names, lanes_text, name_text, names_text, repeat_text, ruler_step, stream_name, stream_stripe, stripe_text, tick_text};
 
 use crate::pen::{put, put_number};
-use crate::place::{lane_height, lane_top, x_of};
-use cam_types::{NoMemory, StreamIx};
-use timeline_model::Drawn;
+use crate::place::{Layout, lane_height, lane_top, lower, shift, x_of};
+use cam_types::NoMemory;
+use timeline_chart::{Group, Kind, Lane};
 
-/// The names of the lanes that each picture has.
-pub const NAMES: &[u8] =
+/// The names of the lanes that each picture of a trace has.
+pub const TRACE_NAMES: &[u8] =
     b"<g id='n' class='n'><text x='4' y='66'>calls</text><text x='4' y='110'>queue</text>\
 <text x='4' y='130'>send, drop</text><text x='4' y='168'>shutter, ms</text><text x='4' y='192'>metadata</text>\
 <text x='4' y='220'>release</text><text x='4' y='230'>signal</text>";
+
+/// The names of the lanes that each picture of a hal log has.
+pub const HAL_NAMES: &[u8] =
+    b"<g id='n' class='n'><text x='4' y='32'>open</text><text x='4' y='43'>initialize</text>\
+<text x='4' y='54'>template</text><text x='4' y='65'>configure</text><text x='4' y='76'>flush</text>\
+<text x='4' y='87'>close</text><text x='4' y='129'>live</text><text x='4' y='150'>request</text>\
+<text x='4' y='207'>shutter, ms</text><text x='4' y='231'>metadata</text>";
 
 /// Writes a lane's ground.
 #[tactic(auto, unfolding(crate::specs::Lanes::stripe_text))]
@@ -28,45 +35,66 @@ fn put_stripe(out: &mut Vec<u8>, right: u64, top: u64, height: u64) -> Result<()
     put(out, b"H0z'/>")
 }
 
-/// Writes the ground of a stream's lane, where there is that stream.
+/// Writes the ground of the lane for fences, which a trace has.
+fn put_fences_stripe(out: &mut Vec<u8>, kind: Kind, right: u64) -> Result<(), NoMemory>
+    ensures { OnOk result (out.new.items ≡ out.old.items ++ fences_stripe kind right) }
+{
+    match kind {
+        Kind::Trace => put_stripe(out, right, 208, 26),
+        Kind::Hal => Ok(()),
+    }
+}
+
+/// Writes the ground of a stream's lane.
 fn put_stream_stripe(
     out: &mut Vec<u8>,
-    streams: u32,
-    depth: u32,
+    layout: Layout,
     right: u64,
-    stream: u8,
+    lane: &Lane,
 ) -> Result<(), NoMemory>
-    ensures { OnOk result (out.new.items ≡ out.old.items ++ stream_stripe streams depth right stream) }
+    ensures { OnOk result (out.new.items ≡ out.old.items ++ stream_stripe layout right lane.now) }
 {
-    if u32::from(stream) < streams {
-        put_stripe(
-            out,
-            right,
-            lane_top(depth, StreamIx(stream)) - 4,
-            lane_height(depth) - 6,
-        )
-    } else {
-        Ok(())
+    let top = lane_top(layout, lane.place) - 4;
+    let height = lane_height(layout.rows) - 6;
+    put_stripe(out, right, top, height)
+}
+
+/// Writes the grounds of the lanes of streams.
+fn put_stream_stripes(
+    out: &mut Vec<u8>,
+    layout: Layout,
+    right: u64,
+    lanes: &[Lane],
+) -> Result<(), NoMemory>
+    ensures { OnOk result (out.new.items ≡ out.old.items ++ flat_map (stream_stripe layout right) lanes.now) }
+{
+    for lane in lanes {
+        put_stream_stripe(out, layout, right, lane)?;
     }
+    Ok(())
 }
 
 /// Writes the grounds of the lanes.
 #[tactic(auto, unfolding(crate::specs::Lanes::lanes_text))]
-pub fn put_lanes(out: &mut Vec<u8>, streams: u32, depth: u32, right: u64) -> Result<(), NoMemory>
-    ensures { OnOk result (out.new.items ≡ out.old.items ++ lanes_text streams depth right) }
+pub fn put_lanes(
+    out: &mut Vec<u8>,
+    layout: Layout,
+    right: u64,
+    lanes: &[Lane],
+) -> Result<(), NoMemory>
+    ensures { OnOk result (out.new.items ≡ out.old.items ++ lanes_text layout right lanes.now) }
 {
-    put_stripe(out, right, 18, 54)?;
-    put_stripe(out, right, 140, 34)?;
-    put_stripe(out, right, 208, 26)?;
-    put_stream_stripe(out, streams, depth, right, 0)?;
-    put_stream_stripe(out, streams, depth, right, 1)?;
-    put_stream_stripe(out, streams, depth, right, 2)?;
-    put_stream_stripe(out, streams, depth, right, 3)
+    let shift = shift(layout.kind);
+    let high = 34 + lower(layout.kind) - shift;
+    put_stripe(out, right, 18, 54 + shift)?;
+    put_stripe(out, right, 140 + shift, high)?;
+    put_fences_stripe(out, layout.kind, right)?;
+    put_stream_stripes(out, layout, right, lanes)
 }
 
 /// Writes the name of a stream's lane.
 #[tactic(auto, unfolding(crate::specs::Lanes::name_text))]
-fn put_name(out: &mut Vec<u8>, y: u64, stream: u8) -> Result<(), NoMemory>
+fn put_name(out: &mut Vec<u8>, y: u64, stream: u32) -> Result<(), NoMemory>
     ensures { OnOk result (out.new.items ≡ out.old.items ++ name_text y stream) }
 {
     put(out, b"<text x='4' y='")?;
@@ -76,27 +104,41 @@ fn put_name(out: &mut Vec<u8>, y: u64, stream: u8) -> Result<(), NoMemory>
     put(out, b"</text>")
 }
 
-/// Writes the name of a stream's lane, where there is that stream.
-fn put_stream_name(out: &mut Vec<u8>, streams: u32, depth: u32, stream: u8) -> Result<(), NoMemory>
-    ensures { OnOk result (out.new.items ≡ out.old.items ++ stream_name streams depth stream) }
+/// Writes the name of a stream's lane at its place.
+fn put_stream_name(out: &mut Vec<u8>, layout: Layout, lane: &Lane) -> Result<(), NoMemory>
+    ensures { OnOk result (out.new.items ≡ out.old.items ++ stream_name layout lane.now) }
 {
-    if u32::from(stream) < streams {
-        put_name(out, lane_top(depth, StreamIx(stream)) + 8, stream)
-    } else {
-        Ok(())
+    let y = lane_top(layout, lane.place) + 8;
+    put_name(out, y, lane.stream)
+}
+
+/// Writes the names of the lanes of streams.
+fn put_stream_names(out: &mut Vec<u8>, layout: Layout, lanes: &[Lane]) -> Result<(), NoMemory>
+    ensures { OnOk result (out.new.items ≡ out.old.items ++ flat_map (stream_name layout) lanes.now) }
+{
+    for lane in lanes {
+        put_stream_name(out, layout, lane)?;
+    }
+    Ok(())
+}
+
+/// The names that each picture of the kind has.
+fn kind_names(kind: Kind) -> &'static [u8]
+    ensures { result.now ≡ kind_names kind }
+{
+    match kind {
+        Kind::Trace => TRACE_NAMES,
+        Kind::Hal => HAL_NAMES,
     }
 }
 
 /// Writes the names of the lanes.
 #[tactic(auto, unfolding(crate::specs::Lanes::names_text))]
-pub fn put_names(out: &mut Vec<u8>, streams: u32, depth: u32) -> Result<(), NoMemory>
-    ensures { OnOk result (out.new.items ≡ out.old.items ++ names_text streams depth) }
+pub fn put_names(out: &mut Vec<u8>, layout: Layout, lanes: &[Lane]) -> Result<(), NoMemory>
+    ensures { OnOk result (out.new.items ≡ out.old.items ++ names_text layout lanes.now) }
 {
-    put(out, NAMES)?;
-    put_stream_name(out, streams, depth, 0)?;
-    put_stream_name(out, streams, depth, 1)?;
-    put_stream_name(out, streams, depth, 2)?;
-    put_stream_name(out, streams, depth, 3)?;
+    put(out, kind_names(layout.kind))?;
+    put_stream_names(out, layout, lanes)?;
     put(out, b"</g>\n")
 }
 
@@ -122,25 +164,25 @@ fn put_repeat(out: &mut Vec<u8>, place: u32) -> Result<(), NoMemory>
     put(out, b"'/>\n")
 }
 
-/// Writes the ruler's number at each tenth entry, and the names once more at each hundredth.
-fn put_ruler_step(out: &mut Vec<u8>, drawn: &Drawn) -> Result<(), NoMemory>
-    ensures { OnOk result (out.new.items ≡ out.old.items ++ ruler_step drawn.now.place) }
+/// Writes the ruler's number at each tenth place, and the names once more at each hundredth.
+fn put_ruler_step(out: &mut Vec<u8>, place: u32) -> Result<(), NoMemory>
+    ensures { OnOk result (out.new.items ≡ out.old.items ++ ruler_step place) }
 {
-    if drawn.place % 100 == 99 {
-        put_repeat(out, drawn.place)
-    } else if drawn.place % 10 == 0 {
-        put_tick(out, drawn.place)
+    if place % 100 == 99 {
+        put_repeat(out, place)
+    } else if place % 10 == 0 {
+        put_tick(out, place)
     } else {
         Ok(())
     }
 }
 
 /// Writes the ruler.
-pub fn put_ruler(out: &mut Vec<u8>, drawn: &[Drawn]) -> Result<(), NoMemory>
-    ensures { OnOk result (out.new.items ≡ out.old.items ++ flat_map (λ one. ruler_step one.place) drawn.now) }
+pub fn put_ruler(out: &mut Vec<u8>, groups: &[Group]) -> Result<(), NoMemory>
+    ensures { OnOk result (out.new.items ≡ out.old.items ++ flat_map (λ g. ruler_step g.place) groups.now) }
 {
-    for one in drawn {
-        put_ruler_step(out, one)?;
+    for group in groups {
+        put_ruler_step(out, group.place)?;
     }
     Ok(())
 }

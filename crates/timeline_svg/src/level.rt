@@ -1,36 +1,59 @@
-//! What goes through the whole picture: the queue's length, and the bands while frames are stopped.
-ghost use Rattle.std.specs.Prelude.{◌≡◌, ◌++◌, ◌-◌, ◌*◌, OnOk, min};
+//! What goes through the whole picture: the level, and the bands while something stops.
+ghost use Rattle.std.specs.Prelude.{◌≡◌, ◌≤◌, ◌++◌, OnOk};
 ghost use Rattle.std.specs.List.{flat_map};
-ghost use Rattle.timeline_svg.specs.Levels.{band_step, band_y, queue_step, queue_y};
+ghost use Rattle.timeline_svg.specs.Levels.{band_step, band_y, bands_text, ground_y, level_step, level_text, level_y};
 
 use crate::pen::{put, put_number};
+use crate::place::shift;
 use cam_types::NoMemory;
-use timeline_model::Drawn;
+use timeline_chart::{Group, Kind};
 
-/// How high the queue's line stands: two pixels an item, up to twenty.
-fn queue_y(queued: u64) -> u64
-    ensures { result ≡ queue_y queued }
+/// Where the line of the level has its ground.
+fn ground_y(kind: Kind) -> u64
+    ensures value { result ≡ ground_y kind }
+    ensures low { 120 ≤ result }
 {
-    120 - 2 * queued.min(20)
+    120 + shift(kind)
 }
 
-/// Writes the line's step at an entry.
-fn put_queue_step(out: &mut Vec<u8>, drawn: &Drawn) -> Result<(), NoMemory>
-    ensures { OnOk result (out.new.items ≡ out.old.items ++ queue_step drawn.now) }
+/// How high the level's line stands: two pixels each, up to twenty.
+fn level_y(kind: Kind, level: u64) -> u64
+    ensures { result ≡ level_y kind level }
+{
+    ground_y(kind) - 2 * level.min(20)
+}
+
+/// Writes the line's step at a place.
+fn put_level_step(out: &mut Vec<u8>, kind: Kind, group: &Group) -> Result<(), NoMemory>
+    ensures { OnOk result (out.new.items ≡ out.old.items ++ level_step kind group.now) }
 {
     put(out, b"V")?;
-    put_number(out, queue_y(drawn.queued))?;
+    put_number(out, level_y(kind, group.level))?;
     put(out, b"h10")
 }
 
-/// Writes the queue's length after each entry, as steps of a line.
-pub fn put_queue(out: &mut Vec<u8>, drawn: &[Drawn]) -> Result<(), NoMemory>
-    ensures { OnOk result (out.new.items ≡ out.old.items ++ flat_map queue_step drawn.now) }
+/// Writes the steps of the line.
+fn put_level_steps(out: &mut Vec<u8>, kind: Kind, groups: &[Group]) -> Result<(), NoMemory>
+    ensures { OnOk result (out.new.items ≡ out.old.items ++ flat_map (level_step kind) groups.now) }
 {
-    for one in drawn {
-        put_queue_step(out, one)?;
+    for group in groups {
+        put_level_step(out, kind, group)?;
     }
     Ok(())
+}
+
+/// Writes the line of the level: how many items wait, or how many requests are live, after each line of the input.
+#[tactic(auto, unfolding(crate::specs::Levels::level_text))]
+pub fn put_level(out: &mut Vec<u8>, kind: Kind, groups: &[Group]) -> Result<(), NoMemory>
+    ensures { OnOk result (out.new.items ≡ out.old.items ++ level_text kind groups.now) }
+{
+    let ground = ground_y(kind);
+    put(out, b"<path class='q' d='M100 ")?;
+    put_number(out, ground)?;
+    put_level_steps(out, kind, groups)?;
+    put(out, b"V")?;
+    put_number(out, ground)?;
+    put(out, b"z'/>\n")
 }
 
 /// Where a band ends, which is the picture's bottom, or its top where there is none.
@@ -40,21 +63,31 @@ fn band_y(bottom: u64, stopping: bool) -> u64
     if stopping { bottom } else { 16 }
 }
 
-/// Writes a band's step at an entry.
-fn put_band_step(out: &mut Vec<u8>, bottom: u64, drawn: &Drawn) -> Result<(), NoMemory>
-    ensures { OnOk result (out.new.items ≡ out.old.items ++ band_step bottom drawn.now) }
+/// Writes a band's step at a place.
+fn put_band_step(out: &mut Vec<u8>, bottom: u64, group: &Group) -> Result<(), NoMemory>
+    ensures { OnOk result (out.new.items ≡ out.old.items ++ band_step bottom group.now) }
 {
     put(out, b"V")?;
-    put_number(out, band_y(bottom, drawn.stopping))?;
+    put_number(out, band_y(bottom, group.stopping))?;
     put(out, b"h10")
 }
 
-/// Writes the bands while frames are stopped, as steps of a line.
-pub fn put_bands(out: &mut Vec<u8>, bottom: u64, drawn: &[Drawn]) -> Result<(), NoMemory>
-    ensures { OnOk result (out.new.items ≡ out.old.items ++ flat_map (band_step bottom) drawn.now) }
+/// Writes the steps of the bands.
+fn put_band_steps(out: &mut Vec<u8>, bottom: u64, groups: &[Group]) -> Result<(), NoMemory>
+    ensures { OnOk result (out.new.items ≡ out.old.items ++ flat_map (band_step bottom) groups.now) }
 {
-    for one in drawn {
-        put_band_step(out, bottom, one)?;
+    for group in groups {
+        put_band_step(out, bottom, group)?;
     }
     Ok(())
+}
+
+/// Writes the bands while something stops, as steps of a line.
+#[tactic(auto, unfolding(crate::specs::Levels::bands_text))]
+pub fn put_bands(out: &mut Vec<u8>, bottom: u64, groups: &[Group]) -> Result<(), NoMemory>
+    ensures { OnOk result (out.new.items ≡ out.old.items ++ bands_text bottom groups.now) }
+{
+    put(out, b"<path class='u' d='M100 16")?;
+    put_band_steps(out, bottom, groups)?;
+    put(out, b"V16z'/>\n")
 }

@@ -1,7 +1,8 @@
-//! The picture of a timeline, as one SVG text. See `specs/`.
+//! The picture of a chart, as one SVG text. See `specs/`.
 #![tactic(auto)]
 
 mod bar;
+mod group;
 mod lane;
 mod level;
 mod mark;
@@ -9,7 +10,6 @@ mod pen;
 mod picture;
 mod place;
 mod style;
-mod title;
 mod word;
 
 pub use picture::svg_text;

@@ -1,13 +1,12 @@
 //! Words beside marks: which command was answered, and the time of a shutter.
-ghost use Rattle.std.specs.Prelude.{◌≡◌, ◌++◌, ◌/◌, OnOk};
+ghost use Rattle.std.specs.Prelude.{◌≡◌, ◌++◌, OnOk};
 ghost use Rattle.timeline_svg.specs.Words.{turned_text, word_of};
 
 use crate::pen::{put, put_number};
-use crate::place::x_of;
+use crate::place::{lower, x_of};
 use cam_types::NoMemory;
 use command_words::word_text;
-use timeline_model::Drawn;
-use trace_model::Entry;
+use timeline_chart::{Kind, Look};
 
 /// Writes the beginning of a word that stands aslant above its mark.
 #[tactic(auto, unfolding(crate::specs::Words::turned_text))]
@@ -22,17 +21,17 @@ fn put_turned(out: &mut Vec<u8>, place: u32, y: u64) -> Result<(), NoMemory>
 }
 
 /// Writes the word of an answered command, or the time of a shutter in whole milliseconds.
-pub fn put_word_of(out: &mut Vec<u8>, drawn: &Drawn) -> Result<(), NoMemory>
-    ensures { OnOk result (out.new.items ≡ out.old.items ++ word_of drawn.now.place drawn.now.entry) }
+pub fn put_word_of(out: &mut Vec<u8>, kind: Kind, place: u32, look: Look) -> Result<(), NoMemory>
+    ensures { OnOk result (out.new.items ≡ out.old.items ++ word_of kind place look) }
 {
-    match drawn.entry {
-        Entry::Call { word, .. } => {
-            put_turned(out, drawn.place, 58)?;
+    match look {
+        Look::Call { word } => {
+            put_turned(out, place, 58)?;
             put(out, word_text(word).as_bytes())?;
             put(out, b"</text>")
         }
-        Entry::Shutter { time, .. } => {
-            put_turned(out, drawn.place, 160)?;
+        Look::Shutter { time } => {
+            put_turned(out, place, 160 + lower(kind))?;
             put_number(out, time / 1_000_000)?;
             put(out, b"</text>")
         }

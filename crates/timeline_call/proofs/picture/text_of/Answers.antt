@@ -12,10 +12,10 @@ timeline_of-requires-clause-few c =
     let same = ap length c.front-legal.ensures in
     omega (arith, same, front_length c.args.entries.now c.args.verdict)
 
-pub text_in-requires-clause-drawn : goal.text_in-requires-clause-drawn
-text_in-requires-clause-drawn c =
+pub chart_of-requires-clause-drawn : goal.chart_of-requires-clause-drawn
+chart_of-requires-clause-drawn c =
     rw (c.in_ok-shown.ensures, c.front-legal.ensures) (all_print c.args.script.now c.args.entries.now c.args.verdict c.requires.printable)
 
-pub text_in-requires-clause-fault : goal.text_in-requires-clause-fault
-text_in-requires-clause-fault c =
+pub chart_of-requires-clause-fault : goal.chart_of-requires-clause-fault
+chart_of-requires-clause-fault c =
     rw c.fault_in.ensures (fault_prints c.args.entries.now c.args.verdict c.requires.printable)

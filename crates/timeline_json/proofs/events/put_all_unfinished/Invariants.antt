@@ -4,5 +4,5 @@ use Rattle.serde_json.specs.Written.{compact_text}
 use Rattle.timeline_json.specs.Timelines.{unfinished_event}
 use Rattle.timeline_json.proofs.events.put_all_unfinished.Given as goal
 
-abbrev pub invariant-loop-bar : goal.invariant-loop-bar
-invariant-loop-bar l = l.out.items ≡ l.initial.out.items ++ flat_map (λ bar. 44 ∷ compact_text (unfinished_event l.last bar)) (take l.bar-index l.bars)
+abbrev pub invariant-loop-piece : goal.invariant-loop-piece
+invariant-loop-piece l = l.out.items ≡ l.initial.out.items ++ flat_map (λ p. 44 ∷ compact_text (unfinished_event l.last p)) (take l.piece-index l.pieces)

@@ -1,0 +1,9 @@
+-- There are more breaches than before.
+use Rattle.std.proofs.Common.{◌∙◌}
+use Rattle.hal_model.specs.Rules.{breaches_in, plain_rules}
+use Rattle.hal_timeline.proofs.Drawn.{more_told}
+use Rattle.hal_timeline.proofs.group.Pass.judge.Goals as goal
+
+pub returns-clause-broken : goal.returns-clause-broken
+returns-clause-broken c =
+    λ past h long. more_told c.args.self.now.breaches.items c.judge_next.new.breaches.items (breaches_in c.args.parts c.args.event.now past plain_rules) c.len-before.result c.len.result (c.len-before.ensures ∙ c.args.self.now.breaches.ok.0) (c.len.ensures ∙ c.judge_next.new.breaches.ok.0) (rw c.rules_for.ensures at (c.in_ok-judge_next.ensures.told past h.table long))

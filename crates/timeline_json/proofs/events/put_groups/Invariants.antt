@@ -1,0 +1,7 @@
+use Rattle.std.proofs.Common.{◌≡◌, ◌∷◌, ◌++◌, take}
+use Rattle.std.specs.List.{flat_map}
+use Rattle.timeline_json.specs.Timelines.{group_text}
+use Rattle.timeline_json.proofs.events.put_groups.Given as goal
+
+abbrev pub invariant-loop-group : goal.invariant-loop-group
+invariant-loop-group l = l.out.items ≡ l.initial.out.items ++ flat_map (group_text l.kind) (take l.group-index l.groups)
