@@ -2,6 +2,7 @@
 #![tactic(auto)]
 
 mod call;
+mod judged;
 mod verdict;
 
 pub use call::explain_call;
