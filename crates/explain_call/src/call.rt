@@ -13,10 +13,10 @@ ghost use Rattle.call_status.specs.Answers.{AnswersWithMemory, Tells, TellsBy, U
 ghost use Rattle.explain_call.specs.Explaining.{explained, Explains, ExplainsBoth, ExplainsTrace, ExplainsWhole, IsExplainedLegal};
 
 use crate::judged::{Judged, judge};
+use crate::refusals::{refuse_input, refuse_profile, refuse_script, refuse_trace};
 use crate::verdict::explain_verdict;
 use call_status::{Status, answer};
 use cam_types::Script;
-use input_refusals::{TOO_LONG, refuse_script, refuse_trace};
 use io_edge::{ReadBytes, ReadFault, Sink, Source, read_all};
 use judge_text::{parts_of, profiles_agree};
 use line_reading::TextRefused;
@@ -24,9 +24,6 @@ use std::alloc::Global;
 use trace_check::Verdict;
 use trace_model::TraceList;
 use trace_reader::{TRACE_BYTES, TraceRefused, read_is_spelled};
-
-/// The cause of a trace whose profile isn't the script's.
-const PROFILE_DIFFERS: u8 = 46;
 
 /// Reads a script followed by a trace, as `check` does, judges the trace and writes its verdict in words. The statuses
 /// are those of `check`.
@@ -49,7 +46,7 @@ pub fn explain_call<S: Source, K: Sink>(alloc: Global, source: &mut S, sink: &mu
     match read_all(alloc, source, TRACE_BYTES) {
         Err(ReadFault::Failed) => Status::SOURCE_FAILED,
         Err(ReadFault::NoMemory) => Status::NO_MEMORY,
-        Ok(ReadBytes::TooLong) => refuse_trace(alloc, 0, TOO_LONG, sink),
+        Ok(ReadBytes::TooLong) => refuse_input(alloc, sink),
         Ok(ReadBytes::Whole(bytes)) => explain_input(alloc, bytes.as_slice(), sink),
     }
 }
@@ -62,7 +59,9 @@ fn explain_input<K: Sink>(alloc: Global, input: &[u8], sink: &mut K) -> Status
     let parts = parts_of(input);
     match script_text::read(alloc, parts.script) {
         Err(TextRefused::NoMemory) => Status::NO_MEMORY,
-        Err(TextRefused::Bad { line, cause }) => refuse_script(alloc, line, cause.number(), sink),
+        Err(TextRefused::Bad { line, cause }) => {
+            refuse_script(alloc, parts.script, line, cause, sink)
+        }
         Ok(script) => explain_text_of(
             alloc,
             &script,
@@ -88,14 +87,16 @@ fn explain_text_of<K: Sink>(
     requires long { length text.now ≤ 134217728 }
     requires some { 1 ≤ first_line }
     requires numbers { first_line ≤ 134217729 }
-    ensures { TellsBy (ExplainsTrace first_line part.now script.now (trace_of first_line text.now)) result.number
-        (K.state sink.old) (K.state sink.new) }
+    ensures { TellsBy (ExplainsTrace first_line part.now text.now script.now (trace_of first_line text.now))
+        result.number (K.state sink.old) (K.state sink.new) }
 {
     read_is_spelled();
     match trace_reader::read(alloc, text, first_line) {
         Err(TraceRefused::NoMemory) => Status::NO_MEMORY,
-        Err(TraceRefused::Bad { line, cause }) => refuse_trace(alloc, line, cause.number(), sink),
-        Ok(trace) => explain_trace(alloc, script, part, &trace, first_line, sink),
+        Err(TraceRefused::Bad { line, cause }) => {
+            refuse_trace(alloc, text, first_line, line, cause, sink)
+        }
+        Ok(trace) => explain_trace(alloc, script, part, text, &trace, first_line, sink),
     }
 }
 
@@ -105,6 +106,7 @@ fn explain_trace<K: Sink>(
     alloc: Global,
     script: &Script,
     part: &[u8],
+    text: &[u8],
     trace: &TraceList,
     first_line: u32,
     sink: &mut K,
@@ -113,11 +115,11 @@ fn explain_trace<K: Sink>(
     requires part { length part.now ≤ 134217728 }
     requires numbers { first_line ≤ 134217729 }
     requires printable { IsTrue (list_all is_printable trace.now.entries) }
-    ensures { TellsBy (ExplainsBoth first_line part.now script.now trace.now) result.number
+    ensures { TellsBy (ExplainsBoth first_line part.now text.now script.now trace.now) result.number
         (K.state sink.old) (K.state sink.new) }
 {
     if !profiles_agree(script, trace) {
-        return refuse_trace(alloc, first_line, PROFILE_DIFFERS, sink);
+        return refuse_profile(alloc, text, first_line, script.profile, sink);
     }
     match judge(alloc, script, part, trace) {
         Ok(judged) => write_explanation(alloc, script, part, trace, first_line, judged, sink),

@@ -3,6 +3,7 @@
 
 mod call;
 mod judged;
+mod refusals;
 mod verdict;
 
 pub use call::explain_call;

@@ -1,5 +1,5 @@
 //! Lines of the script, beside those of the trace.
-ghost use Rattle.std.specs.Prelude.{◌≡◌, ◌≤◌, ◌++◌, OnOk, length, reverse};
+ghost use Rattle.std.specs.Prelude.{◌≡◌, ◌≤◌, ◌++◌, OnOk, length};
 ghost use Rattle.std.specs.Option.{option_map};
 ghost use Rattle.explain_text.specs.Explained.{command_part, next_command, next_command_text, next_heading, script_line};
 ghost use Rattle.script_places.specs.Places.{place_of};

@@ -1,4 +1,4 @@
-use Rattle.std.proofs.Common.{◌+◌, ap, arith, length, ◌∙◌}
+use Rattle.std.proofs.Common.{ap, arith, ◌∙◌}
 use Rattle.std.specs.Option.{option_map}
 use Rattle.text_parts.specs.Lines.{lines_of}
 use Rattle.script_places.specs.Places.{pick_number, picks_of}
