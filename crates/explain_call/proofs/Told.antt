@@ -11,13 +11,13 @@ use Rattle.rule_conditions.specs.Conditions.{first_failed}
 use Rattle.explain_text.specs.Explained.{illegal_text}
 use Rattle.explain_call.specs.Explaining.{illegal_at, illegal_behind}
 
-pub told : (rule : RuleName) (k p : ℕ) (before : List Entry) (faulty : Entry) (failed : Condition) (first : Option Condition) (r : Result (Vec ℕ) AllocError) → first ≡ Some failed → IfOk r (λ text. text.items ≡ illegal_text rule k p before faulty (Some failed)) → IfOk r (λ text. text.items ≡ illegal_text rule k p before faulty first)
-told rule k p before faulty failed first (Ok text) is h = h ∙ ap (λ (o : Option Condition). illegal_text rule k p before faulty o) (sym is)
-told rule k p before faulty failed first (Err e) is h = tt
+pub told : (script : Script) (part : List ℕ) (rule : RuleName) (k p : ℕ) (before : List Entry) (faulty : Entry) (failed : Condition) (first : Option Condition) (r : Result (Vec ℕ) AllocError) → first ≡ Some failed → IfOk r (λ text. text.items ≡ illegal_text script part rule k p before faulty (Some failed)) → IfOk r (λ text. text.items ≡ illegal_text script part rule k p before faulty first)
+told script part rule k p before faulty failed first (Ok text) is h = h ∙ ap (λ (o : Option Condition). illegal_text script part rule k p before faulty o) (sym is)
+told script part rule k p before faulty failed first (Err e) is h = tt
 
 -- of the entry at the position
-pub told_at : (script : Script) (rule : RuleName) (k p : ℕ) (xs before : List Entry) (e : Entry) (r : Result (Vec ℕ) AllocError) → slice_get xs p ≡ Some e → before ≡ take p xs → IfOk r (λ text. text.items ≡ illegal_text rule k p before e (first_failed script (reverse before) e)) → IfOk r (λ text. text.items ≡ illegal_at script rule k p xs)
-told_at script rule k p xs before e (Ok text) at is h =
-    let h' : text.items ≡ illegal_behind script rule k p before (Some e) = h in
-    h' ∙ (ap (λ (b : List Entry). illegal_behind script rule k p b (Some e)) is ∙ ap (λ (o : Option Entry). illegal_behind script rule k p (take p xs) o) (sym at))
-told_at script rule k p xs before e (Err fault) at is h = tt
+pub told_at : (script : Script) (part : List ℕ) (rule : RuleName) (k p : ℕ) (xs before : List Entry) (e : Entry) (r : Result (Vec ℕ) AllocError) → slice_get xs p ≡ Some e → before ≡ take p xs → IfOk r (λ text. text.items ≡ illegal_text script part rule k p before e (first_failed script (reverse before) e)) → IfOk r (λ text. text.items ≡ illegal_at script part rule k p xs)
+told_at script part rule k p xs before e (Ok text) at is h =
+    let h' : text.items ≡ illegal_behind script part rule k p before (Some e) = h in
+    h' ∙ (ap (λ (b : List Entry). illegal_behind script part rule k p b (Some e)) is ∙ ap (λ (o : Option Entry). illegal_behind script part rule k p (take p xs) o) (sym at))
+told_at script part rule k p xs before e (Err fault) at is h = tt

@@ -1,30 +1,29 @@
 //! `explain`: a script and a trace are read, the trace is judged, and the verdict is explained.
-ghost use Rattle.std.specs.Prelude.{◌≡◌, ◌≢◌, ◌+◌, ◌≤◌, IfSome, IsTrue, length};
+ghost use Rattle.std.specs.Prelude.{◌≡◌, ◌≢◌, ◌+◌, ◌≤◌, IfSome, IsTrue, Ok, length};
 ghost use Rattle.std.specs.Io.KnownBytes.{IsAtEnd};
 ghost use Rattle.std.specs.List.{list_all};
 ghost use Rattle.io_edge.specs.Faults.{Rose};
 ghost use Rattle.io_edge.specs.States.{Writes, WritesNothing};
 ghost use Rattle.trace_check.specs.Verdict.{IsVerdict};
 ghost use Rattle.trace_model.specs.Printable.{is_printable};
+ghost use Rattle.script_text.specs.Grammar.{script_of};
 ghost use Rattle.trace_reader.specs.Grammar.{trace_of};
 ghost use Rattle.judge_text.specs.Lines.{verdict_status};
 ghost use Rattle.call_status.specs.Answers.{AnswersWithMemory, Tells, TellsBy, Untouched};
 ghost use Rattle.explain_call.specs.Explaining.{explained, Explains, ExplainsBoth, ExplainsTrace, ExplainsWhole, IsExplainedLegal};
 
+use crate::judged::{Judged, judge};
+use crate::refusals::{refuse_input, refuse_profile, refuse_script, refuse_trace};
 use crate::verdict::explain_verdict;
 use call_status::{Status, answer};
 use cam_types::Script;
-use input_refusals::{TOO_LONG, refuse_script, refuse_trace};
 use io_edge::{ReadBytes, ReadFault, Sink, Source, read_all};
 use judge_text::{parts_of, profiles_agree};
 use line_reading::TextRefused;
 use std::alloc::Global;
-use trace_check::{Verdict, check};
+use trace_check::Verdict;
 use trace_model::TraceList;
 use trace_reader::{TRACE_BYTES, TraceRefused, read_is_spelled};
-
-/// The cause of a trace whose profile isn't the script's.
-const PROFILE_DIFFERS: u8 = 46;
 
 /// Reads a script followed by a trace, as `check` does, judges the trace and writes its verdict in words. The statuses
 /// are those of `check`.
@@ -47,7 +46,7 @@ pub fn explain_call<S: Source, K: Sink>(alloc: Global, source: &mut S, sink: &mu
     match read_all(alloc, source, TRACE_BYTES) {
         Err(ReadFault::Failed) => Status::SOURCE_FAILED,
         Err(ReadFault::NoMemory) => Status::NO_MEMORY,
-        Ok(ReadBytes::TooLong) => refuse_trace(alloc, 0, TOO_LONG, sink),
+        Ok(ReadBytes::TooLong) => refuse_input(alloc, sink),
         Ok(ReadBytes::Whole(bytes)) => explain_input(alloc, bytes.as_slice(), sink),
     }
 }
@@ -60,30 +59,44 @@ fn explain_input<K: Sink>(alloc: Global, input: &[u8], sink: &mut K) -> Status
     let parts = parts_of(input);
     match script_text::read(alloc, parts.script) {
         Err(TextRefused::NoMemory) => Status::NO_MEMORY,
-        Err(TextRefused::Bad { line, cause }) => refuse_script(alloc, line, cause.number(), sink),
-        Ok(script) => explain_text_of(alloc, &script, parts.trace, parts.first_line as u32, sink),
+        Err(TextRefused::Bad { line, cause }) => {
+            refuse_script(alloc, parts.script, line, cause, sink)
+        }
+        Ok(script) => explain_text_of(
+            alloc,
+            &script,
+            parts.script,
+            parts.trace,
+            parts.first_line as u32,
+            sink,
+        ),
     }
 }
 
-/// Reads a trace, whose first line has the number, and explains the verdict on it.
+/// Reads a trace, whose first line has the number, and explains the verdict on it beside its script, of that text.
 fn explain_text_of<K: Sink>(
     alloc: Global,
     script: &Script,
+    part: &[u8],
     text: &[u8],
     first_line: u32,
     sink: &mut K,
 ) -> Status
+    requires meant { script_of part.now ≡ Ok script.now }
+    requires part { length part.now ≤ 134217728 }
     requires long { length text.now ≤ 134217728 }
     requires some { 1 ≤ first_line }
     requires numbers { first_line ≤ 134217729 }
-    ensures { TellsBy (ExplainsTrace first_line script.now (trace_of first_line text.now)) result.number
-        (K.state sink.old) (K.state sink.new) }
+    ensures { TellsBy (ExplainsTrace first_line part.now text.now script.now (trace_of first_line text.now))
+        result.number (K.state sink.old) (K.state sink.new) }
 {
     read_is_spelled();
     match trace_reader::read(alloc, text, first_line) {
         Err(TraceRefused::NoMemory) => Status::NO_MEMORY,
-        Err(TraceRefused::Bad { line, cause }) => refuse_trace(alloc, line, cause.number(), sink),
-        Ok(trace) => explain_trace(alloc, script, &trace, first_line, sink),
+        Err(TraceRefused::Bad { line, cause }) => {
+            refuse_trace(alloc, text, first_line, line, cause, sink)
+        }
+        Ok(trace) => explain_trace(alloc, script, part, text, &trace, first_line, sink),
     }
 }
 
@@ -92,20 +105,24 @@ fn explain_text_of<K: Sink>(
 fn explain_trace<K: Sink>(
     alloc: Global,
     script: &Script,
+    part: &[u8],
+    text: &[u8],
     trace: &TraceList,
     first_line: u32,
     sink: &mut K,
 ) -> Status
+    requires meant { script_of part.now ≡ Ok script.now }
+    requires part { length part.now ≤ 134217728 }
     requires numbers { first_line ≤ 134217729 }
     requires printable { IsTrue (list_all is_printable trace.now.entries) }
-    ensures { TellsBy (ExplainsBoth first_line script.now trace.now) result.number
+    ensures { TellsBy (ExplainsBoth first_line part.now text.now script.now trace.now) result.number
         (K.state sink.old) (K.state sink.new) }
 {
     if !profiles_agree(script, trace) {
-        return refuse_trace(alloc, first_line, PROFILE_DIFFERS, sink);
+        return refuse_profile(alloc, text, first_line, script.profile, sink);
     }
-    match check(alloc, script, trace) {
-        Ok(verdict) => write_explanation(alloc, script, trace, first_line, verdict, sink),
+    match judge(alloc, script, part, trace) {
+        Ok(judged) => write_explanation(alloc, script, part, trace, first_line, judged, sink),
         Err(_) => Status::NO_MEMORY,
     }
 }
@@ -125,22 +142,24 @@ fn status_of(verdict: Verdict) -> Status
 fn write_explanation<K: Sink>(
     alloc: Global,
     script: &Script,
+    part: &[u8],
     trace: &TraceList,
     first_line: u32,
-    verdict: Verdict,
+    judged: Judged,
     sink: &mut K,
 ) -> Status
-    requires judged { IsVerdict script.now trace.now.entries verdict }
+    requires judged { IsVerdict script.now trace.now.entries judged.verdict }
+    requires part { length part.now ≤ 134217728 }
     requires numbers { first_line ≤ 134217729 }
     requires printable { IsTrue (list_all is_printable trace.now.entries) }
-    ensures { AnswersWithMemory (verdict_status verdict)
-        (explained script.now (first_line + 1) trace.now.entries verdict) result.number
+    ensures { AnswersWithMemory (verdict_status judged.verdict)
+        (explained script.now part.now judged.moves (first_line + 1) trace.now.entries judged.verdict) result.number
         (K.state sink.old) (K.state sink.new) }
 {
     let _count = trace.len();
     let number = u64::from(first_line) + 1;
-    match explain_verdict(alloc, script, trace, number, verdict) {
-        Ok(text) => answer(sink, text.as_slice(), status_of(verdict)),
+    match explain_verdict(alloc, script, part, trace, number, judged) {
+        Ok(text) => answer(sink, text.as_slice(), status_of(judged.verdict)),
         Err(_) => Status::NO_MEMORY,
     }
 }

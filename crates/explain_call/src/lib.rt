@@ -2,6 +2,8 @@
 #![tactic(auto)]
 
 mod call;
+mod judged;
+mod refusals;
 mod verdict;
 
 pub use call::explain_call;

@@ -8,6 +8,7 @@ ghost use Rattle.trace_check.specs.Verdict.{IsIllegalAt, IsVerdict};
 ghost use Rattle.trace_model.specs.Allowed.{IsAllowed};
 ghost use Rattle.trace_model.specs.Printable.{is_printable};
 
+use crate::judged::Judged;
 use cam_types::{NoMemory, Script};
 use explain_lines::LINE_LIMIT;
 use explain_missing::incomplete_text;
@@ -24,6 +25,7 @@ fn illegal_entry(
     alloc: Global,
     printer: &mut Printer,
     script: &Script,
+    part: &[u8],
     rule: RuleName,
     number: u64,
     position: u32,
@@ -31,16 +33,17 @@ fn illegal_entry(
     faulty: &Entry,
 ) -> Result<Vec<u8>, NoMemory>
     requires refused { ¬ IsAllowed script.now (reverse before.now) faulty.now }
+    requires part { length part.now ≤ 134217728 }
     requires printable { IsTrue (list_all is_printable before.now) }
     requires shown { IsTrue (is_printable faulty.now) }
     requires numbers { number + length before.now ≤ LINE_LIMIT }
     requires small { number ≤ 536870912 }
-    ensures { IfOk result (λ text. text.items ≡ illegal_text rule number position before.now faulty.now
+    ensures { IfOk result (λ text. text.items ≡ illegal_text script.now part.now rule number position before.now faulty.now
         (first_failed script.now (reverse before.now) faulty.now)) }
 {
     let failed = first_failed(script, before, faulty);
     illegal_text(
-        alloc, printer, rule, number, position, before, faulty, failed,
+        alloc, printer, script, part, rule, number, position, before, faulty, failed,
     )
 }
 
@@ -66,21 +69,23 @@ fn illegal_at(
     alloc: Global,
     printer: &mut Printer,
     script: &Script,
+    part: &[u8],
     trace: &TraceList,
     rule: RuleName,
     number: u64,
     position: u32,
 ) -> Result<Vec<u8>, NoMemory>
     requires judged { IsIllegalAt script.now trace.now.entries position rule }
+    requires part { length part.now ≤ 134217728 }
     requires printable { IsTrue (list_all is_printable trace.now.entries) }
     requires numbers { number + length trace.now.entries ≤ LINE_LIMIT }
     requires small { number ≤ 536870912 }
-    ensures { IfOk result (λ text. text.items ≡ illegal_at script.now rule number position trace.now.entries) }
+    ensures { IfOk result (λ text. text.items ≡ illegal_at script.now part.now rule number position trace.now.entries) }
 {
     let before = before_of(trace.as_slice(), position);
     match trace.get(position) {
         Some(faulty) => illegal_entry(
-            alloc, printer, script, rule, number, position, before, faulty,
+            alloc, printer, script, part, rule, number, position, before, faulty,
         ),
         None => Ok(Vec::new(alloc)),
     }
@@ -90,35 +95,47 @@ fn illegal_at(
 pub fn explain_verdict(
     alloc: Global,
     script: &Script,
+    part: &[u8],
     trace: &TraceList,
     number: u64,
-    verdict: Verdict,
+    judged: Judged,
 ) -> Result<Vec<u8>, NoMemory>
-    requires judged { IsVerdict script.now trace.now.entries verdict }
+    requires judged { IsVerdict script.now trace.now.entries judged.verdict }
+    requires part { length part.now ≤ 134217728 }
     requires printable { IsTrue (list_all is_printable trace.now.entries) }
     requires numbers { number + length trace.now.entries ≤ LINE_LIMIT }
     requires small { number ≤ 536870912 }
-    ensures { IfOk result (λ text. text.items ≡ explained script.now number trace.now.entries verdict) }
+    ensures { IfOk result
+        (λ text. text.items ≡ explained script.now part.now judged.moves number trace.now.entries judged.verdict) }
 {
     let mut printer = Printer::new(alloc, None)?;
-    match verdict {
-        Verdict::Legal => legal_text(alloc, &mut printer, script, trace.as_slice(), number),
+    match judged.verdict {
+        Verdict::Legal => legal_text(
+            alloc,
+            &mut printer,
+            script,
+            part,
+            judged.moves,
+            trace.as_slice(),
+            number,
+        ),
         Verdict::IllegalAt { position, rule } => illegal_at(
             alloc,
             &mut printer,
             script,
+            part,
             trace,
             rule,
             number,
             position,
         ),
-        Verdict::Incomplete { part } => incomplete_text(
+        Verdict::Incomplete { part: missing } => incomplete_text(
             alloc,
             &mut printer,
             script,
             trace.as_slice(),
             number,
-            part,
+            missing,
         ),
     }
 }

@@ -1,11 +1,13 @@
 //! What of a script did nothing.
-ghost use Rattle.std.specs.Prelude.{◌≡◌, ◌+◌, ◌≤◌, ◌++◌, ◌∷◌, [], IfOk, IsTrue, OnOk, decimal, length, reverse};
-ghost use Rattle.std.specs.List.{flat_map, list_all};
-ghost use Rattle.explain_text.specs.Explained.{buffer_fault_line, fault_line, faulty_frame, refused_part, unmet_part, is_unmet, legal_text, refuses, unmet_line};
+ghost use Rattle.std.specs.Prelude.{◌≡◌, ◌+◌, ◌≤◌, ◌++◌, IfOk, IsTrue, OnOk, length, reverse};
+ghost use Rattle.std.specs.List.{list_all};
+ghost use Rattle.explain_text.specs.Explained.{is_unmet, legal_text, refused_command, refused_line, refused_lines, refused_part, unmet_line, unmet_lines, unmet_part};
 ghost use Rattle.trace_model.specs.Printable.{is_printable};
 
+use crate::script::{put_command, put_fault};
 use cam_types::{Fault, NoMemory, Script};
-use explain_lines::{Choice, LINE_LIMIT, put_headed, put_lines, put_number};
+use explain_lines::{LINE_LIMIT, put_headed, put_line};
+use explain_picks::put_picks_part;
 use judge_entries::entry::is_refusal;
 use judge_filters::frame::{has_target, is_sent};
 use judge_text::verdict_text;
@@ -26,103 +28,110 @@ fn is_unmet(entries: &[Entry], fault: &Fault) -> bool
     }
 }
 
-/// Writes what a fault is of, behind its words.
-fn put_fault_of(
-    text: &mut Vec<u8>,
-    alloc: Global,
-    words: &[u8],
-    number: u32,
-) -> Result<(), NoMemory>
-    ensures { OnOk result (text.new.items ≡ text.old.items ++ (words.now ++ (decimal number ++ 10 ∷ []))) }
-{
-    text.extend_from_slice(words)?;
-    put_number(text, alloc, u64::from(number))?;
-    text.extend_from_slice(b"\n")
-}
-
-/// Writes a number and a space behind words.
-fn put_spaced(text: &mut Vec<u8>, alloc: Global, words: &[u8], number: u32) -> Result<(), NoMemory>
-    ensures { OnOk result (text.new.items ≡ text.old.items ++ (words.now ++ (decimal number ++ 32 ∷ []))) }
-{
-    text.extend_from_slice(words)?;
-    put_number(text, alloc, u64::from(number))?;
-    text.extend_from_slice(b" ")
-}
-
-/// Writes the beginning of the line of a script for a fault of a buffer.
-#[tactic(auto, unfolding(crate::specs::Explained::faulty_frame))]
-fn put_faulty_frame(text: &mut Vec<u8>, alloc: Global, frame: u32) -> Result<(), NoMemory>
-    ensures { OnOk result (text.new.items ≡ text.old.items ++ faulty_frame frame) }
-{
-    put_spaced(text, alloc, b"    fault buffer ", frame)
-}
-
-/// Writes the line of a script for a fault of a buffer.
-fn put_buffer_fault(
-    text: &mut Vec<u8>,
-    alloc: Global,
-    frame: u32,
-    stream: u8,
-) -> Result<(), NoMemory>
-    ensures { OnOk result (text.new.items ≡ text.old.items ++ buffer_fault_line frame stream) }
-{
-    put_faulty_frame(text, alloc, frame)?;
-    put_number(text, alloc, u64::from(stream))?;
-    text.extend_from_slice(b"\n")
-}
-
-/// Writes the line of a script for a fault.
-fn put_fault(text: &mut Vec<u8>, alloc: Global, fault: &Fault) -> Result<(), NoMemory>
-    ensures { OnOk result (text.new.items ≡ text.old.items ++ fault_line fault.now) }
-{
-    match fault {
-        Fault::Request(frame) => put_fault_of(text, alloc, b"    fault request ", frame.0),
-        Fault::Result(frame) => put_fault_of(text, alloc, b"    fault result ", frame.0),
-        Fault::Device(frame) => put_fault_of(text, alloc, b"    fault device ", frame.0),
-        Fault::Buffer(frame, stream) => put_buffer_fault(text, alloc, frame.0, stream.0),
-    }
-}
-
-/// Writes the line of a fault, where no frame met it.
+/// Writes the line of the fault that has this place in the script, where no frame met it.
 fn put_unmet(
     text: &mut Vec<u8>,
     alloc: Global,
+    part: &[u8],
     entries: &[Entry],
+    place: usize,
     fault: &Fault,
 ) -> Result<(), NoMemory>
-    ensures { OnOk result (text.new.items ≡ text.old.items ++ unmet_line (reverse entries.now) fault.now) }
+    requires { length part.now ≤ 134217728 }
+    ensures { OnOk result
+        (text.new.items ≡ text.old.items ++ unmet_line part.now (reverse entries.now) place fault.now) }
 {
     if is_unmet(entries, fault) {
-        put_fault(text, alloc, fault)
+        put_fault(text, alloc, part, place)
     } else {
         Ok(())
     }
 }
 
 /// The lines of the faults that no frame met.
-fn unmet(alloc: Global, script: &Script, entries: &[Entry]) -> Result<Vec<u8>, NoMemory>
-    ensures { IfOk result (λ text. text.items ≡ flat_map (unmet_line (reverse entries.now)) script.now.faults) }
+fn unmet(
+    alloc: Global,
+    part: &[u8],
+    entries: &[Entry],
+    faults: &[Fault],
+) -> Result<Vec<u8>, NoMemory>
+    requires { length part.now ≤ 134217728 }
+    ensures { IfOk result (λ text. text.items ≡ unmet_lines part.now (reverse entries.now) 0 faults.now) }
 {
     let mut text = Vec::new(alloc);
-    for fault in script.faults.as_slice() {
-        put_unmet(&mut text, alloc, entries, fault)?;
+    let mut place = 0;
+    let mut rest = faults;
+    while let [fault, after @ ..] = rest {
+        put_unmet(&mut text, alloc, part, entries, place, fault)?;
+        place += 1;
+        rest = after;
     }
     Ok(text)
 }
 
-/// Which entries refuse a command.
-#[derive(Clone, Copy)]
-struct Refusals;
+/// Writes the line of the command that has this place in the script, and that of its call, which has the number.
+#[tactic(auto, unfolding(crate::specs::Explained::refused_command))]
+fn put_refused_command(
+    text: &mut Vec<u8>,
+    alloc: Global,
+    printer: &mut Printer,
+    part: &[u8],
+    number: u64,
+    place: u32,
+    call: &Entry,
+) -> Result<(), NoMemory>
+    requires long { length part.now ≤ 134217728 }
+    requires printable { IsTrue (is_printable call.now) }
+    ensures { OnOk result (text.new.items ≡ text.old.items ++ refused_command part.now number place call.now) }
+{
+    put_command(text, alloc, part, place as usize)?;
+    text.extend_from_slice(b"    ")?;
+    put_line(text, alloc, printer, number, call)
+}
 
-impl Choice for Refusals {
-    ghost test = { λ _. refuses };
-
-    fn holds(&self, entry: &Entry) -> bool {
-        match entry {
-            Entry::Call { reply, .. } => is_refusal(reply),
-            _ => false,
+/// Writes a command that was refused, where the entry refuses one. Its line has the number.
+fn put_refused(
+    text: &mut Vec<u8>,
+    alloc: Global,
+    printer: &mut Printer,
+    part: &[u8],
+    number: u64,
+    entry: &Entry,
+) -> Result<(), NoMemory>
+    requires long { length part.now ≤ 134217728 }
+    requires printable { IsTrue (is_printable entry.now) }
+    ensures { OnOk result (text.new.items ≡ text.old.items ++ refused_line part.now number entry.now) }
+{
+    match entry {
+        Entry::Call { index, reply, .. } if is_refusal(reply) => {
+            put_refused_command(text, alloc, printer, part, number, *index, entry)
         }
+        _ => Ok(()),
     }
+}
+
+/// The commands that were refused. The line of the first entry has the number.
+fn refused(
+    alloc: Global,
+    printer: &mut Printer,
+    part: &[u8],
+    entries: &[Entry],
+    number: u64,
+) -> Result<Vec<u8>, NoMemory>
+    requires long { length part.now ≤ 134217728 }
+    requires printable { IsTrue (list_all is_printable entries.now) }
+    requires numbers { number + length entries.now ≤ LINE_LIMIT }
+    ensures { IfOk result (λ text. text.items ≡ refused_lines part.now number entries.now) }
+{
+    let mut text = Vec::new(alloc);
+    let mut number = number;
+    let mut rest = entries;
+    while let [entry, after @ ..] = rest {
+        put_refused(&mut text, alloc, printer, part, number, entry)?;
+        number += 1;
+        rest = after;
+    }
+    Ok(text)
 }
 
 /// Writes the faults that no frame met, behind their heading.
@@ -131,11 +140,14 @@ fn put_unmet_part(
     text: &mut Vec<u8>,
     alloc: Global,
     script: &Script,
+    part: &[u8],
     entries: &[Entry],
 ) -> Result<(), NoMemory>
-    ensures { OnOk result (text.new.items ≡ text.old.items ++ unmet_part script.now (reverse entries.now)) }
+    requires { length part.now ≤ 134217728 }
+    ensures { OnOk result
+        (text.new.items ≡ text.old.items ++ unmet_part script.now part.now (reverse entries.now)) }
 {
-    let faults = unmet(alloc, script, entries)?;
+    let faults = unmet(alloc, part, entries, script.faults.as_slice())?;
     put_headed(text, b"Faults that no frame met:\n", faults.as_slice())
 }
 
@@ -145,33 +157,38 @@ fn put_refused_part(
     text: &mut Vec<u8>,
     alloc: Global,
     printer: &mut Printer,
+    part: &[u8],
     entries: &[Entry],
     number: u64,
 ) -> Result<(), NoMemory>
+    requires long { length part.now ≤ 134217728 }
     requires printable { IsTrue (list_all is_printable entries.now) }
     requires numbers { number + length entries.now ≤ LINE_LIMIT }
-    ensures { OnOk result (text.new.items ≡ text.old.items ++ refused_part number entries.now) }
+    ensures { OnOk result (text.new.items ≡ text.old.items ++ refused_part part.now number entries.now) }
 {
-    let mut lines = Vec::new(alloc);
-    put_lines(&mut lines, alloc, printer, &Refusals, number, entries)?;
+    let lines = refused(alloc, printer, part, entries, number)?;
     put_headed(text, b"Commands that were refused:\n", lines.as_slice())
 }
 
-/// The text of a legal trace, whose first entry's line has the number.
+/// The text of a legal trace, whose first entry's line has the number. The script's played run has so many moves.
 #[tactic(auto, unfolding(crate::specs::Explained::legal_text))]
 pub fn legal_text(
     alloc: Global,
     printer: &mut Printer,
     script: &Script,
+    part: &[u8],
+    moves: u64,
     entries: &[Entry],
     number: u64,
 ) -> Result<Vec<u8>, NoMemory>
+    requires long { length part.now ≤ 134217728 }
     requires printable { IsTrue (list_all is_printable entries.now) }
     requires numbers { number + length entries.now ≤ LINE_LIMIT }
-    ensures { IfOk result (λ text. text.items ≡ legal_text script.now number entries.now) }
+    ensures { IfOk result (λ text. text.items ≡ legal_text script.now part.now moves number entries.now) }
 {
     let mut text = verdict_text(alloc, Verdict::Legal)?;
-    put_unmet_part(&mut text, alloc, script, entries)?;
-    put_refused_part(&mut text, alloc, printer, entries, number)?;
+    put_unmet_part(&mut text, alloc, script, part, entries)?;
+    put_refused_part(&mut text, alloc, printer, part, entries, number)?;
+    put_picks_part(&mut text, alloc, script, part, moves)?;
     Ok(text)
 }

@@ -6,7 +6,8 @@ ghost use Rattle.rule_mentions.specs.Mentions.{mentions};
 ghost use Rattle.trace_model.specs.Printable.{is_printable};
 
 use crate::reason::put_reason;
-use cam_types::NoMemory;
+use crate::script::put_command_part;
+use cam_types::{NoMemory, Script};
 use explain_lines::{Choice, LINE_LIMIT, put_headed, put_last_lines, put_number};
 use rule_conditions::Condition;
 use rule_mentions::mentions;
@@ -50,18 +51,23 @@ fn put_failed(
     text: &mut Vec<u8>,
     alloc: Global,
     printer: &mut Printer,
+    script: &Script,
+    part: &[u8],
     rule: RuleName,
     number: u64,
     before: &[Entry],
     faulty: &Entry,
     condition: Condition,
 ) -> Result<(), NoMemory>
+    requires long { length part.now ≤ 134217728 }
     requires printable { IsTrue (list_all is_printable before.now) }
     requires numbers { number + length before.now ≤ LINE_LIMIT }
     ensures { OnOk result
-        (text.new.items ≡ text.old.items ++ failed_text rule number before.now faulty.now (Some condition)) }
+        (text.new.items ≡ text.old.items ++ failed_text script.now part.now rule number before.now faulty.now
+        (Some condition)) }
 {
     put_reason(text, rule, condition)?;
+    put_command_part(text, alloc, script, part, before, faulty)?;
     let mut lines = Vec::new(alloc);
     let choice = Mentioned {
         condition,
@@ -78,6 +84,8 @@ fn put_failed(
 pub fn illegal_text(
     alloc: Global,
     printer: &mut Printer,
+    script: &Script,
+    part: &[u8],
     rule: RuleName,
     number: u64,
     position: u32,
@@ -85,19 +93,21 @@ pub fn illegal_text(
     faulty: &Entry,
     failed: Condition,
 ) -> Result<Vec<u8>, NoMemory>
+    requires long { length part.now ≤ 134217728 }
     requires printable { IsTrue (list_all is_printable before.now) }
     requires shown { IsTrue (is_printable faulty.now) }
     requires numbers { number + length before.now ≤ LINE_LIMIT }
     requires head { number + position ≤ LINE_LIMIT }
     ensures { IfOk result
-        (λ text. text.items ≡ illegal_text rule number position before.now faulty.now (Some failed)) }
+        (λ text. text.items ≡ illegal_text script.now part.now rule number position before.now faulty.now
+        (Some failed)) }
 {
     let mut text = Vec::new(alloc);
     put_head(&mut text, alloc, number, position)?;
     text.extend_from_slice(b"    ")?;
     text.extend_from_slice(printer.line(*faulty))?;
     put_failed(
-        &mut text, alloc, printer, rule, number, before, faulty, failed,
+        &mut text, alloc, printer, script, part, rule, number, before, faulty, failed,
     )?;
     Ok(text)
 }

@@ -4,6 +4,7 @@
 mod idle;
 mod illegal;
 mod reason;
+mod script;
 
 pub use idle::legal_text;
 pub use illegal::illegal_text;

@@ -44,7 +44,7 @@ pub fn chart_of(alloc: Global, log: &HalLog) -> Result<Judged, NoMemory>
     ensures chart { IfOk result (λ judged. judged.chart ≡ chart_of log.now) }
     ensures broken { IfOk result (λ judged. judged.broken ≡ is_some_breach (breaches_of log.now)) }
 {
-    let mut pass = Pass::new(alloc);
+    let mut pass = Pass::new(alloc)?;
     let count = log.events.len();
     let groups = draw_all(
         alloc,

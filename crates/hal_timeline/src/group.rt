@@ -58,14 +58,14 @@ fn is_changed(level: u64, next: u64, stopping: bool, then_stopping: bool) -> boo
 
 impl Pass {
     /// Before the first event.
-    pub fn new(alloc: Global) -> Pass
-        ensures { (k : ℕ) → IsPast k [] result }
+    pub fn new(alloc: Global) -> Result<Pass, NoMemory>
+        ensures { IfOk result (λ pass. (k : ℕ) → IsPast k [] pass) }
     {
-        Pass {
+        Ok(Pass {
             walk: Walk::new(alloc),
-            table: HalTable::new(alloc),
+            table: HalTable::new(alloc)?,
             breaches: Vec::new(alloc),
-        }
+        })
     }
 
     /// How many requests are live.

@@ -46,7 +46,7 @@ pub fn sentence_of(condition: Condition) -> &'static str
         Condition::ShutterWithoutDeviceFault =>
             "A frame that the script has a device fault for has no shutter",
         Condition::ShutterTime =>
-            "A shutter is at 1 s, then 33333333 ns behind the last one, or its frame's exposure where that is more",
+            "The first shutter is at 1 s, each next one later by the last frame's exposure, at least 33333333 ns",
         Condition::PartialBehindShutter =>
             "A metadata result comes behind the shutter of its frame",
         Condition::PartialNextNumber =>

@@ -3,8 +3,8 @@ use Rattle.std.specs.Prelude.{◌≡◌, ◌≢◌, ℕ, Bool, List, Result, Ok,
 use Rattle.io_edge.specs.States.{SinkState, Writes}
 use Rattle.cam_types.specs.declared.script.Script.{Script}
 use Rattle.hal_text.specs.Meaning.{log_of}
-use Rattle.hal_text.specs.declared.cause.LogRefused.{LogRefused}
-use Rattle.hal_text.specs.declared.cause.LogRefused.TheVariants.{Bad as BadLog, NoMemory as NoLogMemory}
+use Rattle.hal_text.specs.declared.refused.LogRefused.{LogRefused}
+use Rattle.hal_text.specs.declared.refused.LogRefused.TheVariants.{Bad as BadLog, NoMemory as NoLogMemory}
 use Rattle.hal_text.specs.declared.log.HalLog.{HalLog}
 use Rattle.hal_person.specs.Refusal.{refused_text as refused_log_text}
 use Rattle.hal_timeline.specs.Charts.{breaches_of}

@@ -17,4 +17,4 @@ illegal_entry-requires-clause-shown c =
 pub returns-in-Some : goal.returns-in-Some
 returns-in-Some c =
     let is = c.before_of-before.ensures.value ∙ ap (λ (xs : List Entry). take c.args.position xs) c.as_slice.ensures in
-    told_at c.args.script.now c.args.rule c.args.number c.args.position c.args.trace.now.entries _ _ _ (sym c.in-Some.ensures) is c.illegal_entry.ensures
+    told_at c.args.script.now c.args.part.now c.args.rule c.args.number c.args.position c.args.trace.now.entries _ _ _ (sym c.in-Some.ensures) is c.illegal_entry.ensures

@@ -1,7 +1,13 @@
-use Rattle.std.proofs.Common.{◌≡◌, reverse, take}
-use Rattle.std.specs.List.{flat_map}
-use Rattle.explain_text.specs.Explained.{unmet_line}
+use Rattle.std.proofs.Common.{◌≡◌, ◌+◌, ◌++◌, length, reverse}
+use Rattle.explain_text.specs.Explained.{unmet_lines}
 use Rattle.explain_text.proofs.idle.unmet.Given as goal
 
-abbrev pub invariant-loop-fault : goal.invariant-loop-fault
-invariant-loop-fault l = l.text.items ≡ flat_map (unmet_line (reverse l.entries)) (take l.fault-index l.script.faults)
+-- what is written and what is left are the whole
+abbrev pub invariant-loop-rest : goal.invariant-loop-rest
+invariant-loop-rest l = record {
+  whole : l.text.items ++ unmet_lines l.part (reverse l.entries) l.place l.rest ≡ unmet_lines l.part (reverse l.entries) 0 l.faults;
+  place : l.place + length l.rest ≡ length l.faults;
+}
+
+abbrev pub decreases-loop-rest : goal.decreases-loop-rest
+decreases-loop-rest l = length l.rest

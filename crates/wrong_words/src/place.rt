@@ -1,0 +1,126 @@
+//! Which kind the places of a line ask for.
+ghost use Rattle.std.specs.Prelude.{◌≡◌};
+ghost use Rattle.wrong_words.specs.Places.{buffer_kind, by_place, call_kind, is_item_word, script_kind, trace_kind};
+
+use crate::kind::WordKind;
+
+/// The kinds of the first three places, and of all behind them.
+fn by_place(
+    first: WordKind,
+    second: WordKind,
+    third: WordKind,
+    rest: WordKind,
+    place: usize,
+) -> WordKind
+    ensures { result ≡ by_place first second third rest place }
+{
+    match place {
+        1 => first,
+        2 => second,
+        3 => third,
+        _ => rest,
+    }
+}
+
+/// Whether items stand behind the word.
+fn is_item_word(first: &[u8]) -> bool
+    ensures { result ≡ is_item_word first.now }
+{
+    first == b"once".as_slice() || first == b"burst".as_slice() || first == b"repeat".as_slice()
+}
+
+/// The kind at a place behind the first word of a script's line, from 1 on.
+#[tactic(auto, unfolding(crate::specs::Places::script_kind))]
+pub fn script_kind(first: &[u8], place: usize) -> WordKind
+    ensures { result ≡ script_kind first.now place }
+{
+    if first == b"fault".as_slice() {
+        by_place(
+            WordKind::Any,
+            WordKind::Number,
+            WordKind::Byte,
+            WordKind::Byte,
+            place,
+        )
+    } else if first == b"pick".as_slice() {
+        WordKind::Number
+    } else if first == b"device".as_slice() {
+        WordKind::ProfileNumber
+    } else if first == b"configure".as_slice() {
+        WordKind::Spec
+    } else if is_item_word(first) {
+        WordKind::Item
+    } else if first == b"await".as_slice() {
+        WordKind::Count
+    } else {
+        WordKind::Any
+    }
+}
+
+/// The kind behind the `ok` or `refused` of a call.
+fn call_kind(how: &[u8], place: usize) -> WordKind
+    ensures { result ≡ call_kind how.now place }
+{
+    if place == 4 {
+        WordKind::Any
+    } else if how != b"refused".as_slice() {
+        WordKind::Reply
+    } else if place == 5 {
+        WordKind::Byte
+    } else {
+        WordKind::Number
+    }
+}
+
+/// The kind behind the `ok` or `error` of a buffer.
+fn buffer_kind(how: &[u8], place: usize) -> WordKind
+    ensures { result ≡ buffer_kind how.now place }
+{
+    if place == 4 {
+        WordKind::Any
+    } else if how != b"ok".as_slice() {
+        WordKind::FenceOrNone
+    } else if place == 5 {
+        WordKind::Any
+    } else {
+        WordKind::Digest
+    }
+}
+
+/// The kind at a place behind the first word of a trace's line, from 1 on, by the first word and the one at place 4.
+#[tactic(auto, unfolding(crate::specs::Places::trace_kind))]
+pub fn trace_kind(first: &[u8], how: &[u8], place: usize) -> WordKind
+    ensures { result ≡ trace_kind first.now how.now place }
+{
+    use WordKind::{
+        Any, Buffer, Byte, Bytes, DeviceFence, Digest, Fence, ItemName, Number, PartNumber,
+        ProfileNumber, Target, Time,
+    };
+    if first == b"trace".as_slice() {
+        by_place(Any, ProfileNumber, ProfileNumber, ProfileNumber, place)
+    } else if first == b"call".as_slice() {
+        by_place(Number, Any, Any, call_kind(how, place), place)
+    } else if first == b"send".as_slice() {
+        by_place(Number, ItemName, Any, Target, place)
+    } else if first == b"drop".as_slice() {
+        by_place(Number, ItemName, Any, Any, place)
+    } else if first == b"shutter".as_slice() {
+        by_place(Number, Time, Any, Any, place)
+    } else if first == b"partial".as_slice() {
+        by_place(Number, PartNumber, Bytes, Any, place)
+    } else if first == b"buffer".as_slice() {
+        by_place(Number, Byte, Buffer, buffer_kind(how, place), place)
+    } else if first == b"early".as_slice() {
+        by_place(Number, Byte, Buffer, DeviceFence, place)
+    } else if first == b"filled".as_slice() {
+        by_place(DeviceFence, Digest, Any, Any, place)
+    } else if first == b"error".as_slice() {
+        by_place(Any, Number, Byte, Any, place)
+    } else if first == b"release".as_slice() {
+        by_place(Buffer, Fence, Any, Any, place)
+    } else if first == b"signal".as_slice() {
+        by_place(Fence, Any, Any, Any, place)
+    } else {
+        Any
+    }
+}
