@@ -1,0 +1,9 @@
+pub mod Resting
+pub mod Jobs
+pub mod Backs
+pub mod Plans
+pub mod Parking
+pub mod Keeping
+pub mod Offers
+pub mod Deliveries
+pub mod Fresh

@@ -1,0 +1,11 @@
+pub mod Found
+pub mod Apart
+pub mod Fits
+pub mod Changes
+pub mod Requests
+pub mod Errors
+pub mod Harmless
+pub mod Steps
+pub mod Whole
+pub mod Lives
+pub mod Frames
