@@ -2,4 +2,4 @@
 use Rattle.hal_timeline.proofs.chart.chart_of.Goals as goal
 
 pub draw_all-requires-clause-first : goal.draw_all-requires-clause-first
-draw_all-requires-clause-first c = c.new-pass.ensures c.args.log.now.parts
+draw_all-requires-clause-first c = c.in_ok-pass.ensures c.args.log.now.parts
