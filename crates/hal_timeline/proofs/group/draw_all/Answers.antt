@@ -1,18 +1,23 @@
 -- One event more is drawn.
-use Rattle.std.proofs.Common.{◌≡◌, ◌+◌, ◌∷◌, length, reverse, rules, take}
-use Rattle.hal_timeline.specs.Groups.{all_groups}
+use Rattle.std.proofs.Common.{◌≡◌, reverse, take}
+use Rattle.std.proofs.lemmas.List.{take_all}
 use Rattle.hal_timeline.specs.Passes.{IsPast}
+use Rattle.hal_timeline.proofs.Drawn.{drawn_more, long_turned, turned_item}
 use Rattle.hal_timeline.proofs.group.draw_all.Goals as goal
 
 pub loop-place-preserved : goal.loop-place-preserved
 loop-place-preserved c =
-    let before = reverse (take c.loop-place.place c.args.events.now) in
-    let more : reverse (take (c.loop-place.place + 1) c.args.events.now) ≡ c.index-events-place.result.now ∷ before = search rules in
-    let long : length before ≡ c.loop-place.place = search rules in
-    let drawn : c.push.new.self ≡ all_groups c.args.parts c.args.lines.now (reverse (take (c.loop-place.place + 1) c.args.events.now)) = search rules in
-    record { stands = rw more (c.in_ok-group.ensures.past before c.loop-place.invariant.stands long); drawn = drawn }
+    let es = c.args.events.now in
+    let i = c.loop-place.place in
+    let before = reverse (take i es) in
+    let more = turned_item es i c.index-events-place.result c.loop-place-test.true c.index-events-place.is in
+    let long = long_turned es i c.loop-place-test.true in
+    record {
+      stands = rw more (c.in_ok-group.ensures.past before c.loop-place.invariant.stands long);
+      drawn = drawn_more c.args.parts c.args.lines.now before _ c.index-events-place.result c.in_ok-group.group c.loop-place.groups c.push.new.self more (c.in_ok-group.ensures.drawn before c.loop-place.invariant.stands long) c.loop-place.invariant.drawn c.in_ok-push.ensures.ok;
+    }
 
 pub returns-clause-past : goal.returns-clause-past
 returns-clause-past c =
-    let all : take c.loop-place.place c.args.events.now ≡ c.args.events.now = search rules in
+    let all : take c.loop-place.place c.args.events.now ≡ c.args.events.now = take_all c.loop-place.place c.args.events.now c.loop-place-test.false in
     rw all at c.loop-place.invariant.stands
