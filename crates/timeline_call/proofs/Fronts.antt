@@ -9,6 +9,7 @@ use Rattle.trace_check.specs.Verdict.{IsVerdict}
 use Rattle.trace_check.specs.declared.verdict.Verdict.{Verdict}
 use Rattle.trace_check.specs.declared.verdict.Verdict.TheVariants.{Legal, IllegalAt, Incomplete}
 use Rattle.trace_model.specs.declared.entry.Entry.{Entry}
+use Rattle.trace_model.specs.Allowed.{IsAllowed}
 use Rattle.trace_model.specs.Legal.{IsLegal}
 use Rattle.trace_model.specs.Printable.{is_printable}
 use Rattle.timeline_model.specs.Drawings.{all_drawn, drawn_of}
@@ -56,6 +57,12 @@ pub fault_prints : (entries : List Entry) (v : Verdict) → list_all is_printabl
 fault_prints entries Legal h = tt
 fault_prints entries (IllegalAt p rule) h = one_prints entries p h
 fault_prints entries (Incomplete part) h = tt
+
+-- the entry that a verdict names isn't allowed behind those before it
+pub fault_refused : (script : Script) (entries : List Entry) (v : Verdict) → IsVerdict script entries v → IfSome (fault_in entries v) (λ e. IsAllowed script (reverse (front entries v)) e → ⊥)
+fault_refused script entries Legal judged = tt
+fault_refused script entries (IllegalAt p rule) judged = rw judged.at judged.refused
+fault_refused script entries (Incomplete part) judged = tt
 
 taken-length : {X : Type 0} (n : ℕ) (xs : List X) → length (take n xs) ≤ length xs
 taken-length zero [] = omega arith

@@ -31,4 +31,5 @@ text_in Perfetto chart = json_text chart
 -- the timeline of the entries that are allowed, with the one that isn't and the verdict
 unfoldable pub text_of : Form → Script → List Entry → Verdict → List ℕ
 text_of form script entries v =
-    text_in form (chart_of (timeline script (reverse (front entries v))) (fault_in entries v) (note_text v))
+    text_in form (chart_of (timeline script (reverse (front entries v))) (fault_in entries v)
+    (note_text script (front entries v) (fault_in entries v) v))

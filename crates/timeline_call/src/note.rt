@@ -1,23 +1,38 @@
 //! What stands under a picture: the verdict on the trace.
-ghost use Rattle.std.specs.Prelude.{◌≡◌, ◌++◌, IfOk, OnOk};
-ghost use Rattle.timeline_call.specs.Notes.{note_text, part_note, rule_note};
+ghost use Rattle.std.specs.Prelude.{◌≡◌, IfOk, IfSome, reverse};
+ghost use Rattle.timeline_call.specs.Notes.{fault_note, note_text, part_note, rule_note};
+ghost use Rattle.trace_model.specs.Allowed.{IsAllowed};
 
-use cam_types::NoMemory;
+use cam_types::{NoMemory, Script};
+use judge_conditions::first_failed;
+use rule_sentences::sentence_of;
 use std::alloc::Global;
 use trace_check::{MissingPart, RuleName, Verdict};
+use trace_model::Entry;
 
-/// What a rule asks for.
+/// The rule that an entry breaks.
 fn rule_note(rule: RuleName) -> &'static str
     ensures { result.now ≡ rule_note rule }
 {
     match rule {
-        RuleName::D9 => " D9: this send isn't due, or a buffer of it isn't free",
-        RuleName::D10 => " D10: this drop isn't due",
-        RuleName::D11 => " D11: this shutter isn't due, or it has another time",
-        RuleName::D12 => " D12: this metadata isn't due",
-        RuleName::D13 => " D13: this buffer with its picture isn't due",
-        RuleName::D14 => " D14: this error, or this buffer in error, isn't due",
-        RuleName::D15 => " D15: the client may not do this here",
+        RuleName::D9 => " D9: ",
+        RuleName::D10 => " D10: ",
+        RuleName::D11 => " D11: ",
+        RuleName::D12 => " D12: ",
+        RuleName::D13 => " D13: ",
+        RuleName::D14 => " D14: ",
+        RuleName::D15 => " D15: ",
+    }
+}
+
+/// The sentence of the first condition that an entry doesn't meet behind those before it.
+fn fault_note(script: &Script, before: &[Entry], fault: Option<Entry>) -> &'static str
+    requires { IfSome fault (λ e. ¬ IsAllowed script.now (reverse before.now) e) }
+    ensures { result.now ≡ fault_note script.now before.now fault }
+{
+    match fault {
+        Some(entry) => sentence_of(first_failed(script, before, &entry)),
+        None => "",
     }
 }
 
@@ -34,9 +49,16 @@ fn part_note(part: MissingPart) -> &'static str
     }
 }
 
-/// The note of a verdict.
-pub fn note_text(alloc: Global, verdict: Verdict) -> Result<Vec<u8>, NoMemory>
-    ensures { IfOk result (λ text. text.items ≡ note_text verdict) }
+/// The note of a verdict on a trace, with the entries that are allowed and the one that isn't.
+pub fn note_text(
+    alloc: Global,
+    script: &Script,
+    before: &[Entry],
+    fault: Option<Entry>,
+    verdict: Verdict,
+) -> Result<Vec<u8>, NoMemory>
+    requires { IfSome fault (λ e. ¬ IsAllowed script.now (reverse before.now) e) }
+    ensures { IfOk result (λ text. text.items ≡ note_text script.now before.now fault verdict) }
 {
     let mut text = Vec::new(alloc);
     match verdict {
@@ -48,6 +70,7 @@ pub fn note_text(alloc: Global, verdict: Verdict) -> Result<Vec<u8>, NoMemory>
             text.extend_from_slice(b"illegal ")?;
             text.extend_from_slice(position.to_string(alloc)?.as_bytes())?;
             text.extend_from_slice(rule_note(rule).as_bytes())?;
+            text.extend_from_slice(fault_note(script, before, fault).as_bytes())?;
             Ok(text)
         }
         Verdict::Incomplete { part } => {

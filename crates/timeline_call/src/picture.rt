@@ -54,7 +54,8 @@ pub fn text_of(
 {
     let legal = front(entries, verdict);
     let shown = timeline_of(alloc, script, legal)?;
-    let note = note_text(alloc, verdict)?;
-    let chart = chart_of(alloc, &shown, fault_in(entries, verdict), note.as_slice())?;
+    let fault = fault_in(entries, verdict);
+    let note = note_text(alloc, script, legal, fault, verdict)?;
+    let chart = chart_of(alloc, &shown, fault, note.as_slice())?;
     text_in(alloc, form, &chart)
 }

@@ -1,6 +1,6 @@
 -- What is drawn is legal, and each entry of it has a line.
 use Rattle.std.proofs.Common.{ap, arith, length}
-use Rattle.timeline_call.proofs.Fronts.{all_print, fault_prints, front_legal, front_length}
+use Rattle.timeline_call.proofs.Fronts.{all_print, fault_prints, fault_refused, front_legal, front_length}
 use Rattle.timeline_call.proofs.picture.text_of.Goals as goal
 
 pub timeline_of-requires-clause-legal : goal.timeline_of-requires-clause-legal
@@ -18,4 +18,8 @@ chart_of-requires-clause-drawn c =
 
 pub chart_of-requires-clause-fault : goal.chart_of-requires-clause-fault
 chart_of-requires-clause-fault c =
-    rw c.fault_in.ensures (fault_prints c.args.entries.now c.args.verdict c.requires.printable)
+    rw c.fault_in-fault.ensures (fault_prints c.args.entries.now c.args.verdict c.requires.printable)
+
+pub note_text-requires : goal.note_text-requires
+note_text-requires c =
+    rw (c.fault_in-fault.ensures, c.front-legal.ensures) (fault_refused c.args.script.now c.args.entries.now c.args.verdict c.requires.judged)
