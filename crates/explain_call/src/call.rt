@@ -2,6 +2,7 @@
 ghost use Rattle.std.specs.Prelude.{◌≡◌, ◌≢◌, ◌+◌, ◌≤◌, IfSome, IsTrue, Ok, length};
 ghost use Rattle.std.specs.Io.KnownBytes.{IsAtEnd};
 ghost use Rattle.std.specs.List.{list_all};
+ghost use Rattle.cam_types.specs.Script.{is_valid};
 ghost use Rattle.io_edge.specs.Faults.{Rose};
 ghost use Rattle.io_edge.specs.States.{Writes, WritesNothing};
 ghost use Rattle.trace_check.specs.Verdict.{IsVerdict};
@@ -83,6 +84,7 @@ fn explain_text_of<K: Sink>(
     sink: &mut K,
 ) -> Status
     requires meant { script_of part.now ≡ Ok script.now }
+    requires valid { IsTrue (is_valid script.now) }
     requires part { length part.now ≤ 134217728 }
     requires long { length text.now ≤ 134217728 }
     requires some { 1 ≤ first_line }
@@ -112,6 +114,7 @@ fn explain_trace<K: Sink>(
     sink: &mut K,
 ) -> Status
     requires meant { script_of part.now ≡ Ok script.now }
+    requires valid { IsTrue (is_valid script.now) }
     requires part { length part.now ≤ 134217728 }
     requires numbers { first_line ≤ 134217729 }
     requires printable { IsTrue (list_all is_printable trace.now.entries) }
@@ -148,6 +151,7 @@ fn write_explanation<K: Sink>(
     judged: Judged,
     sink: &mut K,
 ) -> Status
+    requires valid { IsTrue (is_valid script.now) }
     requires judged { IsVerdict script.now trace.now.entries judged.verdict }
     requires part { length part.now ≤ 134217728 }
     requires numbers { first_line ≤ 134217729 }

@@ -1,14 +1,17 @@
 //! A verdict in words.
 ghost use Rattle.std.specs.Prelude.{◌≡◌, ◌+◌, ◌≤◌, IfOk, IsTrue, length, reverse, take};
 ghost use Rattle.std.specs.List.{list_all};
+ghost use Rattle.cam_types.specs.Script.{is_valid};
 ghost use Rattle.explain_call.specs.Explaining.{explained, illegal_at};
 ghost use Rattle.explain_text.specs.Explained.{illegal_text};
 ghost use Rattle.rule_conditions.specs.Conditions.{first_failed};
 ghost use Rattle.trace_check.specs.Verdict.{IsIllegalAt, IsVerdict};
 ghost use Rattle.trace_model.specs.Allowed.{IsAllowed};
+ghost use Rattle.trace_model.specs.Legal.{IsLegal};
 ghost use Rattle.trace_model.specs.Printable.{is_printable};
 
 use crate::judged::Judged;
+use allowed_entries::allowed_after;
 use cam_types::{NoMemory, Script};
 use explain_lines::LINE_LIMIT;
 use explain_missing::incomplete_text;
@@ -19,8 +22,8 @@ use trace_check::{RuleName, Verdict};
 use trace_model::{Entry, TraceList};
 use trace_text::Printer;
 
-/// The text of an entry that isn't allowed behind those before it, with the first condition that it doesn't meet. The
-/// line of the first one before has the number.
+/// The text of an entry that isn't allowed behind those before it, with the first condition that it doesn't meet and
+/// what is allowed in its place. The line of the first one before has the number.
 fn illegal_entry(
     alloc: Global,
     printer: &mut Printer,
@@ -32,6 +35,8 @@ fn illegal_entry(
     before: &[Entry],
     faulty: &Entry,
 ) -> Result<Vec<u8>, NoMemory>
+    requires valid { IsTrue (is_valid script.now) }
+    requires legal { IsLegal script.now (reverse before.now) }
     requires refused { ¬ IsAllowed script.now (reverse before.now) faulty.now }
     requires part { length part.now ≤ 134217728 }
     requires printable { IsTrue (list_all is_printable before.now) }
@@ -42,8 +47,19 @@ fn illegal_entry(
         (first_failed script.now (reverse before.now) faulty.now)) }
 {
     let failed = first_failed(script, before, faulty);
+    let allowed = allowed_after(alloc, script, before)?;
     illegal_text(
-        alloc, printer, script, part, rule, number, position, before, faulty, failed,
+        alloc,
+        printer,
+        script,
+        part,
+        rule,
+        number,
+        position,
+        before,
+        faulty,
+        failed,
+        allowed.as_slice(),
     )
 }
 
@@ -75,6 +91,7 @@ fn illegal_at(
     number: u64,
     position: u32,
 ) -> Result<Vec<u8>, NoMemory>
+    requires valid { IsTrue (is_valid script.now) }
     requires judged { IsIllegalAt script.now trace.now.entries position rule }
     requires part { length part.now ≤ 134217728 }
     requires printable { IsTrue (list_all is_printable trace.now.entries) }
@@ -100,6 +117,7 @@ pub fn explain_verdict(
     number: u64,
     judged: Judged,
 ) -> Result<Vec<u8>, NoMemory>
+    requires valid { IsTrue (is_valid script.now) }
     requires judged { IsVerdict script.now trace.now.entries judged.verdict }
     requires part { length part.now ≤ 134217728 }
     requires printable { IsTrue (list_all is_printable trace.now.entries) }

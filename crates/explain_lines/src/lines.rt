@@ -14,7 +14,7 @@ use trace_text::Printer;
 pub const LINE_LIMIT: u64 = 1 << 40;
 
 /// How many lines are shown where there may be many.
-const MOST_LINES: usize = 8;
+pub const MOST_LINES: usize = 8;
 
 /// Writes a number.
 pub fn put_number(text: &mut Vec<u8>, alloc: Global, number: u64) -> Result<(), NoMemory>

@@ -20,6 +20,8 @@ use Rattle.script_places.specs.declared.kind.LineKind.TheVariants as kind
 use Rattle.explain_lines.specs.Lines.{headed, last_lines_where, shown_line}
 use Rattle.explain_lines.specs.Shown.{numbered_line}
 use Rattle.explain_picks.specs.Picks.{picks_part}
+use Rattle.allowed_entries.specs.Entries.{allowed_entries}
+use Rattle.explain_text.specs.Allowed.{allowed_part}
 
 -- In all of these `part` is the script's text, and line k that of the trace's first entry, in the input.
 
@@ -80,11 +82,17 @@ failed_text script part rule k before faulty (Some condition) =
     ++ (command_part script part before faulty
     ++ headed (codes "It speaks of:\n") (last_lines_where (mentions condition (reverse before) faulty) k before))
 
--- the head, the line of the entry, and the condition that it doesn't meet, where there is one
+-- what is allowed after the entries, in place of the faulty one
+abbrev pub allowed_here : Script → List Entry → List ℕ
+allowed_here script before = allowed_part (allowed_entries script (reverse before))
+
+-- the head, the line of the entry, the condition that it doesn't meet, where there is one, and what is allowed in its
+-- place
 unfoldable pub illegal_text : Script → List ℕ → RuleName → ℕ → ℕ → List Entry → Entry → Option Condition → List ℕ
 illegal_text script part rule k position before faulty failed =
     illegal_head k position
-    ++ (codes "    " ++ (line_of faulty ++ failed_text script part rule k before faulty failed))
+    ++ (codes "    "
+    ++ (line_of faulty ++ (failed_text script part rule k before faulty failed ++ allowed_here script before)))
 
 -- ---- legal
 

@@ -1,12 +1,16 @@
 //! What is told of an entry that isn't allowed.
 ghost use Rattle.std.specs.Prelude.{◌≡◌, ◌+◌, ◌≤◌, ◌++◌, IfOk, IsTrue, OnOk, Some, length, reverse};
 ghost use Rattle.std.specs.List.{list_all};
+ghost use Rattle.allowed_entries.specs.Entries.{allowed_entries};
+ghost use Rattle.allowed_entries.specs.Known.{prints};
 ghost use Rattle.explain_text.specs.Explained.{failed_text, illegal_head, illegal_text};
 ghost use Rattle.rule_mentions.specs.Mentions.{mentions};
 ghost use Rattle.trace_model.specs.Printable.{is_printable};
 
+use crate::allowed::put_allowed_part;
 use crate::reason::put_reason;
 use crate::script::put_command_part;
+use allowed_entries::AllowedEntry;
 use cam_types::{NoMemory, Script};
 use explain_lines::{Choice, LINE_LIMIT, put_headed, put_last_lines, put_number};
 use rule_conditions::Condition;
@@ -79,7 +83,7 @@ fn put_failed(
 }
 
 /// The text of an entry that isn't allowed behind those before it, whose first has its line at the number. `failed` is
-/// the condition that the entry doesn't meet.
+/// the condition that the entry doesn't meet, `allowed` what is allowed in its place.
 #[tactic(auto, unfolding(crate::specs::Explained::illegal_text))]
 pub fn illegal_text(
     alloc: Global,
@@ -92,12 +96,15 @@ pub fn illegal_text(
     before: &[Entry],
     faulty: &Entry,
     failed: Condition,
+    allowed: &[AllowedEntry],
 ) -> Result<Vec<u8>, NoMemory>
     requires long { length part.now ≤ 134217728 }
     requires printable { IsTrue (list_all is_printable before.now) }
     requires shown { IsTrue (is_printable faulty.now) }
     requires numbers { number + length before.now ≤ LINE_LIMIT }
     requires head { number + position ≤ LINE_LIMIT }
+    requires allowed { allowed.now ≡ allowed_entries script.now (reverse before.now) }
+    requires lines { IsTrue (list_all prints allowed.now) }
     ensures { IfOk result
         (λ text. text.items ≡ illegal_text script.now part.now rule number position before.now faulty.now
         (Some failed)) }
@@ -109,5 +116,6 @@ pub fn illegal_text(
     put_failed(
         &mut text, alloc, printer, script, part, rule, number, before, faulty, failed,
     )?;
+    put_allowed_part(&mut text, alloc, printer, allowed)?;
     Ok(text)
 }

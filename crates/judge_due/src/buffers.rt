@@ -23,7 +23,7 @@ fn is_passed(tables: &JudgeTables, fence: Option<FenceNo>) -> bool
 }
 
 /// Whether the buffer may come back with its picture.
-pub(crate) fn may_deliver(
+pub fn may_deliver(
     script: &Script,
     tables: &JudgeTables,
     stream: StreamIx,
@@ -77,7 +77,7 @@ fn slot_failed_due(
 }
 
 /// The failed buffer that is due.
-pub(crate) fn failed_due(tables: &JudgeTables, frame: FrameNo, stream: StreamIx) -> Option<Entry>
+pub fn failed_due(tables: &JudgeTables, frame: FrameNo, stream: StreamIx) -> Option<Entry>
     ensures { result ≡ failed_in tables.now.state stream.0 (find_row frame.0 tables.now.state.rows) }
 {
     match find_row(tables.rows().rows(), frame) {
@@ -113,7 +113,7 @@ fn slot_early_due(
 }
 
 /// The early return that is due.
-pub(crate) fn early_due(
+pub fn early_due(
     script: &Script,
     tables: &JudgeTables,
     frame: FrameNo,

@@ -29,7 +29,7 @@ fn around(tables: &JudgeTables) -> Around
 }
 
 /// The begin or the call that is due.
-pub(crate) fn client_due(script: &Script, tables: &JudgeTables) -> Option<Entry>
+pub fn client_due(script: &Script, tables: &JudgeTables) -> Option<Entry>
     requires profile { IsTrue (is_profile script.now.profile) }
     requires numbered { tables.now.state.buffers.first + (length tables.now.state.buffers.places + 72) < 2 ^ 32 }
     ensures { let s = tables.now.state in

@@ -20,7 +20,7 @@ use picture_digest::PictureDigests;
 use trace_model::Entry;
 
 /// The drop that is due.
-fn drop_due(tables: &JudgeTables) -> Option<Entry>
+pub fn drop_due(tables: &JudgeTables) -> Option<Entry>
     ensures { result ≡ drop_in tables.now.state }
 {
     if tables.client().is_stopping() {

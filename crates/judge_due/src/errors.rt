@@ -30,7 +30,7 @@ fn row_request_due(script: &Script, row: &OpenRow) -> Option<Entry>
 }
 
 /// The error of the whole capture that is due.
-pub(crate) fn error_request_due(
+pub fn error_request_due(
     script: &Script,
     tables: &JudgeTables,
     frame: FrameNo,
@@ -57,7 +57,7 @@ fn row_result_due(script: &Script, tables: &JudgeTables, row: &OpenRow) -> Optio
 }
 
 /// The error of the frame's metadata that is due.
-pub(crate) fn error_result_due(
+pub fn error_result_due(
     script: &Script,
     tables: &JudgeTables,
     frame: FrameNo,
@@ -97,7 +97,7 @@ fn slot_error_due(
 }
 
 /// The error of the frame's buffer that is due.
-pub(crate) fn error_buffer_due(
+pub fn error_buffer_due(
     script: &Script,
     tables: &JudgeTables,
     frame: FrameNo,

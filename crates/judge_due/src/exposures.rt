@@ -45,7 +45,7 @@ fn next_exposed(script: &Script, tables: &JudgeTables) -> Option<OpenRow>
 }
 
 /// The shutter that is due.
-pub(crate) fn shutter_due(script: &Script, tables: &JudgeTables) -> Option<Entry>
+pub fn shutter_due(script: &Script, tables: &JudgeTables) -> Option<Entry>
     ensures { result ≡ shutter_in script.now tables.now.state }
 {
     match next_exposed(script, tables) {
@@ -78,7 +78,7 @@ fn some_row_fails(script: &Script, tables: &JudgeTables) -> bool
 }
 
 /// The device's failure that is due.
-pub(crate) fn error_device_due(script: &Script, tables: &JudgeTables) -> Option<Entry>
+pub fn error_device_due(script: &Script, tables: &JudgeTables) -> Option<Entry>
     ensures { result ≡ error_device_in script.now tables.now.state }
 {
     if !tables.client().is_stopping() && some_row_fails(script, tables) {

@@ -5,15 +5,15 @@
 #![tactic(auto)]
 
 mod before;
-mod buffers;
-mod client;
+pub mod buffers;
+pub mod client;
 mod entry;
-mod errors;
-mod exposures;
+pub mod errors;
+pub mod exposures;
 mod filled;
-mod parts;
+pub mod parts;
 mod pictures;
-mod send;
-mod slots;
+pub mod send;
+pub mod slots;
 
-pub use entry::is_due;
+pub use entry::{drop_due, is_due};

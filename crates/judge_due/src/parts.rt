@@ -52,7 +52,7 @@ fn row_part_due(script: &Script, tables: &JudgeTables, row: &OpenRow) -> Option<
 }
 
 /// The metadata result of the frame that is due.
-pub(crate) fn partial_due(script: &Script, tables: &JudgeTables, frame: FrameNo) -> Option<Entry>
+pub fn partial_due(script: &Script, tables: &JudgeTables, frame: FrameNo) -> Option<Entry>
     ensures { result ≡ partial_in script.now tables.now.state (find_row frame.0 tables.now.state.rows) }
 {
     match find_row(tables.rows().rows(), frame) {

@@ -69,7 +69,7 @@ fn has_depth(script: &Script, tables: &JudgeTables) -> bool
 }
 
 /// Whether nothing stands against sending the item now, whatever buffers it takes.
-fn may_go(script: &Script, tables: &JudgeTables, next: Queued) -> bool
+pub fn may_go(script: &Script, tables: &JudgeTables, next: Queued) -> bool
     ensures { result ≡ may_go_in script.now tables.now.state next }
 {
     !tables.client().is_stopping()
@@ -146,7 +146,8 @@ fn are_same(one: Settings, other: Settings) -> bool
         && (one.level == other.level && (one.exposure == other.exposure && one.iso == other.iso))
 }
 
-fn are_last(last: Option<Settings>, settings: Settings) -> bool
+/// Whether the settings are those that were sent last, if any were.
+pub fn are_last(last: Option<Settings>, settings: Settings) -> bool
     ensures { result ≡ are_last last settings }
 {
     match last {

@@ -42,7 +42,7 @@ fn only_for(slot: Option<OpenSlot>, stream: StreamIx) -> Option<OpenSlot>
 }
 
 /// The frame's buffer for the stream.
-pub(crate) fn slot_for(slots: &Four<OpenSlot>, stream: StreamIx) -> Option<OpenSlot>
+pub fn slot_for(slots: &Four<OpenSlot>, stream: StreamIx) -> Option<OpenSlot>
     ensures { option_map slot_of result ≡ slot_for stream.0 (slots_of slots.now) }
 {
     let last = only_for(slots.d, stream);
@@ -94,7 +94,7 @@ fn only_with(slot: Option<OpenSlot>, fence: FenceNo) -> Option<OpenSlot>
 }
 
 /// The frame's buffer that came back early with the device fence.
-pub(crate) fn early_slot(slots: &Four<OpenSlot>, fence: FenceNo) -> Option<OpenSlot>
+pub fn early_slot(slots: &Four<OpenSlot>, fence: FenceNo) -> Option<OpenSlot>
     ensures { option_map slot_of result ≡ early_slot fence.0 (slots_of slots.now) }
 {
     let last = only_with(slots.d, fence);

@@ -1,7 +1,7 @@
 mod Accepted
 mod Digests
-mod Holding
+pub mod Holding
 mod Judged
 mod MissingLemmas
 mod OneVerdict
-mod Prefixes
+pub mod Prefixes

@@ -26,7 +26,7 @@ legal-after : (script : Script) (later past : List Entry) → IsLegal script (la
 legal-after script [] past legal = legal
 legal-after script (e ∷ later) past legal = legal-after script later past legal.1
 
-legal-before : (script : Script) (trace : List Entry) (p : ℕ) → IsLegal script (reverse trace) → IsLegal script (reverse (take p trace))
+pub legal-before : (script : Script) (trace : List Entry) (p : ℕ) → IsLegal script (reverse trace) → IsLegal script (reverse (take p trace))
 legal-before script trace p legal =
     let whole : reverse trace ≡ reverse (drop p trace) ++ reverse (take p trace) = ap reverse (sym (split-at trace p)) ∙ reverse-append (take p trace) (drop p trace) in
     legal-after script (reverse (drop p trace)) (reverse (take p trace)) (subst (IsLegal script) whole legal)

@@ -16,4 +16,5 @@ mod verdict;
 
 pub use judge::{check, check_plain};
 pub use laws::a_trace_has_one_verdict;
+pub use passing::note_by;
 pub use verdict::{MissingPart, RuleName, Verdict};

@@ -35,8 +35,9 @@ fn is_allowed_by(
     is_due(script, tables, entry, memory)
 }
 
-/// Notes an entry that is allowed after the entries. The entries aren't read.
-fn note_by(
+/// Notes an entry that is allowed after the entries, whose state the tables hold. The entries aren't read. The answer is
+/// an error only where memory runs out.
+pub fn note_by(
     script: &Script,
     entries: &[Entry],
     tables: &mut JudgeTables,

@@ -1,0 +1,20 @@
+//! The entries that are allowed after those of a legal trace, each as far as the past determines it.
+//!
+//! They are read from the tables of the trace's state (`judge_tables`), by the readings with which a trace is judged
+//! (`judge_due`): so each costs what the open frames and the configuration's buffers cost, however long the trace is.
+#![tactic(auto)]
+
+mod after;
+mod buffers;
+mod entry;
+mod fences;
+mod frames;
+mod list;
+mod pictures;
+mod releases;
+mod sends;
+mod service;
+mod tables;
+
+pub use after::allowed_after;
+pub use entry::{AllowedEntry, known_of};

@@ -1,0 +1,30 @@
+//! The state of a legal trace, as tables.
+ghost use Rattle.std.specs.Prelude.{◌≡◌, IfOk, IsTrue, reverse};
+ghost use Rattle.cam_types.specs.Script.{is_valid};
+ghost use Rattle.trace_check.specs.Held.{held};
+ghost use Rattle.trace_model.specs.Legal.{IsLegal};
+
+use cam_types::{NoMemory, Script};
+use judge_tables::JudgeTables;
+use std::alloc::Global;
+use trace_bounds::every_script_is_typed;
+use trace_check::note_by;
+use trace_model::Entry;
+
+/// The tables of the state of entries of which each is allowed after those before it.
+pub(crate) fn tables_after(
+    alloc: Global,
+    script: &Script,
+    entries: &[Entry],
+) -> Result<JudgeTables, NoMemory>
+    requires valid { IsTrue (is_valid script.now) }
+    requires legal { IsLegal script.now (reverse entries.now) }
+    ensures { IfOk result (λ tables. tables ≡ held script.now (reverse entries.now)) }
+{
+    every_script_is_typed(script);
+    let mut tables = JudgeTables::new(alloc, script.commands.len())?;
+    for (place, entry) in entries.iter().enumerate() {
+        note_by(script, &entries[..place], &mut tables, entry)?;
+    }
+    Ok(tables)
+}
