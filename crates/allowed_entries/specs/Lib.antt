@@ -1,3 +1,4 @@
 pub mod Known
 pub mod Entries
 pub mod Readings
+pub mod Told

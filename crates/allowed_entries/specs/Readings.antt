@@ -1,5 +1,5 @@
 -- The same, read from the state that a legal past comes to. (our own choice: proved to be the same)
-use Rattle.std.specs.Prelude.{ℕ, List, ◌++◌, Option, map, reverse}
+use Rattle.std.specs.Prelude.{ℕ, List, ◌++◌, Option, length, map, reverse}
 use Rattle.std.specs.List.{flat_map, range_with_len}
 use Rattle.cam_types.specs.declared.script.Script.{Script}
 use Rattle.trace_model.specs.declared.entry.Entry.{Entry}
@@ -56,3 +56,11 @@ signals_in h count = flat_map (λ f. shown (signal_in h f)) (range_with_len 0 co
 
 unfoldable pub lates_in : State → ℕ → List AllowedEntry
 lates_in s count = flat_map (λ d. shown (late_in s d)) (range_with_len 0 count)
+
+-- all of them, where so many fences were released
+unfoldable pub all_in : Script → State → ℕ → List AllowedEntry
+all_in script s fences =
+    frames_in script s (map (λ r. r.frame) s.rows)
+    ++ (next_in script s
+    ++ (ends_in script s
+    ++ (releases_in s.buffers ++ (signals_in s.buffers fences ++ lates_in s (length s.buffers.late)))))

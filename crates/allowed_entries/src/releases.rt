@@ -25,11 +25,7 @@ fn release_due(tables: &JudgeTables, number: u64) -> Option<Entry>
 }
 
 /// Adds the releases that are due of the buffers.
-fn add_made(
-    list: &mut Vec<AllowedEntry>,
-    tables: &JudgeTables,
-    made: Made,
-) -> Result<(), NoMemory>
+fn add_made(list: &mut Vec<AllowedEntry>, tables: &JudgeTables, made: Made) -> Result<(), NoMemory>
     requires { tables.now.state.buffers.first + (length tables.now.state.buffers.places + 72) < 2 ^ 32 }
     ensures { OnOk result (list.new.items ≡ list.old.items
         ++ flat_map (λ b. shown (release_in tables.now.state.buffers b)) (range_with_len made.first.0 made.count)) }

@@ -23,8 +23,8 @@ pub(crate) fn tables_after(
 {
     every_script_is_typed(script);
     let mut tables = JudgeTables::new(alloc, script.commands.len())?;
-    for (place, entry) in entries.iter().enumerate() {
-        note_by(script, &entries[..place], &mut tables, entry)?;
+    for place in 0..entries.len() {
+        note_by(script, &entries[..place], &mut tables, &entries[place])?;
     }
     Ok(tables)
 }

@@ -6,5 +6,7 @@ mod lines;
 mod shown;
 
 pub use choice::Choice;
-pub use lines::{LINE_LIMIT, MOST_LINES, put_headed, put_last_lines, put_line, put_lines, put_number};
+pub use lines::{
+    LINE_LIMIT, MOST_LINES, put_headed, put_last_lines, put_line, put_lines, put_number,
+};
 pub use shown::{put_numbered_line, put_shown};

@@ -30,11 +30,7 @@ fn row_request_due(script: &Script, row: &OpenRow) -> Option<Entry>
 }
 
 /// The error of the whole capture that is due.
-pub fn error_request_due(
-    script: &Script,
-    tables: &JudgeTables,
-    frame: FrameNo,
-) -> Option<Entry>
+pub fn error_request_due(script: &Script, tables: &JudgeTables, frame: FrameNo) -> Option<Entry>
     ensures { result ≡ error_request_in script.now (find_row frame.0 tables.now.state.rows) }
 {
     match find_row(tables.rows().rows(), frame) {
@@ -57,11 +53,7 @@ fn row_result_due(script: &Script, tables: &JudgeTables, row: &OpenRow) -> Optio
 }
 
 /// The error of the frame's metadata that is due.
-pub fn error_result_due(
-    script: &Script,
-    tables: &JudgeTables,
-    frame: FrameNo,
-) -> Option<Entry>
+pub fn error_result_due(script: &Script, tables: &JudgeTables, frame: FrameNo) -> Option<Entry>
     ensures { result ≡ error_result_in script.now tables.now.state (find_row frame.0 tables.now.state.rows) }
 {
     match find_row(tables.rows().rows(), frame) {

@@ -1,0 +1,58 @@
+-- What a valid script and a legal past give to the list.
+use Rattle.std.proofs.Common.{◌≡◌, ◌∙◌, ◌<◌, ◌^◌, ℕ, ◌==◌, ◌+◌, Bool, true, false, ◌&&◌, List, IsTrue, refl, sym, ap, subst, arith, length, inl, inr, if◌then◌else◌}
+use Rattle.std.proofs.lemmas.Bool.{and_from, and_parts, cases_Bool, eqb-true}
+use Rattle.std.specs.Prelude.{nat_le}
+use Rattle.cam_types.specs.Profile.{is_plain, is_profile, is_profile_number, profile_fits}
+use Rattle.cam_types.specs.Script.{is_valid}
+use Rattle.cam_types.specs.declared.profile.Profile.{Profile}
+use Rattle.cam_types.specs.declared.script.Script.{Script}
+use Rattle.trace_model.specs.declared.entry.Entry.{Entry}
+use Rattle.trace_model.specs.Legal.{IsLegal}
+use Rattle.trace_model.specs.Numbers.{next_fence}
+use Rattle.trace_bounds.specs.Typed.{is_typed}
+use Rattle.buffer_facts.proofs.Readings.{fences_are}
+use Rattle.state_facts.proofs.Fits.{numbers_fit}
+use Rattle.judge_tables.specs.Judged.{Judged}
+use Rattle.trace_check.specs.Held.{held}
+use Rattle.trace_check.proofs.Holding.{numbered}
+use Rattle.allowed_entries.specs.declared.entry.AllowedEntry.{AllowedEntry}
+use Rattle.allowed_entries.specs.Entries.{allowed_entries}
+use Rattle.allowed_entries.specs.Readings.{all_in}
+use Rattle.allowed_entries.proofs.Reads.{allowed_are}
+
+-- ---- a valid script has a profile
+
+plain-number : (n m : ℕ) → (n == m) ≡ true → is_profile_number m ≡ true → is_profile_number n ≡ true
+plain-number n m same h = let is : n ≡ m = eqb-true n m same in rw is h
+
+profile-of : (version : ℕ) (p : Profile) → profile_fits version p ≡ true → is_profile p ≡ true
+profile-of version p h =
+    elim (cases_Bool (version == 1)) [
+      | inl first ↦
+          (let plain : is_plain p ≡ true = rw first at h in
+          let parts = and_parts (p.depth == 6) ((p.raw == 3) && (p.yuv == 4)) plain in
+          let sizes = and_parts (p.raw == 3) (p.yuv == 4) parts.1 in
+          and_from _ _ (plain-number p.depth 6 parts.0 refl) (and_from _ _ (plain-number p.raw 3 sizes.0 refl) (plain-number p.yuv 4 sizes.1 refl)))
+      | inr other ↦
+          (let second = rw other at h in (and_parts (version == 2) (is_profile p) second).1)
+    ]
+
+pub valid_profile : (script : Script) → is_valid script ≡ true → is_profile script.profile ≡ true
+valid_profile script h = profile-of script.version script.profile (and_parts (profile_fits script.version script.profile) _ h).0
+
+-- ---- numbers
+
+pub few_fences : (script : Script) (past : List Entry) → is_typed script ≡ true → is_valid script ≡ true → IsLegal script past → next_fence past < 2 ^ 32
+few_fences script past typed valid legal = rw fences_are past (numbers_fit script past typed valid legal).fences
+
+pub numbered_held : (script : Script) (past : List Entry) (t : Judged) → is_valid script ≡ true → IsLegal script past → t ≡ held script past → t.state.buffers.first + (length t.state.buffers.places + 72) < 2 ^ 32
+numbered_held script past t valid legal is =
+    subst (λ (u : Judged). u.state.buffers.first + (length u.state.buffers.places + 72) < 2 ^ 32) (sym is) (numbered script past valid legal)
+
+-- ---- the list
+
+pub all_told : (script : Script) (past : List Entry) (t : Judged) (fences : ℕ) (items : List AllowedEntry) → IsLegal script past → t ≡ held script past → fences ≡ next_fence past → items ≡ all_in script t.state fences → items ≡ allowed_entries script past
+all_told script past t fences items legal is count h =
+    h
+    ∙ (ap (λ (u : Judged). all_in script u.state fences) is
+    ∙ (ap (λ (n : ℕ). all_in script (held script past).state n) count ∙ sym (allowed_are script past legal)))

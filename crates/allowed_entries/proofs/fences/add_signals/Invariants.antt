@@ -1,0 +1,9 @@
+use Rattle.std.proofs.Common.{◌≡◌, ◌++◌}
+use Rattle.std.specs.List.{flat_map, range_with_len}
+use Rattle.buffer_facts.specs.Homes.{signal_in}
+use Rattle.allowed_entries.specs.Known.{shown}
+use Rattle.allowed_entries.proofs.fences.add_signals.Given as goal
+
+abbrev pub invariant-loop-number : goal.invariant-loop-number
+invariant-loop-number l =
+    l.list.items ≡ l.initial.list.items ++ flat_map (λ f. shown (signal_in l.tables.state.buffers f)) (range_with_len 0 l.number)
