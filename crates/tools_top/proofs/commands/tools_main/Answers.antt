@@ -15,11 +15,11 @@ returns-in-Some-Help-clause-sink g c =
 
 pub returns-in-Some-Help-clause-unread : goal.returns-in-Some-Help-clause-unread
 returns-in-Some-Help-clause-unread g c none = (
-    refl,
-    refl,
-    (other_than 1 0 help_text c.help_call.result.number (g.K.Sink.state c.args.sink.now) (g.K.Sink.state c.help_call.new.sink) (λ e. absurd (omega (arith, e))) (λ e. absurd (omega (arith, e))) c.help_call.ensures),
-    (other_than 3 0 help_text c.help_call.result.number (g.K.Sink.state c.args.sink.now) (g.K.Sink.state c.help_call.new.sink) (λ e. absurd (omega (arith, e))) (λ e. absurd (omega (arith, e))) c.help_call.ensures),
-    (other_than 5 0 help_text c.help_call.result.number (g.K.Sink.state c.args.sink.now) (g.K.Sink.state c.help_call.new.sink) (λ e. absurd (omega (arith, e))) (λ e. absurd (omega (arith, e))) c.help_call.ensures)
+  refl,
+  refl,
+  (other_than 1 0 help_text c.help_call.result.number (g.K.Sink.state c.args.sink.now) (g.K.Sink.state c.help_call.new.sink) (λ e. absurd (omega (arith, e))) (λ e. absurd (omega (arith, e))) c.help_call.ensures),
+  (other_than 3 0 help_text c.help_call.result.number (g.K.Sink.state c.args.sink.now) (g.K.Sink.state c.help_call.new.sink) (λ e. absurd (omega (arith, e))) (λ e. absurd (omega (arith, e))) c.help_call.ensures),
+  (other_than 5 0 help_text c.help_call.result.number (g.K.Sink.state c.args.sink.now) (g.K.Sink.state c.help_call.new.sink) (λ e. absurd (omega (arith, e))) (λ e. absurd (omega (arith, e))) c.help_call.ensures),
 )
 
 pub returns-in-None-clause-source : goal.returns-in-None-clause-source
@@ -33,9 +33,9 @@ returns-in-None-clause-sink g c =
 
 pub returns-in-None-clause-unread : goal.returns-in-None-clause-unread
 returns-in-None-clause-unread g c none = (
-    refl,
-    refl,
-    (other_than 1 2 usage_line c.usage.result.number (g.K.Sink.state c.args.sink.now) (g.K.Sink.state c.usage.new.sink) (λ e. absurd (omega (arith, e))) (λ e. absurd (omega (arith, e))) c.usage.ensures),
-    (other_than 3 2 usage_line c.usage.result.number (g.K.Sink.state c.args.sink.now) (g.K.Sink.state c.usage.new.sink) (λ e. absurd (omega (arith, e))) (λ e. absurd (omega (arith, e))) c.usage.ensures),
-    (other_than 5 2 usage_line c.usage.result.number (g.K.Sink.state c.args.sink.now) (g.K.Sink.state c.usage.new.sink) (λ e. absurd (omega (arith, e))) (λ e. absurd (omega (arith, e))) c.usage.ensures)
+  refl,
+  refl,
+  (other_than 1 2 usage_line c.usage.result.number (g.K.Sink.state c.args.sink.now) (g.K.Sink.state c.usage.new.sink) (λ e. absurd (omega (arith, e))) (λ e. absurd (omega (arith, e))) c.usage.ensures),
+  (other_than 3 2 usage_line c.usage.result.number (g.K.Sink.state c.args.sink.now) (g.K.Sink.state c.usage.new.sink) (λ e. absurd (omega (arith, e))) (λ e. absurd (omega (arith, e))) c.usage.ensures),
+  (other_than 5 2 usage_line c.usage.result.number (g.K.Sink.state c.args.sink.now) (g.K.Sink.state c.usage.new.sink) (λ e. absurd (omega (arith, e))) (λ e. absurd (omega (arith, e))) c.usage.ensures),
 )
