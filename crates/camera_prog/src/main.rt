@@ -1,11 +1,12 @@
 //! The program: it hands the words, standard input and standard output to the top call, and ends with its status.
 #![tactic(auto)]
 
-ghost use Rattle.std.specs.Prelude.{◌≡◌, ◌≤◌, ℕ, List, map, string_bytes, IfOk};
+ghost use Rattle.std.specs.Prelude.{◌≡◌, ◌≢◌, ◌≤◌, ℕ, List, false, is_some, map, string_bytes, IfOk, IfSome};
 ghost use Rattle.std.specs.Process.{exit_status};
 ghost use Rattle.std.specs.Borrow.{Bor};
-ghost use Rattle.call_status.specs.Ends.{CountsSink, CountsSource};
+ghost use Rattle.call_status.specs.Ends.{CountsSink, CountsSource, ReadsBy};
 ghost use Rattle.camera_top.specs.Commands.{TellsOf};
+ghost use Rattle.camera_top.specs.Words.{limit_of};
 ghost use Rattle.camera_words.specs.Forms.{form_of};
 ghost use Rattle.camera_prog.specs.Ends.{number_of};
 
@@ -72,6 +73,14 @@ fn answer<R: Threads + Wait + Clock + Sync, S: Source, K: Sink>(
     // at 3 and 5, and so where there is no memory to hand the words over, nothing was written.
     ensures source { CountsSource (number_of result) (S.faults source.old) (S.faults source.new) }
     ensures sink { CountsSink (number_of result) (K.state sink.old) (K.state sink.new) }
+    // At 0 a form that reads has read the source to its end; where it has another answer, too, or there is more than the
+    // limit. Other words leave the source as it is.
+    ensures read { (words : List (Bor (List ℕ))) → map (λ word. word.now) words ≡ map string_bytes texts.now →
+        IfSome (limit_of (form_of words)) (λ limit. ReadsBy limit (number_of result) (S.left source.old)
+        (S.left source.new)) }
+    ensures unread { (words : List (Bor (List ℕ))) → map (λ word. word.now) words ≡ map string_bytes texts.now →
+        is_some (limit_of (form_of words)) ≡ false → (S.left source.new ≡ S.left source.old)
+        × (S.faults source.new ≡ S.faults source.old) × (number_of result ≢ 1) × (number_of result ≢ 3) }
     ensures known { number_of result ≤ 5 }
 {
     let mut words = Vec::new(alloc);

@@ -2,12 +2,12 @@
 //! its status.
 #![tactic(auto)]
 
-ghost use Rattle.std.specs.Prelude.{◌≡◌, ◌≤◌, ℕ, List, map, string_bytes, IfOk, OnErr};
+ghost use Rattle.std.specs.Prelude.{◌≡◌, ◌≢◌, ◌≤◌, ℕ, List, false, is_some, map, string_bytes, IfOk, IfSome};
 ghost use Rattle.std.specs.Borrow.{Bor};
+ghost use Rattle.call_status.specs.Ends.{CountsSink, CountsSource, ReadsBy};
 ghost use Rattle.camera_tools.specs.Ends.{number_of};
-ghost use Rattle.io_edge.specs.Faults.{Rose};
-ghost use Rattle.io_edge.specs.States.{WritesNothing};
 ghost use Rattle.tools_top.specs.Commands.{TellsOfTool};
+ghost use Rattle.tools_top.specs.Words.{limit_of};
 ghost use Rattle.tools_words.specs.Tools.{tool_of};
 
 use io_edge::{NoMemory, Sink, Source, StdSink, StdSource};
@@ -49,12 +49,19 @@ fn answer<S: Source, K: Sink>(
     ensures tells { (words : List (Bor (List ℕ))) → map (λ word. word.now) words ≡ map string_bytes texts.now →
         IfOk result (λ status. TellsOfTool (tool_of words) (S.left source.old) status.number
         (K.state sink.old) (K.state sink.new)) }
-    ensures source_failed { IfOk result (λ status. status.number ≡ 3 → Rose (S.faults source.old) (S.faults source.new)
-        × WritesNothing (K.state sink.old) (K.state sink.new)) }
-    ensures sink_failed { IfOk result (λ status. status.number ≡ 4
-        → Rose (K.state sink.old).faults (K.state sink.new).faults) }
-    ensures known { IfOk result (λ status. status.number ≤ 5) }
-    ensures no_memory { OnErr result (WritesNothing (K.state sink.old) (K.state sink.new)) }
+    // By the number that the program ends with: the source's count of faults rose at 3 alone, and the sink's at 4 alone;
+    // at 3 and 5, and so where there is no memory to hand the words over, nothing was written.
+    ensures source { CountsSource (number_of result) (S.faults source.old) (S.faults source.new) }
+    ensures sink { CountsSink (number_of result) (K.state sink.old) (K.state sink.new) }
+    // At 0 a tool that reads has read the source to its end; where it has another answer, too, or there is more than the
+    // limit. Words that ask for none leave the source as it is.
+    ensures read { (words : List (Bor (List ℕ))) → map (λ word. word.now) words ≡ map string_bytes texts.now →
+        IfSome (limit_of (tool_of words)) (λ limit. ReadsBy limit (number_of result) (S.left source.old)
+        (S.left source.new)) }
+    ensures unread { (words : List (Bor (List ℕ))) → map (λ word. word.now) words ≡ map string_bytes texts.now →
+        is_some (limit_of (tool_of words)) ≡ false → (S.left source.new ≡ S.left source.old)
+        × (S.faults source.new ≡ S.faults source.old) × (number_of result ≢ 1) × (number_of result ≢ 3) }
+    ensures known { number_of result ≤ 5 }
 {
     let mut words = Vec::new(alloc);
     for text in texts {

@@ -1,11 +1,14 @@
 -- What `candidates` tells of an input.
-use Rattle.std.proofs.Common.{ℕ, ◌<◌, List, Option, Some, None, Err, refl, inl, inr, length, IfSome}
+use Rattle.std.proofs.Common.{ℕ, ◌<◌, List, Option, Some, None, Result, Ok, Err, refl, arith, inl, inr, length, IfSome}
 use Rattle.io_edge.specs.States.{SinkState}
 use Rattle.line_reading.specs.Causes.{number_of}
 use Rattle.line_reading.specs.declared.cause.Cause.{Cause}
 use Rattle.line_reading.specs.declared.cause.Cause.TheVariants.{Limit}
-use Rattle.line_reading.specs.declared.cause.TextRefused.TheVariants.{Bad}
+use Rattle.line_reading.specs.declared.cause.TextRefused.{TextRefused}
+use Rattle.line_reading.specs.declared.cause.TextRefused.TheVariants.{Bad, NoMemory}
 use Rattle.call_status.specs.Answers.{AnswersWithMemory, Tells, TellsBy}
+use Rattle.call_status.proofs.Sinks.{AreAnswers}
+use Rattle.cam_types.specs.declared.script.Script.{Script}
 use Rattle.judge_text.specs.Lines.{refused_script_text}
 use Rattle.input_refusals.proofs.Long.{too-long}
 use Rattle.candidates_call.specs.Says.{Says, SaysOf}
@@ -17,3 +20,9 @@ refusal-tells line cause status before after (inr h) = inr (1, refused_script_te
 pub long-tells : (left : Option (List ℕ)) (status : ℕ) (before after : SinkState) → IfSome left (λ all. 65536 < length all) → AnswersWithMemory 1 (refused_script_text 0 37) status before after → Tells Says left status before after
 long-tells None status before after l h = tt
 long-tells (Some input) status before after l h = rw (too-long input l) (inr (refusal-tells 0 Limit status before after h))
+
+-- the status that belongs to an input is 0 or 1
+pub are-said : (meaning : Result Script TextRefused) → AreAnswers (SaysOf meaning)
+are-said (Ok script) wanted text h = omega (arith, h.0)
+are-said (Err (Bad line cause)) wanted text h = omega (arith, h.0)
+are-said (Err NoMemory) wanted text h = absurd h

@@ -2,9 +2,8 @@
 ghost use Rattle.std.specs.Prelude.{◌≡◌, ◌≢◌, ◌≤◌, IfSome, IsTrue};
 ghost use Rattle.std.specs.Io.KnownBytes.{IsAtEnd};
 ghost use Rattle.cam_types.specs.Script.{is_valid};
-ghost use Rattle.io_edge.specs.Faults.{Rose};
-ghost use Rattle.io_edge.specs.States.{WritesNothing};
-ghost use Rattle.call_status.specs.Answers.{Tells, TellsBy, Untouched};
+ghost use Rattle.call_status.specs.Answers.{Tells, TellsBy};
+ghost use Rattle.call_status.specs.Ends.{CountsSink, CountsSource, ReadsBy};
 ghost use Rattle.candidates_call.specs.Says.{IsWhole, Says, SaysOfScript};
 
 use crate::opened::Opened;
@@ -26,11 +25,11 @@ pub fn candidates_call<S: Source, K: Sink>(alloc: Global, source: &mut S, sink: 
     // Each status and each text has its cause in the input's meaning: where no end failed and memory was there, the
     // status and the text are those that belong to it. At status 4 a front of that text is written.
     ensures tells { Tells Says (S.left source.old) result.number (K.state sink.old) (K.state sink.new) }
-    ensures source_failed { result.number ≡ 3 → Rose (S.faults source.old) (S.faults source.new)
-        × WritesNothing (K.state sink.old) (K.state sink.new) }
-    ensures sink_failed { result.number ≡ 4 → Rose (K.state sink.old).faults (K.state sink.new).faults }
-    ensures no_memory { result.number ≡ 5 → (S.faults source.new ≡ S.faults source.old)
-        × Untouched (K.state sink.old) (K.state sink.new) }
+    // The source's count of faults rose at 3 alone, and the sink's at 4 alone; at 3 and 5 nothing was written. At 0 the
+    // source was read to its end; where there is another answer, too, or it has more than the limit.
+    ensures source { CountsSource result.number (S.faults source.old) (S.faults source.new) }
+    ensures sink { CountsSink result.number (K.state sink.old) (K.state sink.new) }
+    ensures read { ReadsBy SCRIPT_BYTES result.number (S.left source.old) (S.left source.new) }
     ensures known { result.number ≤ 5 }
     ensures no_usage { result.number ≢ 2 }
 {

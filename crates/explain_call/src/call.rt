@@ -3,14 +3,14 @@ ghost use Rattle.std.specs.Prelude.{◌≡◌, ◌≢◌, ◌+◌, ◌≤◌, If
 ghost use Rattle.std.specs.Io.KnownBytes.{IsAtEnd};
 ghost use Rattle.std.specs.List.{list_all};
 ghost use Rattle.cam_types.specs.Script.{is_valid};
-ghost use Rattle.io_edge.specs.Faults.{Rose};
-ghost use Rattle.io_edge.specs.States.{Writes, WritesNothing};
+ghost use Rattle.io_edge.specs.States.{Writes};
 ghost use Rattle.trace_check.specs.Verdict.{IsVerdict};
 ghost use Rattle.trace_model.specs.Printable.{is_printable};
 ghost use Rattle.script_text.specs.Grammar.{script_of};
 ghost use Rattle.trace_reader.specs.Grammar.{trace_of};
 ghost use Rattle.judge_text.specs.Lines.{verdict_status};
-ghost use Rattle.call_status.specs.Answers.{AnswersWithMemory, Tells, TellsBy, Untouched};
+ghost use Rattle.call_status.specs.Answers.{AnswersWithMemory, Tells, TellsBy};
+ghost use Rattle.call_status.specs.Ends.{CountsSink, CountsSource, ReadsBy};
 ghost use Rattle.explain_call.specs.Explaining.{explained, Explains, ExplainsBoth, ExplainsTrace, ExplainsWhole, IsExplainedLegal};
 
 use crate::judged::{Judged, judge};
@@ -36,11 +36,11 @@ pub fn explain_call<S: Source, K: Sink>(alloc: Global, source: &mut S, sink: &mu
     // Each status and each text has its cause in the input's meaning: where no end failed and memory was there, the
     // status and the text are those that belong to it. At status 4 a front of that text is written.
     ensures tells { Tells Explains (S.left source.old) result.number (K.state sink.old) (K.state sink.new) }
-    ensures source_failed { result.number ≡ 3 → Rose (S.faults source.old) (S.faults source.new)
-        × WritesNothing (K.state sink.old) (K.state sink.new) }
-    ensures sink_failed { result.number ≡ 4 → Rose (K.state sink.old).faults (K.state sink.new).faults }
-    ensures no_memory { result.number ≡ 5 → (S.faults source.new ≡ S.faults source.old)
-        × Untouched (K.state sink.old) (K.state sink.new) }
+    // The source's count of faults rose at 3 alone, and the sink's at 4 alone; at 3 and 5 nothing was written. At 0 the
+    // source was read to its end; where there is another answer, too, or it has more than the limit.
+    ensures source { CountsSource result.number (S.faults source.old) (S.faults source.new) }
+    ensures sink { CountsSink result.number (K.state sink.old) (K.state sink.new) }
+    ensures read { ReadsBy TRACE_BYTES result.number (S.left source.old) (S.left source.new) }
     ensures known { result.number ≤ 5 }
     ensures no_usage { result.number ≢ 2 }
 {

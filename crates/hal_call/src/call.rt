@@ -2,9 +2,8 @@
 ghost use Rattle.std.specs.Prelude.{◌≡◌, ◌≢◌, ◌≤◌, [], true, IfOk, IfSome, IsTrue, Result, length};
 ghost use Rattle.std.specs.List.{list_all};
 ghost use Rattle.std.specs.Io.KnownBytes.{IsAtEnd};
-ghost use Rattle.io_edge.specs.Faults.{Rose};
-ghost use Rattle.io_edge.specs.States.{WritesNothing};
-ghost use Rattle.call_status.specs.Answers.{AnswersWithMemory, Tells, TellsBy, Untouched};
+ghost use Rattle.call_status.specs.Answers.{AnswersWithMemory, Tells, TellsBy};
+ghost use Rattle.call_status.specs.Ends.{CountsSink, CountsSource, ReadsBy};
 ghost use Rattle.hal_text.specs.Meaning.{log_of};
 ghost use Rattle.hal_spelling.specs.Fits.{is_valid, is_well_made};
 ghost use Rattle.hal_report.specs.Plain.{has_line};
@@ -35,11 +34,11 @@ pub fn hal_call<S: Source, K: Sink>(
     // Each status and each text has its cause in the input's meaning: where no end failed and memory was there, the
     // status and the text are those that belong to it. At status 4 a front of that text is written.
     ensures tells { Tells (Judges form strict) (S.left source.old) result.number (K.state sink.old) (K.state sink.new) }
-    ensures source_failed { result.number ≡ 3 → Rose (S.faults source.old) (S.faults source.new)
-        × WritesNothing (K.state sink.old) (K.state sink.new) }
-    ensures sink_failed { result.number ≡ 4 → Rose (K.state sink.old).faults (K.state sink.new).faults }
-    ensures no_memory { result.number ≡ 5 → (S.faults source.new ≡ S.faults source.old)
-        × Untouched (K.state sink.old) (K.state sink.new) }
+    // The source's count of faults rose at 3 alone, and the sink's at 4 alone; at 3 and 5 nothing was written. At 0 the
+    // source was read to its end; where there is another answer, too, or it has more than the limit.
+    ensures source { CountsSource result.number (S.faults source.old) (S.faults source.new) }
+    ensures sink { CountsSink result.number (K.state sink.old) (K.state sink.new) }
+    ensures read { ReadsBy HAL_BYTES result.number (S.left source.old) (S.left source.new) }
     ensures known { result.number ≤ 5 }
     ensures no_usage { result.number ≢ 2 }
 {

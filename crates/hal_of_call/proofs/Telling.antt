@@ -1,8 +1,9 @@
 -- What `hal-of` tells of an input.
-use Rattle.std.proofs.Common.{◌≡◌, ℕ, ◌≤◌, List, Option, Some, None, Result, Ok, Err, refl, inl, inr, length, IfSome}
+use Rattle.std.proofs.Common.{◌≡◌, ℕ, ◌≤◌, List, Option, Some, None, Result, Ok, Err, refl, arith, inl, inr, length, IfSome}
 use Rattle.io_edge.specs.States.{SinkState}
 use Rattle.cam_types.specs.declared.script.Script.{Script}
 use Rattle.call_status.specs.Answers.{Tells, TellsBy}
+use Rattle.call_status.proofs.Sinks.{AreAnswers}
 use Rattle.line_reading.specs.declared.cause.TextRefused.{TextRefused}
 use Rattle.line_reading.specs.declared.cause.TextRefused.TheVariants.{Bad, NoMemory}
 use Rattle.script_text.specs.Grammar.{script_of}
@@ -46,3 +47,8 @@ refusal_told input status before after l none (inr (wanted, text, judges, h)) =
 pub whole_told : (left : Option (List ℕ)) (bytes : List ℕ) (status : ℕ) (before after : SinkState) → IfSome left (λ all. bytes ≡ all) → TellsBy (Shows bytes) status before after → Tells Shows left status before after
 whole_told None bytes status before after is told = tt
 whole_told (Some input) bytes status before after is told = inr (rw is at told)
+
+-- the status that belongs to an input is 0 or 1
+pub are-shown : (input : List ℕ) → AreAnswers (Shows input)
+are-shown input wanted text (inl h) = omega (arith, h.0)
+are-shown input wanted text (inr h) = omega (arith, h.0)

@@ -1,4 +1,4 @@
-//! A YUV picture that is made smaller, into a buffer, with the digest of what was written.
+//! A YUV picture that is made smaller, into a buffer, with the digest of what was written where that is wanted.
 ghost use Rattle.std.specs.Prelude.{◌≡◌, ◌*◌, ◌/◌, ◌≤◌, ◌++◌, IsTrue, length, take, drop};
 ghost use Rattle.cam_types.specs.Picture.{is_yuv_size};
 ghost use Rattle.reprocess_model.specs.Plan.{is_yuv};
@@ -93,8 +93,21 @@ fn write_reduced(input: &[u8], from: StreamSpec, to: StreamSpec, bytes: &mut [u8
 }
 
 /// Makes a picture smaller: writes the bytes of a picture of `to`, in pixels no larger than `from`, from those of a
-/// picture of `from` into a buffer that shows as many, three for two pixels, and answers the SHA-256 of what it wrote.
-/// It takes no memory.
+/// picture of `from` into a buffer that shows as many, three for two pixels. It takes no memory.
+pub fn draw_reduced(input: &[u8], from: StreamSpec, to: StreamSpec, out: &mut PixelBuf)
+    requires from_offered { IsTrue (is_yuv from) }
+    requires to_offered { IsTrue (is_yuv to) }
+    requires smaller { to.width ≤ from.width }
+    requires len { length input.now ≡ from.width * from.height * 3 / 2 }
+    requires room { length out.old.bytes ≡ to.width * to.height * 3 / 2 }
+    ensures picture { out.new ≡
+        record { id = out.old.id; bytes = reduced from to input.now; block = out.old.block } }
+    ensures len { length out.new.bytes ≡ to.width * to.height * 3 / 2 }
+{
+    write_reduced(input, from, to, out.bytes_mut());
+}
+
+/// Makes a picture smaller as `draw_reduced` does, and answers the SHA-256 of what it wrote. It takes no memory.
 pub fn reduce(input: &[u8], from: StreamSpec, to: StreamSpec, out: &mut PixelBuf) -> [u8; 32]
     requires from_offered { IsTrue (is_yuv from) }
     requires to_offered { IsTrue (is_yuv to) }
@@ -106,6 +119,6 @@ pub fn reduce(input: &[u8], from: StreamSpec, to: StreamSpec, out: &mut PixelBuf
     ensures len { length out.new.bytes ≡ to.width * to.height * 3 / 2 }
     ensures digest { result ≡ sha256 (reduced from to input.now) }
 {
-    write_reduced(input, from, to, out.bytes_mut());
+    draw_reduced(input, from, to, out);
     Sha256::digest(out.bytes())
 }

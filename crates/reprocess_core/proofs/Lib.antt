@@ -3,3 +3,4 @@ pub mod Ready
 pub mod Yuv
 pub mod Finds
 pub mod Listed
+mod Remembered

@@ -9,6 +9,7 @@ ghost use Rattle.reprocess_core.specs.Inputs.{AreHome, IsHomeWith};
 
 use crate::candidates::all_steps;
 use crate::input::{Place, Places, end_places};
+use crate::memory::OutputMemory;
 use crate::output::OutputBlock;
 use crate::steps::{choose, make_fill, make_plain, make_return, make_take};
 use cam_types::{BufferId, NoMemory, PixelBuf, Readout, StreamSpec, YUV_BLOCK};
@@ -38,6 +39,7 @@ pub struct Reprocess {
     places: Places,
     readout: Option<Readout>,
     blocks: Vec<OutputBlock>,
+    memory: OutputMemory,
 }
 
 impl Model for Reprocess {
@@ -110,10 +112,12 @@ impl Reprocess {
         requires { IsTrue (is_plan plan) }
         ensures { IfOk result (λ device. device ≡ record { plan = plan; past = [] }) }
     {
-        let all = all_steps(alloc, request_count(&plan))?;
+        let requests = request_count(&plan);
+        let all = all_steps(alloc, requests)?;
         let ready = Vec::with_capacity(alloc, all.len())?;
         let readout = Readout::new(alloc)?;
         let blocks = make_blocks(alloc)?;
+        let memory = OutputMemory::with_room(alloc, requests)?;
         let spec = plan.input;
         let course = Course::open(alloc, plan)?;
         let places = make_places(alloc, spec)?;
@@ -124,6 +128,7 @@ impl Reprocess {
             places,
             readout: Some(readout),
             blocks,
+            memory,
         })
     }
 
@@ -172,6 +177,7 @@ impl Reprocess {
                 &mut self.course,
                 &self.places,
                 &mut self.blocks,
+                &mut self.memory,
                 frame,
                 stream,
             ),
@@ -193,6 +199,7 @@ impl Reprocess {
             places,
             readout: _,
             blocks: _,
+            memory: _,
         } = self;
         end_places(places);
     }

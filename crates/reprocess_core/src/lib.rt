@@ -5,6 +5,8 @@
 mod candidates;
 mod device;
 mod input;
+mod key;
+mod memory;
 mod output;
 mod picture;
 mod steps;

@@ -10,6 +10,7 @@ ghost use Rattle.reprocess_core.specs.Inputs.{ArePlaces};
 
 use crate::candidates::collect_ready;
 use crate::input::{Place, put, take_ticket, ticket_at};
+use crate::memory::OutputMemory;
 use crate::output::OutputBlock;
 use crate::picture::draw_into;
 use cam_types::{FrameNo, Readout, StreamIx, StreamSpec};
@@ -113,6 +114,7 @@ pub fn make_fill(
     course: &mut Course,
     places: &[Option<Place>],
     blocks: &mut Vec<OutputBlock>,
+    memory: &mut OutputMemory,
     frame: FrameNo,
     stream: StreamIx,
 ) -> ReEntry
@@ -134,7 +136,7 @@ pub fn make_fill(
     let to = output_spec(plan, stream);
     let ticket = ticket_at(places, input as usize);
     let block = &mut blocks[buffer.0 as usize];
-    let digest = block.fill(ticket, to, buffer);
+    let digest = block.fill(ticket, to, buffer, memory);
     let line = ReEntry::Fill {
         frame,
         stream,

@@ -8,7 +8,7 @@ ghost use Rattle.reprocess_core.specs.Tickets.{TicketView};
 use cam_types::{FrameNo, PixelBuf, Readout, Settings, StreamSpec};
 use sensor_sim::{SensorJob, a_readout_lies_between_dark_and_full};
 use std::marker::Model;
-use yuv_stage::{a_yuv_stream_has_yuv_pictures, fill_yuv};
+use yuv_stage::{a_yuv_stream_has_yuv_pictures, draw_yuv};
 
 /// An input buffer at the device, which shows the picture of its request. It must be spent: it is neither dropped nor
 /// copied, and ends by `into_buffer` alone.
@@ -47,7 +47,7 @@ impl InputTicket {
         a_yuv_stream_has_yuv_pictures();
         let exposed = SensorJob::new(frame, settings, scratch).expose();
         let (_, _, readout) = exposed.into_parts();
-        let _digest = fill_yuv(&readout, spec.width, spec.height, &mut pixels);
+        draw_yuv(&readout, spec.width, spec.height, &mut pixels);
         let ticket = InputTicket {
             frame,
             spec,
@@ -62,6 +62,13 @@ impl InputTicket {
         ensures { result ≡ self.now.frame }
     {
         self.frame
+    }
+
+    /// The settings of the request.
+    pub fn settings(&self) -> Settings
+        ensures { result ≡ self.now.settings }
+    {
+        self.settings
     }
 
     /// The stream of the picture.

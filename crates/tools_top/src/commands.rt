@@ -1,12 +1,12 @@
 //! What the words ask for.
-ghost use Rattle.std.specs.Prelude.{◌≡◌, ◌≤◌, true, false, is_some, IfSome, Option};
+ghost use Rattle.std.specs.Prelude.{◌≡◌, ◌≢◌, ◌≤◌, true, false, is_some, IfSome, Option};
 ghost use Rattle.std.specs.Io.KnownBytes.{IsAtEnd};
-ghost use Rattle.io_edge.specs.Faults.{Rose};
-ghost use Rattle.io_edge.specs.States.{Writes, WritesNothing};
-ghost use Rattle.call_status.specs.Answers.{Answers, Untouched};
+ghost use Rattle.io_edge.specs.States.{Writes};
+ghost use Rattle.call_status.specs.Answers.{Answers};
+ghost use Rattle.call_status.specs.Ends.{CountsSink, CountsSource, ReadsBy};
 ghost use Rattle.tools_top.specs.Commands.{IsDone, TellsOfTool, drawing_of, form_of};
 ghost use Rattle.tools_top.specs.Help.{help_text, usage_line};
-ghost use Rattle.tools_top.specs.Words.{reads};
+ghost use Rattle.tools_top.specs.Words.{limit_of};
 ghost use Rattle.tools_words.specs.Tools.{tool_of};
 
 use call_status::{Status, answer};
@@ -46,18 +46,21 @@ pub fn tools_main<S: Source, K: Sink>(
     // Status 0: the help text; or the source was read to its end, and what the tool is asked for was done and written.
     ensures help_done { tool_of words.now ≡ Option.Some Tool.Help → result.number ≡ 0
         → Writes (K.state sink.old) (K.state sink.new) help_text }
-    ensures done { reads (tool_of words.now) ≡ true → result.number ≡ 0 → IsAtEnd (S.left source.new)
+    ensures done { is_some (limit_of (tool_of words.now)) ≡ true → result.number ≡ 0 → IsAtEnd (S.left source.new)
         × IfSome (S.left source.old)
         (λ input. IsDone (tool_of words.now) input (K.state sink.old) (K.state sink.new)) }
     ensures done_tool { result.number ≡ 0 → is_some (tool_of words.now) ≡ true }
 
-    // Other words read nothing.
-    ensures unread { reads (tool_of words.now) ≡ false → S.left source.new ≡ S.left source.old }
-    ensures source_failed { result.number ≡ 3 → Rose (S.faults source.old) (S.faults source.new)
-        × WritesNothing (K.state sink.old) (K.state sink.new) }
-    ensures sink_failed { result.number ≡ 4 → Rose (K.state sink.old).faults (K.state sink.new).faults }
-    ensures no_memory { result.number ≡ 5 → (S.faults source.new ≡ S.faults source.old)
-        × Untouched (K.state sink.old) (K.state sink.new) }
+    // Other words leave the source as it is, and end with 0, 2 or 4.
+    ensures unread { is_some (limit_of (tool_of words.now)) ≡ false → (S.left source.new ≡ S.left source.old)
+        × (S.faults source.new ≡ S.faults source.old) × (result.number ≢ 1) × (result.number ≢ 3)
+        × (result.number ≢ 5) }
+    // The source's count of faults rose at 3 alone, and the sink's at 4 alone; at 3 and 5 nothing was written. At 0 a tool
+    // that reads has read the source to its end; where it has another answer, too, or there is more than the limit.
+    ensures source { CountsSource result.number (S.faults source.old) (S.faults source.new) }
+    ensures sink { CountsSink result.number (K.state sink.old) (K.state sink.new) }
+    ensures read { IfSome (limit_of (tool_of words.now)) (λ limit. ReadsBy limit result.number (S.left source.old)
+        (S.left source.new)) }
     ensures known { result.number ≤ 5 }
 {
     match tool_of(words) {

@@ -1,5 +1,5 @@
 -- What `video` and `picture` tell of an input.
-use Rattle.std.proofs.Common.{◌≡◌, ℕ, ◌<◌, List, Option, Some, None, Result, Ok, Err, refl, sym, ap, subst, ◌∙◌, arith, inl, inr, length, IfSome}
+use Rattle.std.proofs.Common.{◌≡◌, ℕ, ◌<◌, ◌≤◌, List, Option, Some, None, Result, Ok, Err, refl, sym, ap, subst, ◌∙◌, arith, inl, inr, length, IfSome}
 use Rattle.io_edge.specs.States.{SinkState, Writes}
 use Rattle.line_reading.specs.Causes.{number_of}
 use Rattle.line_reading.specs.declared.cause.Cause.{Cause}
@@ -7,6 +7,7 @@ use Rattle.line_reading.specs.declared.cause.Cause.TheVariants.{Limit}
 use Rattle.line_reading.specs.declared.cause.TextRefused.{TextRefused}
 use Rattle.line_reading.specs.declared.cause.TextRefused.TheVariants.{Bad, NoMemory}
 use Rattle.call_status.specs.Answers.{AnswersWithMemory, Tells, TellsBy}
+use Rattle.call_status.proofs.Sinks.{AreAnswers}
 use Rattle.judge_text.specs.Lines.{refused_script_text}
 use Rattle.cam_types.specs.declared.script.Script.{Script}
 use Rattle.input_refusals.proofs.Long.{too-long}
@@ -65,3 +66,13 @@ whole-shown law wanted input status before after zero' (inl h) = absurd (omega (
 whole-shown law wanted input status before after zero' (inr (number, text, shows, inl h)) =
     script-shown law wanted input (script_of input) number text before after refl (sym h.0 ∙ zero') shows h.1.0
 whole-shown law wanted input status before after zero' (inr (number, text, shows, inr h)) = absurd (omega (arith, zero', h.0))
+
+-- the status that belongs to an input is 0 or 1
+file-few : (wanted : Wanted) (r : Result (List ℕ) NoFilm) (status : ℕ) (text : List ℕ) → ShowsFile wanted r status text → status ≤ 2
+file-few wanted (Ok file) status text h = omega (arith, h.0)
+file-few wanted (Err cause) status text h = omega (arith, h.0)
+
+pub are-shown : (wanted : Wanted) (meaning : Result Script TextRefused) → AreAnswers (ShowsScript wanted meaning)
+are-shown wanted (Ok script) number text h = file-few wanted (file_of wanted script (trace_of h.history)) number text h.shows
+are-shown wanted (Err (Bad line cause)) number text h = omega (arith, h.0)
+are-shown wanted (Err NoMemory) number text h = absurd h

@@ -58,7 +58,7 @@ add-requires c =
     let out = outside state.plan state.past c.args.places.now c.args.frame.0 c.in-Some-input_of.input c.requires.places held.0 held.1 in
     let ticket = out.ticket c.ticket_at-ticket.result.now c.ticket_at-ticket.ensures in
     let to = rw c.plan-plan.ensures.value at c.output_spec-to.ensures in
-    let digest = c.fill-digest.ensures ∙ digest-is state.plan c.args.frame.0 c.args.stream.0 c.output_spec-to.result c.ticket_at-ticket.result.now ticket to in
+    let digest = c.fill-digest.ensures.digest ∙ digest-is state.plan c.args.frame.0 c.args.stream.0 c.output_spec-to.result c.ticket_at-ticket.result.now ticket to in
     c.in-Some.ensures ∙ ap (λ (d : List ℕ). Some (Fill c.args.frame c.args.stream c.in-Some.buffer d)) (sym digest)
 
 pub returns-clause-line : goal.returns-clause-line
@@ -69,5 +69,5 @@ returns-clause-line c =
     let out = outside state.plan state.past c.args.places.now c.args.frame.0 c.in-Some-input_of.input c.requires.places held.0 held.1 in
     let ticket = out.ticket c.ticket_at-ticket.result.now c.ticket_at-ticket.ensures in
     let to = rw c.plan-plan.ensures.value at c.output_spec-to.ensures in
-    let digest = c.fill-digest.ensures ∙ digest-is state.plan c.args.frame.0 c.args.stream.0 c.output_spec-to.result c.ticket_at-ticket.result.now ticket to in
+    let digest = c.fill-digest.ensures.digest ∙ digest-is state.plan c.args.frame.0 c.args.stream.0 c.output_spec-to.result c.ticket_at-ticket.result.now ticket to in
     c.in-Some.ensures ∙ ap (λ (d : List ℕ). Some (Fill c.args.frame c.args.stream c.in-Some.buffer d)) (sym digest)
