@@ -6,6 +6,7 @@
 #ifndef DRIVE_H
 #define DRIVE_H
 
+#include "buffer_file.h"
 #include "hal_tap.h"
 
 #include <hardware/camera3.h>
@@ -20,7 +21,7 @@
 #define DRIVE_TEMPLATES 16
 #define DRIVE_PATIENCE_MS 3000
 
-/* ---- buffers (drive_buffers.c): shared memory behind a native handle */
+/* ---- buffers (buffer_file.h), and a stand-in for the gralloc module (drive_buffers.c) */
 
 struct drive_buffer {
     buffer_handle_t handle; /* &handle is what the camera is given */
@@ -32,10 +33,6 @@ struct drive_buffer {
     uint64_t signal_at; /* microseconds of the clock, 0: not by itself */
     uint64_t used;      /* the later the greater */
 };
-
-/* The stand-in for a gralloc module: the handle of a buffer of so many bytes, and its end. NULL: no memory. */
-native_handle_t *drive_handle_new(size_t size);
-void drive_handle_free(buffer_handle_t handle);
 
 /* The module that a HAL is opened with: opens the stand-in for gralloc, and else what the HAL's own does. */
 struct drive_module {

@@ -157,7 +157,7 @@ void drive_end(struct drive *drive)
         drive_fence_drop(&drive->buffers[i]);
         if (drive->buffers[i].release >= 0)
             close(drive->buffers[i].release);
-        drive_handle_free(drive->buffers[i].handle);
+        buffer_file_free(drive->buffers[i].handle);
     }
     free_camera_metadata(drive->own_settings);
     hal_tap_free(drive->tap);

@@ -31,7 +31,7 @@ static struct drive_buffer *new_buffer(struct drive *drive, int stream)
     if (drive->buffer_count == DRIVE_MOST_BUFFERS)
         return NULL;
     buffer = &drive->buffers[drive->buffer_count];
-    buffer->handle = drive_handle_new(size_of(drive, &drive->streams[stream].stream));
+    buffer->handle = buffer_file_new(size_of(drive, &drive->streams[stream].stream));
     if (buffer->handle == NULL)
         return NULL;
     buffer->stream = stream;
