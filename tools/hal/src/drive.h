@@ -71,9 +71,11 @@ struct drive {
     int32_t jpeg_size;
     const camera_metadata_t *characteristics;
     camera_metadata_t *own_settings; /* where no template is known */
+    const char *pictures;            /* the folder for good pictures, or NULL */
     buffer_handle_t null_handle;
 
-    pthread_mutex_t lock; /* of what follows; not held while the camera is entered */
+    pthread_mutex_t flushes; /* a correct framework makes one flush at a time */
+    pthread_mutex_t lock;    /* of what follows; not held while the camera is entered */
     pthread_cond_t changed;
     camera3_device_t *device; /* stays after a close, for scripts that call then */
     bool opened, dead, lost;
@@ -177,6 +179,10 @@ void drive_fill_callbacks(struct drive *drive);
 
 /* Waits on `changed`, at most until the time. False: the time is over. With the lock taken. */
 bool drive_wait(struct drive *drive, uint64_t until);
+
+/* The bytes of a stream's picture; writes one that came back good, where a folder is named (drive_pictures.c). */
+size_t drive_picture_size(const struct drive *drive, const camera3_stream_t *stream);
+void drive_write_picture(const struct drive *drive, const struct drive_buffer *buffer, uint32_t frame);
 
 /* Fences (drive_fences.c); with the lock taken. A new acquire fence of the buffer: the camera's descriptor, or -1. */
 int drive_fence_new(struct drive *drive, struct drive_buffer *buffer, int after_ms);

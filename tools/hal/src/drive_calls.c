@@ -87,9 +87,14 @@ int drive_configure(struct drive *drive, const struct drive_asked *asked, uint32
 
 int drive_flush(struct drive *drive)
 {
+    int answer;
+
     if (drive->device == NULL || drive->device->ops->flush == NULL)
         return -1;
-    return note_answer(drive, drive->device->ops->flush(drive->device));
+    pthread_mutex_lock(&drive->flushes);
+    answer = drive->device->ops->flush(drive->device);
+    pthread_mutex_unlock(&drive->flushes);
+    return note_answer(drive, answer);
 }
 
 void drive_close(struct drive *drive)

@@ -13,17 +13,6 @@
 
 /* ---- buffers; with the lock taken */
 
-static size_t size_of(const struct drive *drive, const camera3_stream_t *stream)
-{
-    size_t pixels = (size_t)stream->width * stream->height;
-
-    switch (stream->format) {
-    case HAL_PIXEL_FORMAT_BLOB: return (size_t)drive->jpeg_size;
-    case HAL_PIXEL_FORMAT_RAW16: return pixels * 2;
-    default: return pixels * 3 / 2;
-    }
-}
-
 static struct drive_buffer *new_buffer(struct drive *drive, int stream)
 {
     struct drive_buffer *buffer;
@@ -31,7 +20,7 @@ static struct drive_buffer *new_buffer(struct drive *drive, int stream)
     if (drive->buffer_count == DRIVE_MOST_BUFFERS)
         return NULL;
     buffer = &drive->buffers[drive->buffer_count];
-    buffer->handle = buffer_file_new(size_of(drive, &drive->streams[stream].stream));
+    buffer->handle = buffer_file_new(drive_picture_size(drive, &drive->streams[stream].stream));
     if (buffer->handle == NULL)
         return NULL;
     buffer->stream = stream;
