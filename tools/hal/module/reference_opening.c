@@ -153,7 +153,7 @@ int reference_open(struct reference_camera *camera, const hw_module_t *module)
 
 /* ---- closing */
 
-static bool has_frames(const struct reference_camera *camera)
+static bool has_frames(struct reference_camera *camera)
 {
     struct pauvigre_row row;
 

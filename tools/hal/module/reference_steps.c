@@ -5,6 +5,12 @@
 
 /* ---- single steps, each of which says what is to be told */
 
+static bool send_part(struct reference_camera *camera, const struct pauvigre_row *row, struct reference_event *event)
+{
+    *event = (struct reference_event){ .kind = REFERENCE_PART, .frame = row->frame };
+    return row->may_send_part && pauvigre_send_part(&camera->proved, row->frame, &event->part) == 0;
+}
+
 static bool tell_error(struct reference_camera *camera, const struct pauvigre_row *row, struct reference_event *event)
 {
     struct pauvigre_error error;
@@ -51,12 +57,6 @@ static bool deliver(struct reference_camera *camera, const struct pauvigre_row *
     return true;
 }
 
-static bool send_part(struct reference_camera *camera, const struct pauvigre_row *row, struct reference_event *event)
-{
-    *event = (struct reference_event){ .kind = REFERENCE_PART, .frame = row->frame };
-    return row->may_send_part && pauvigre_send_part(&camera->proved, row->frame, &event->part) == 0;
-}
-
 /* The next exposure begins when the one before has ended. Times rise also where nothing waits. */
 static bool expose(struct reference_camera *camera, struct reference_event *event)
 {
@@ -81,14 +81,15 @@ static bool step_of_target(struct reference_camera *camera, const struct pauvigr
     return false;
 }
 
-/* Makes the first step that is ready; else says until when its thread may wait, 0 where there is nothing to wait for. */
+/* Makes the first step that is ready: of a frame what can still come is told before what can't. Else says until when
+ * its thread may wait, 0 where there is nothing to wait for. */
 static bool make_step(struct reference_camera *camera, struct reference_event *event, uint64_t *until)
 {
     struct pauvigre_row row;
 
     *until = 0;
     for (uint32_t i = 0; pauvigre_row_at(&camera->proved, i, &row) == 0; i++) {
-        if (tell_error(camera, &row, event) || step_of_target(camera, &row, event) || send_part(camera, &row, event))
+        if (send_part(camera, &row, event) || tell_error(camera, &row, event) || step_of_target(camera, &row, event))
             return true;
         if (row.may_expose)
             *until = camera->next_exposure;
