@@ -102,19 +102,22 @@ static unsigned int write_choice(struct dice *dice, unsigned int from)
     return chosen;
 }
 
+/* Behind fences that are never signalled comes a flush mostly: a device may wait for them as long as it wants. */
 static void write_burst(struct dice *dice, unsigned int streams)
 {
+    bool never = chance(dice, 5);
+
     printf("burst %u", 1 + roll(dice, 8));
     write_choice(dice, streams);
     if (chance(dice, 25))
         printf(" gap %u", roll(dice, 3));
-    if (chance(dice, 5))
+    if (never)
         printf(" fence never");
     else if (chance(dice, 30))
         printf(" fence %u", chance(dice, 50) ? 0 : roll(dice, 25));
     if (chance(dice, 20))
         printf(" settings");
-    printf("\n");
+    printf("\n%s", never && chance(dice, 75) ? "flush\n" : "");
 }
 
 static void write_step(struct dice *dice, unsigned int streams)
