@@ -7,9 +7,6 @@
 #include <string.h>
 #include <system/camera_metadata.h>
 
-/* More than the device takes: of a longer list no more is shown to it. */
-#define MOST_ASKED (PAUVIGRE_STREAMS + 1)
-
 static int initialize(const struct camera3_device *device, const camera3_callback_ops_t *callbacks)
 {
     struct reference_camera *camera = reference_camera_of(device);
@@ -46,7 +43,7 @@ static size_t count_of(const camera3_stream_configuration_t *asked)
 {
     if (asked == NULL || asked->streams == NULL)
         return 0;
-    return asked->num_streams < MOST_ASKED ? asked->num_streams : MOST_ASKED;
+    return asked->num_streams < REFERENCE_ASKED ? asked->num_streams : REFERENCE_ASKED;
 }
 
 /* The bytes of a picture: two a pixel, or three for two pixels. */
@@ -74,7 +71,7 @@ static void keep_streams(struct reference_camera *camera, const camera3_stream_c
 static int configure_streams(const struct camera3_device *device, camera3_stream_configuration_t *asked)
 {
     struct reference_camera *camera = reference_camera_of(device);
-    struct pauvigre_stream streams[MOST_ASKED] = { { .format = 0 } };
+    struct pauvigre_stream streams[REFERENCE_ASKED] = { { .format = 0 } };
     struct pauvigre_max_buffers most;
     size_t count = count_of(asked);
     int answer;

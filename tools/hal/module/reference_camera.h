@@ -29,6 +29,7 @@
 #define REFERENCE_YUV 4
 #define REFERENCE_FRAME_TIME 33333333 /* nanoseconds from one exposure to the next */
 #define REFERENCE_FAULTS 64
+#define REFERENCE_ASKED (PAUVIGRE_STREAMS + 1) /* of a longer list no more is shown to the device, which refuses it */
 #define REFERENCE_BUFFERS (REFERENCE_DEPTH * PAUVIGRE_STREAMS)
 #define REFERENCE_PACK_BYTES 512 /* room for the metadata of settings, or of a result */
 
@@ -136,7 +137,7 @@ camera3_stream_buffer_t reference_give_back(struct reference_buffer *buffer, int
 
 /* ---- the two threads */
 
-void *reference_make_steps(void *camera); /* reference_steps.c */
+void *reference_make_steps(void *camera);   /* reference_steps.c */
 void *reference_fill_buffers(void *camera); /* reference_fills.c */
 
 /* The buffer's acquire fence, which isn't polled any more then; -1: there is none, or it was waited for. */

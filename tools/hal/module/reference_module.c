@@ -7,8 +7,8 @@
 #include <string.h>
 #include <system/camera_metadata.h>
 
-/* What the module has besides its entry point, which has no place for it. The camera is there from the start, and stays:
- * so a device that was closed answers ENODEV as long as the module is loaded. */
+/* What the module has besides its entry point, which has no place for it. The camera is there from the start, and
+ * stays: so a device that was closed answers ENODEV as long as the module is loaded. */
 static struct {
     pthread_mutex_t lock;
     camera_metadata_t *characteristics;

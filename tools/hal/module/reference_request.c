@@ -6,17 +6,14 @@
 #include <errno.h>
 #include <string.h>
 
-/* More than the device takes: of a longer list no more is shown to it. */
-#define MOST_ASKED (PAUVIGRE_STREAMS + 1)
-
 /* A request in the device's words, and the buffers that it brings. */
 struct asked {
     uint32_t frame;
     bool has_settings;
     struct pauvigre_settings settings;
     size_t count;
-    struct pauvigre_target targets[MOST_ASKED];
-    struct reference_buffer buffers[MOST_ASKED];
+    struct pauvigre_target targets[REFERENCE_ASKED];
+    struct reference_buffer buffers[REFERENCE_ASKED];
 };
 
 /* ---- targets. What the device has no word for is a stream that isn't configured, which it refuses */
@@ -62,15 +59,14 @@ static void take_target(struct reference_camera *camera, const camera3_stream_bu
 }
 
 /* An input buffer is one of these: no input is offered. */
-static void take_targets(struct reference_camera *camera, const camera3_capture_request_t *request,
-                         struct asked *asked)
+static void take_targets(struct reference_camera *camera, const camera3_capture_request_t *request, struct asked *asked)
 {
     size_t count = request->output_buffers == NULL ? 0 : request->num_output_buffers;
 
     asked->count = 0;
     if (request->input_buffer != NULL)
         take_none(asked);
-    for (size_t i = 0; i < count && asked->count < MOST_ASKED; i++)
+    for (size_t i = 0; i < count && asked->count < REFERENCE_ASKED; i++)
         take_target(camera, &request->output_buffers[i], asked);
 }
 

@@ -48,11 +48,13 @@ static void test_module(struct client *client)
     client_check(client->module->get_camera_info(1, &info) == -EINVAL, "there is no camera 1");
     client_check(client->module->get_camera_info(0, &info) == 0, "camera 0 says what it is");
     client_check(find_camera_metadata_ro_entry(info.static_camera_characteristics,
-                                               ANDROID_REQUEST_MAX_NUM_OUTPUT_STREAMS, &entry) == 0
+                                               ANDROID_REQUEST_MAX_NUM_OUTPUT_STREAMS, &entry)
+                         == 0
                      && entry.count == 3 && entry.data.i32[0] == 1 && entry.data.i32[1] == 3 && entry.data.i32[2] == 0,
                  "one RAW16 stream, three of YUV, none that stalls");
     client_check(find_camera_metadata_ro_entry(info.static_camera_characteristics,
-                                               ANDROID_SCALER_AVAILABLE_STREAM_CONFIGURATIONS, &entry) == 0
+                                               ANDROID_SCALER_AVAILABLE_STREAM_CONFIGURATIONS, &entry)
+                         == 0
                      && entry.count == 16,
                  "four sizes");
     client_check(tags->get_tag_count(tags) == 2 && tags->get_tag_type(tags, 0x80000000) == TYPE_BYTE
@@ -63,9 +65,11 @@ static void test_module(struct client *client)
 
 static void test_environment(struct client *client)
 {
-    static const char *const malformed[] = { "request", "request 1 2", "buffer 7", "buffer 7 256", "request 3,",
-                                             ",", "request -1", "request 01", "request 4294967296", "Request 1",
-                                             "result 1; result 2", "device 1 1", "buffer 1 2 3 4" };
+    static const char *const malformed[] = { "request",       "request 1 2",        "buffer 7",
+                                             "buffer 7 256",  "request 3,",         ",",
+                                             "request -1",    "request 01",         "request 4294967296",
+                                             "Request 1",     "result 1; result 2", "device 1 1",
+                                             "buffer 1 2 3 4" };
 
     for (size_t i = 0; i < sizeof(malformed) / sizeof(malformed[0]); i++) {
         setenv("PAUVIGRE_FAULTS", malformed[i], 1);
@@ -366,8 +370,10 @@ static void test_failure(struct client *client)
     client_close(client);
     client_check(client->dead, "the device's failure is told");
     client_check(client->frames[0].errors[CAMERA3_MSG_ERROR_REQUEST] == 1, "the request's");
-    client_check(client->frames[1].errors[CAMERA3_MSG_ERROR_RESULT] == 1 && client->frames[1].parts == 2, "the result's");
-    client_check(client->frames[2].errors[CAMERA3_MSG_ERROR_BUFFER] == 1 && client->frames[2].parts == 3, "the buffer's");
+    client_check(client->frames[1].errors[CAMERA3_MSG_ERROR_RESULT] == 1 && client->frames[1].parts == 2,
+                 "the result's");
+    client_check(client->frames[2].errors[CAMERA3_MSG_ERROR_BUFFER] == 1 && client->frames[2].parts == 3,
+                 "the buffer's");
     client_check(lseek(fileno(said), 0, SEEK_END) > 0, "a dump says something");
     fclose(said);
 }

@@ -1,6 +1,6 @@
 /*
- * A small gralloc: a buffer is a file in memory behind a native handle. The driver makes such buffers; the reference HAL
- * takes any whose first descriptor is a file that can be mapped.
+ * A small gralloc: a buffer is a file in memory behind a native handle. The driver makes such buffers; the reference
+ * HAL takes any whose first descriptor is a file that can be mapped.
  */
 #ifndef BUFFER_FILE_H
 #define BUFFER_FILE_H

@@ -121,8 +121,7 @@ static void keep_release(struct drive_buffer *buffer, const camera3_stream_buffe
         buffer->release = returned->release_fence;
 }
 
-static void take_back(const struct drive *drive, struct drive_request *request,
-                      const camera3_stream_buffer_t *returned)
+static void take_back(const struct drive *drive, struct drive_request *request, const camera3_stream_buffer_t *returned)
 {
     struct drive_buffer *buffer = NULL;
 

@@ -35,7 +35,7 @@ static bool is_size_of(const int32_t *size, int format)
     return size[0] == format && size[3] == ANDROID_SCALER_AVAILABLE_STREAM_CONFIGURATIONS_OUTPUT;
 }
 
-/* Gives the stream that of the camera's sizes of the format which has closest to so many pixels. False: it names none. */
+/* Gives the stream the camera's size of the format that is closest to so many pixels. False: it names none. */
 static bool take_closest(const struct drive *drive, int format, int64_t pixels, camera3_stream_t *stream)
 {
     camera_metadata_ro_entry_t entry = { .count = 0 };
