@@ -69,8 +69,9 @@ struct reference_camera {
     pthread_mutex_t lock; /* of what follows */
     pthread_cond_t changed;
     struct pauvigre_device proved;
-    bool opened, stopping;
-    bool telling; /* a step is made, and its callback hasn't returned */
+    bool opened, closing;
+    bool stopping; /* the threads shall end */
+    bool telling;  /* a step is made, and its callback hasn't returned */
     const camera3_callback_ops_t *callbacks;
     struct reference_stream streams[PAUVIGRE_STREAMS];
     size_t stream_count;

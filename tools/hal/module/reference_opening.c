@@ -65,7 +65,7 @@ static void fill_device(struct reference_camera *camera, const hw_module_t *modu
 /* What a camera that was open before may have left. */
 static void forget(struct reference_camera *camera)
 {
-    camera->stopping = camera->telling = camera->polling = false;
+    camera->closing = camera->stopping = camera->telling = camera->polling = false;
     camera->callbacks = NULL;
     camera->stream_count = 0;
     camera->next_exposure = 0;
@@ -160,15 +160,16 @@ static bool has_frames(struct reference_camera *camera)
     return pauvigre_row_at(&camera->proved, 0, &row) == 0;
 }
 
-/* Returns when all that the device had is back. A device that isn't open stays so. */
+/* Returns when all that the device had is back, and told. A device that isn't open, or closes already, stays so. */
 int reference_close(struct hw_device_t *device)
 {
     struct reference_camera *camera = reference_camera_of((const struct camera3_device *)device);
     int answer;
 
     pthread_mutex_lock(&camera->lock);
-    answer = pauvigre_begin_close(&camera->proved);
+    answer = camera->closing ? -ENODEV : pauvigre_begin_close(&camera->proved);
     if (answer == 0) {
+        camera->closing = true;
         reference_tell_changed(camera);
         while (camera->telling || has_frames(camera))
             reference_wait(camera, 0);

@@ -72,24 +72,34 @@ static bool expose(struct reference_camera *camera, struct reference_event *even
 
 /* ---- which one */
 
-static bool step_of_target(struct reference_camera *camera, const struct pauvigre_row *row,
+typedef bool buffer_step(struct reference_camera *, const struct pauvigre_row *, uint8_t, struct reference_event *);
+
+/* Makes the step of the first of the frame's buffers that is ready for it. */
+static bool step_of_buffer(struct reference_camera *camera, const struct pauvigre_row *row, buffer_step *step,
                            struct reference_event *event)
 {
     for (uint8_t place = 0; place < PAUVIGRE_STREAMS; place++)
-        if (return_failed(camera, row, place, event) || deliver(camera, row, place, event))
+        if (step(camera, row, place, event))
             return true;
     return false;
 }
 
-/* Makes the first step that is ready: of a frame what can still come is told before what can't. Else says until when
- * its thread may wait, 0 where there is nothing to wait for. */
+/* What can still come of the frame is told before what can't. */
+static bool step_of_frame(struct reference_camera *camera, const struct pauvigre_row *row,
+                          struct reference_event *event)
+{
+    return send_part(camera, row, event) || step_of_buffer(camera, row, deliver, event)
+           || tell_error(camera, row, event) || step_of_buffer(camera, row, return_failed, event);
+}
+
+/* Makes the first step that is ready; else says until when its thread may wait, 0 where it waits for no time. */
 static bool make_step(struct reference_camera *camera, struct reference_event *event, uint64_t *until)
 {
     struct pauvigre_row row;
 
     *until = 0;
     for (uint32_t i = 0; pauvigre_row_at(&camera->proved, i, &row) == 0; i++) {
-        if (send_part(camera, &row, event) || tell_error(camera, &row, event) || step_of_target(camera, &row, event))
+        if (step_of_frame(camera, &row, event))
             return true;
         if (row.may_expose)
             *until = camera->next_exposure;
