@@ -329,6 +329,57 @@ static void test_flushes(struct client *client)
     close(fence);
 }
 
+/* ---- many at once */
+
+#define FLUSHERS 3
+
+static void *flush_often(void *argument)
+{
+    struct asking *asking = argument;
+
+    for (int i = 0; i < 20 && asking->answer == 0; i++) {
+        asking->answer = asking->client->device->ops->flush(asking->client->device);
+        pause_ms(2);
+    }
+    return NULL;
+}
+
+/* Each buffer comes back once, good or with an error of it or of its request. */
+static bool is_told_once(const struct client_frame *frame)
+{
+    int failed = 0;
+
+    for (uint32_t stream = 0; stream < ALL; stream++) {
+        if (frame->back[stream].count != 1)
+            return false;
+        failed += frame->back[stream].status == CAMERA3_BUFFER_STATUS_ERROR;
+    }
+    if (frame->errors[CAMERA3_MSG_ERROR_REQUEST] != 0)
+        return failed == ALL && frame->parts == 0 && frame->errors[CAMERA3_MSG_ERROR_BUFFER] == 0;
+    return failed == frame->errors[CAMERA3_MSG_ERROR_BUFFER]
+           && (frame->parts == 3) == (frame->errors[CAMERA3_MSG_ERROR_RESULT] == 0);
+}
+
+static void test_many_flushes(struct client *client)
+{
+    struct asking flushers[FLUSHERS];
+
+    client_start(client);
+    for (size_t i = 0; i < FLUSHERS; i++) {
+        flushers[i] = (struct asking){ .client = client };
+        pthread_create(&flushers[i].thread, NULL, flush_often, &flushers[i]);
+    }
+    for (uint32_t frame = 0; frame < CLIENT_FRAMES; frame++)
+        client_check(client_ask(client, frame, ALL, -1) == 0, "a request is taken beside flushes");
+    for (size_t i = 0; i < FLUSHERS; i++) {
+        pthread_join(flushers[i].thread, NULL);
+        client_check(flushers[i].answer == 0, "a flush beside others returns");
+    }
+    client_close(client);
+    for (uint32_t frame = 0; frame < CLIENT_FRAMES; frame++)
+        client_check(is_told_once(&client->frames[frame]), "each buffer comes back once");
+}
+
 /* A close while a request waits: its framework breaks a rule, and hurts nobody. */
 static void test_close(struct client *client)
 {
@@ -396,6 +447,7 @@ int main(int count, char **words)
     test_results(&client);
     test_waiting(&client);
     test_flushes(&client);
+    test_many_flushes(&client);
     test_close(&client);
     test_failure(&client);
     client_check(open_files() == files, "no file is left open");
