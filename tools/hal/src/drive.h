@@ -159,6 +159,9 @@ int drive_configure(struct drive *drive, const struct drive_asked *asked, uint32
 int drive_flush(struct drive *drive);
 void drive_close(struct drive *drive);
 
+/* The camera told of its failure, or answered ENODEV. */
+bool drive_has_failed(struct drive *drive);
+
 /* Makes a request. False: the camera keeps back what it needs (drive_requests.c). */
 bool drive_request(struct drive *drive, const struct drive_asked *asked);
 

@@ -12,19 +12,14 @@ struct drive_later {
     struct drive_later *next;
 };
 
-static bool is_set(struct drive *drive, const bool *flag)
-{
-    bool set;
-
-    pthread_mutex_lock(&drive->lock);
-    set = *flag;
-    pthread_mutex_unlock(&drive->lock);
-    return set;
-}
-
 static bool is_lost(struct drive *drive)
 {
-    return is_set(drive, &drive->lost);
+    bool lost;
+
+    pthread_mutex_lock(&drive->lock);
+    lost = drive->lost;
+    pthread_mutex_unlock(&drive->lock);
+    return lost;
 }
 
 /* ---- single commands */
@@ -106,7 +101,7 @@ static void define_stream(struct drive *drive, const struct drive_command *comma
 
 static void play_requests(struct drive *drive, const struct drive_command *command)
 {
-    for (int i = 0; i < command->number && !is_lost(drive) && !is_set(drive, &drive->dead); i++) {
+    for (int i = 0; i < command->number && !is_lost(drive) && !drive_has_failed(drive); i++) {
         if (!drive_request(drive, &command->asked))
             drive_give_up(drive, "no buffer is free: the camera keeps them, or has none that the script asks for");
         if (command->gap_ms != 0)
@@ -123,7 +118,7 @@ static void set_environment(struct drive *drive, const struct drive_command *com
 /* A framework that was told of the device's failure sends and configures nothing any more. */
 static bool is_pointless(struct drive *drive, const struct drive_command *command)
 {
-    return (command->kind == DRIVE_REQUEST || command->kind == DRIVE_CONFIGURE) && is_set(drive, &drive->dead);
+    return (command->kind == DRIVE_REQUEST || command->kind == DRIVE_CONFIGURE) && drive_has_failed(drive);
 }
 
 static void play_command(struct drive *drive, const struct drive_command *command)

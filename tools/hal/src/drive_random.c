@@ -102,12 +102,13 @@ static unsigned int write_choice(struct dice *dice, unsigned int from)
     return chosen;
 }
 
-/* Behind fences that are never signalled comes a flush mostly: a device may wait for them as long as it wants. */
+/* A device may wait for fences that are never signalled as long as it wants: few requests have them, and then comes a
+ * flush. */
 static void write_burst(struct dice *dice, unsigned int streams)
 {
     bool never = chance(dice, 5);
 
-    printf("burst %u", 1 + roll(dice, 8));
+    printf("burst %u", 1 + roll(dice, never ? 3 : 8));
     write_choice(dice, streams);
     if (chance(dice, 25))
         printf(" gap %u", roll(dice, 3));
@@ -117,7 +118,7 @@ static void write_burst(struct dice *dice, unsigned int streams)
         printf(" fence %u", chance(dice, 50) ? 0 : roll(dice, 25));
     if (chance(dice, 20))
         printf(" settings");
-    printf("\n%s", never && chance(dice, 75) ? "flush\n" : "");
+    printf("\n%s", never ? "flush\n" : "");
 }
 
 static void write_step(struct dice *dice, unsigned int streams)
