@@ -4,7 +4,7 @@
 rules/RULE.log breaks the rule, and rules/RULE.kept.log is the nearest one that doesn't; both were worked out by hand.
 No line of RULE.log can be left out: without it the log doesn't break the rule, or breaks another besides.
 recorded/RULE.log was recorded of tools/hal's small camera HAL, which was told to break the rule, or of a script that
-does; libcamera/*.log of the HAL of docs/LIBCAMERA.md.
+does; libcamera/*.log of the HAL of docs/LIBCAMERA.md, reference/*.log of tools/hal's reference HAL.
 
 usage: rules.py [JUDGE WORD ..]      the judge's command; plain_judge.py where none is named
 """
@@ -17,7 +17,7 @@ from plain_judge import RULES, judge, report_lines
 
 WORKED = Path(__file__).resolve().parent / "rules"
 RECORDED = Path(__file__).resolve().parent / "recorded"
-LIBCAMERA = Path(__file__).resolve().parent / "libcamera"
+OTHERS = [Path(__file__).resolve().parent / name for name in ("libcamera", "reference")]
 # A breach that can't be alone: what the device accepts against a rule, the framework asked for against another one.
 COMPANIONS = {
     "no-configuration": {"unknown-stream"},
@@ -81,7 +81,7 @@ def faults_of(name, is_strict, command):
 
 def main(command):
     names = [(name, is_strict) for name, _, is_strict, _ in RULES]
-    logs = sorted(LIBCAMERA.glob("*.log"))
+    logs = [log for folder in OTHERS for log in sorted(folder.glob("*.log"))]
     failed = 0
     for faults in [faults_of(name, is_strict, command) for name, is_strict in names] \
             + [compare(log, True, command) for log in logs]:

@@ -6,6 +6,7 @@
 #ifndef DRIVE_H
 #define DRIVE_H
 
+#include "buffer_file.h"
 #include "hal_tap.h"
 
 #include <hardware/camera3.h>
@@ -20,7 +21,7 @@
 #define DRIVE_TEMPLATES 16
 #define DRIVE_PATIENCE_MS 3000
 
-/* ---- buffers (drive_buffers.c): shared memory behind a native handle */
+/* ---- buffers (buffer_file.h), and a stand-in for the gralloc module (drive_buffers.c) */
 
 struct drive_buffer {
     buffer_handle_t handle; /* &handle is what the camera is given */
@@ -32,10 +33,6 @@ struct drive_buffer {
     uint64_t signal_at; /* microseconds of the clock, 0: not by itself */
     uint64_t used;      /* the later the greater */
 };
-
-/* The stand-in for a gralloc module: the handle of a buffer of so many bytes, and its end. NULL: no memory. */
-native_handle_t *drive_handle_new(size_t size);
-void drive_handle_free(buffer_handle_t handle);
 
 /* The module that a HAL is opened with: opens the stand-in for gralloc, and else what the HAL's own does. */
 struct drive_module {
@@ -74,9 +71,11 @@ struct drive {
     int32_t jpeg_size;
     const camera_metadata_t *characteristics;
     camera_metadata_t *own_settings; /* where no template is known */
+    const char *pictures;            /* the folder for good pictures, or NULL */
     buffer_handle_t null_handle;
 
-    pthread_mutex_t lock; /* of what follows; not held while the camera is entered */
+    pthread_mutex_t flushes; /* a correct framework makes one flush at a time */
+    pthread_mutex_t lock;    /* of what follows; not held while the camera is entered */
     pthread_cond_t changed;
     camera3_device_t *device; /* stays after a close, for scripts that call then */
     bool opened, dead, lost;
@@ -160,6 +159,9 @@ int drive_configure(struct drive *drive, const struct drive_asked *asked, uint32
 int drive_flush(struct drive *drive);
 void drive_close(struct drive *drive);
 
+/* The camera told of its failure, or answered ENODEV. */
+bool drive_has_failed(struct drive *drive);
+
 /* Makes a request. False: the camera keeps back what it needs (drive_requests.c). */
 bool drive_request(struct drive *drive, const struct drive_asked *asked);
 
@@ -180,6 +182,10 @@ void drive_fill_callbacks(struct drive *drive);
 
 /* Waits on `changed`, at most until the time. False: the time is over. With the lock taken. */
 bool drive_wait(struct drive *drive, uint64_t until);
+
+/* The bytes of a stream's picture; writes one that came back good, where a folder is named (drive_pictures.c). */
+size_t drive_picture_size(const struct drive *drive, const camera3_stream_t *stream);
+void drive_write_picture(const struct drive *drive, const struct drive_buffer *buffer, uint32_t frame);
 
 /* Fences (drive_fences.c); with the lock taken. A new acquire fence of the buffer: the camera's descriptor, or -1. */
 int drive_fence_new(struct drive *drive, struct drive_buffer *buffer, int after_ms);

@@ -104,6 +104,12 @@ void drive_book_accepted(struct drive *drive, struct drive_request *request)
 
 /* ---- callbacks */
 
+/* Its picture is in it. */
+static bool is_filled(const camera3_stream_buffer_t *returned)
+{
+    return returned->status == CAMERA3_BUFFER_STATUS_OK && returned->release_fence < 0;
+}
+
 /* A buffer with a release fence isn't used before that is signalled; of a failed one it tells nothing. */
 static void keep_release(struct drive_buffer *buffer, const camera3_stream_buffer_t *returned)
 {
@@ -115,7 +121,7 @@ static void keep_release(struct drive_buffer *buffer, const camera3_stream_buffe
         buffer->release = returned->release_fence;
 }
 
-static void take_back(struct drive_request *request, const camera3_stream_buffer_t *returned)
+static void take_back(const struct drive *drive, struct drive_request *request, const camera3_stream_buffer_t *returned)
 {
     struct drive_buffer *buffer = NULL;
 
@@ -124,6 +130,8 @@ static void take_back(struct drive_request *request, const camera3_stream_buffer
             continue;
         request->back[i] = true;
         buffer = request->buffers[i];
+        if (is_filled(returned))
+            drive_write_picture(drive, buffer, request->frame);
         give_back(buffer, request->frame);
     }
     keep_release(buffer, returned);
@@ -145,7 +153,7 @@ static void on_result(const struct camera3_callback_ops *callbacks, const camera
     pthread_mutex_lock(&drive->lock);
     request = request_of(drive, result->frame_number);
     for (uint32_t i = 0; i < result->num_output_buffers; i++)
-        take_back(request, &result->output_buffers[i]);
+        take_back(drive, request, &result->output_buffers[i]);
     if (request != NULL && ends_metadata(drive, result))
         request->metadata_ended = true;
     if (request != NULL && is_over(request))

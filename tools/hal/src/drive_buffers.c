@@ -1,6 +1,6 @@
 /*
- * Buffers, and a stand-in for gralloc: shared memory behind a native handle. A HAL gets it by the module that it is
- * opened with (GRALLOC_HARDWARE_GPU0), or by hw_get_module, which this program exports.
+ * A stand-in for the gralloc module, over the buffers of buffer_file.h. A HAL gets it by the module that it is opened
+ * with (GRALLOC_HARDWARE_GPU0), or by hw_get_module, which this program exports.
  */
 #include "drive.h"
 
@@ -8,39 +8,6 @@
 #include <hardware/gralloc.h>
 #include <stdlib.h>
 #include <string.h>
-#include <sys/mman.h>
-#include <sys/stat.h>
-#include <unistd.h>
-
-/* One descriptor for each plane; equal ones mean that the planes lie behind each other. */
-#define HANDLE_DESCRIPTORS 2
-
-native_handle_t *drive_handle_new(size_t size)
-{
-    native_handle_t *handle = malloc(sizeof(*handle) + HANDLE_DESCRIPTORS * sizeof(int));
-    int file = memfd_create("hal_drive", MFD_CLOEXEC);
-
-    if (handle == NULL || file < 0 || ftruncate(file, (off_t)size) != 0) {
-        free(handle);
-        if (file >= 0)
-            close(file);
-        return NULL;
-    }
-    handle->version = sizeof(*handle);
-    handle->numFds = HANDLE_DESCRIPTORS;
-    handle->numInts = 0;
-    for (int i = 0; i < HANDLE_DESCRIPTORS; i++)
-        handle->data[i] = file;
-    return handle;
-}
-
-void drive_handle_free(buffer_handle_t handle)
-{
-    if (handle == NULL)
-        return;
-    close(handle->data[0]);
-    free((void *)handle);
-}
 
 /* ---- the device that allocates */
 
@@ -48,7 +15,7 @@ static int allocate(struct alloc_device_t *device, int width, int height, int fo
                     buffer_handle_t *handle, int *stride)
 {
     (void)device, (void)format, (void)usage;
-    *handle = drive_handle_new((size_t)width * (size_t)height * 2);
+    *handle = buffer_file_new((size_t)width * (size_t)height * 2);
     *stride = width;
     return *handle == NULL ? -ENOMEM : 0;
 }
@@ -56,7 +23,7 @@ static int allocate(struct alloc_device_t *device, int width, int height, int fo
 static int release(struct alloc_device_t *device, buffer_handle_t handle)
 {
     (void)device;
-    drive_handle_free(handle);
+    buffer_file_free(handle);
     return 0;
 }
 
@@ -104,13 +71,9 @@ void drive_module_fill(struct drive_module *module, const camera_module_t *camer
 static int map_buffer(gralloc_module_t const *module, buffer_handle_t handle, int usage, int left, int top, int width,
                       int height, void **address)
 {
-    struct stat file;
-
     (void)module, (void)usage, (void)left, (void)top, (void)width, (void)height;
-    if (fstat(handle->data[0], &file) != 0)
-        return -EINVAL;
-    *address = mmap(NULL, (size_t)file.st_size, PROT_READ | PROT_WRITE, MAP_SHARED, handle->data[0], 0);
-    return *address == MAP_FAILED ? -ENOMEM : 0;
+    *address = buffer_file_map(handle, buffer_file_size(handle));
+    return *address == NULL ? -EINVAL : 0;
 }
 
 /* A mapping stays until the program ends: the call has only the handle. */

@@ -63,6 +63,16 @@ static void note_configured(struct drive *drive, const struct drive_asked *asked
     pthread_mutex_unlock(&drive->lock);
 }
 
+bool drive_has_failed(struct drive *drive)
+{
+    bool failed;
+
+    pthread_mutex_lock(&drive->lock);
+    failed = drive->dead;
+    pthread_mutex_unlock(&drive->lock);
+    return failed;
+}
+
 int drive_configure(struct drive *drive, const struct drive_asked *asked, uint32_t mode, bool anyway)
 {
     camera3_stream_t *streams[DRIVE_MOST_STREAMS];
@@ -77,6 +87,8 @@ int drive_configure(struct drive *drive, const struct drive_asked *asked, uint32
         drive_give_up(drive, "the camera keeps requests, so it can't be configured");
         return -1;
     }
+    if (!anyway && drive_has_failed(drive))
+        return -1;
     for (int i = 0; i < asked->count; i++)
         streams[i] = &drive->streams[asked->streams[i]].stream;
     answer = drive->device->ops->configure_streams(drive->device, asked->null ? NULL : &configuration);
@@ -87,9 +99,14 @@ int drive_configure(struct drive *drive, const struct drive_asked *asked, uint32
 
 int drive_flush(struct drive *drive)
 {
+    int answer;
+
     if (drive->device == NULL || drive->device->ops->flush == NULL)
         return -1;
-    return note_answer(drive, drive->device->ops->flush(drive->device));
+    pthread_mutex_lock(&drive->flushes);
+    answer = drive->device->ops->flush(drive->device);
+    pthread_mutex_unlock(&drive->flushes);
+    return note_answer(drive, answer);
 }
 
 void drive_close(struct drive *drive)

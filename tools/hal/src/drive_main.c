@@ -17,6 +17,7 @@ enum { STATUS_DONE, STATUS_GIVEN_UP, STATUS_USAGE, STATUS_CRASH, STATUS_HANG };
 static const char usage[] =
     "usage: hal_drive HAL.so SCRIPT LOG     plays the script, and records it in LOG, which must not stand yet\n"
     "       hal_drive random SEED           writes the script of the seed\n"
+    "HAL_DRIVE_PICTURES=FOLDER               writes each good picture to it, as FRAME-STREAM-FORMAT-WxH\n"
     "status: 0 played; 1 the camera kept back what the script needs; 2 something can't be read or loaded;\n"
     "        3 the camera crashed; 4 it hung for 60 seconds\n";
 
@@ -128,12 +129,14 @@ int drive_start(struct drive *drive, const char *library, const char *log)
 {
     pthread_condattr_t clock;
 
+    pthread_mutex_init(&drive->flushes, NULL);
     pthread_mutex_init(&drive->lock, NULL);
     pthread_condattr_init(&clock);
     pthread_condattr_setclock(&clock, CLOCK_MONOTONIC);
     pthread_cond_init(&drive->changed, &clock);
     pthread_condattr_destroy(&clock);
     drive->template_id = CAMERA3_TEMPLATE_PREVIEW;
+    drive->pictures = getenv("HAL_DRIVE_PICTURES");
     drive->own_settings = allocate_camera_metadata(4, 64);
     if (drive->own_settings == NULL)
         return -1;
@@ -157,12 +160,13 @@ void drive_end(struct drive *drive)
         drive_fence_drop(&drive->buffers[i]);
         if (drive->buffers[i].release >= 0)
             close(drive->buffers[i].release);
-        drive_handle_free(drive->buffers[i].handle);
+        buffer_file_free(drive->buffers[i].handle);
     }
     free_camera_metadata(drive->own_settings);
     hal_tap_free(drive->tap);
     pthread_cond_destroy(&drive->changed);
     pthread_mutex_destroy(&drive->lock);
+    pthread_mutex_destroy(&drive->flushes);
 }
 
 /* ---- the program */

@@ -12,62 +12,96 @@ struct drive_later {
     struct drive_later *next;
 };
 
-static bool is_set(struct drive *drive, const bool *flag)
-{
-    bool set;
-
-    pthread_mutex_lock(&drive->lock);
-    set = *flag;
-    pthread_mutex_unlock(&drive->lock);
-    return set;
-}
-
 static bool is_lost(struct drive *drive)
 {
-    return is_set(drive, &drive->lost);
+    bool lost;
+
+    pthread_mutex_lock(&drive->lock);
+    lost = drive->lost;
+    pthread_mutex_unlock(&drive->lock);
+    return lost;
 }
 
 /* ---- single commands */
 
-/* The largest size that the camera has for outputs of the format; 640x480 where it names none. */
-static void take_largest(const struct drive *drive, camera3_stream_t *stream)
+/* A size that the camera says it has for outputs of a format. */
+static bool is_size_of(const int32_t *size, int format)
+{
+    return size[0] == format && size[3] == ANDROID_SCALER_AVAILABLE_STREAM_CONFIGURATIONS_OUTPUT;
+}
+
+/* Gives the stream the camera's size of the format that is closest to so many pixels. False: it names none. */
+static bool take_closest(const struct drive *drive, int format, int64_t pixels, camera3_stream_t *stream)
 {
     camera_metadata_ro_entry_t entry = { .count = 0 };
+    int64_t least = INT64_MAX;
 
-    stream->width = 640;
-    stream->height = 480;
     if (drive->characteristics == NULL
         || find_camera_metadata_ro_entry(drive->characteristics, ANDROID_SCALER_AVAILABLE_STREAM_CONFIGURATIONS, &entry)
                != 0)
-        return;
+        return false;
     for (size_t i = 0; i + 3 < entry.count; i += 4) {
         const int32_t *size = &entry.data.i32[i];
+        int64_t between = llabs((int64_t)size[1] * size[2] - pixels);
 
-        if (size[0] != stream->format || size[3] != ANDROID_SCALER_AVAILABLE_STREAM_CONFIGURATIONS_OUTPUT)
+        if (!is_size_of(size, format) || between >= least)
             continue;
-        if ((int64_t)size[1] * size[2] > (int64_t)stream->width * stream->height) {
-            stream->width = (uint32_t)size[1];
-            stream->height = (uint32_t)size[2];
-        }
+        least = between;
+        stream->format = format;
+        stream->width = (uint32_t)size[1];
+        stream->height = (uint32_t)size[2];
     }
+    return least != INT64_MAX;
+}
+
+/* A format of the framework's own, which each camera of a phone has. */
+static bool is_usual(int format)
+{
+    return format == HAL_PIXEL_FORMAT_YCbCr_420_888 || format == HAL_PIXEL_FORMAT_IMPLEMENTATION_DEFINED
+           || format == HAL_PIXEL_FORMAT_BLOB || format == HAL_PIXEL_FORMAT_RAW16;
+}
+
+/* An output becomes what the camera says that it has: the closest size of the format, or of YUV where it lacks that. */
+static void fit(const struct drive *drive, camera3_stream_t *stream)
+{
+    int64_t pixels = (int64_t)stream->width * stream->height;
+
+    if (stream->stream_type != CAMERA3_STREAM_OUTPUT || !is_usual(stream->format))
+        return;
+    if (!take_closest(drive, stream->format, pixels, stream))
+        take_closest(drive, HAL_PIXEL_FORMAT_YCbCr_420_888, pixels, stream);
+}
+
+/* The largest size that the camera has of the format; 640x480 where it names none. */
+static void take_largest(const struct drive *drive, camera3_stream_t *stream)
+{
+    stream->width = 640;
+    stream->height = 480;
+    take_closest(drive, stream->format, INT64_MAX / 2, stream);
 }
 
 static void define_stream(struct drive *drive, const struct drive_command *command)
 {
     struct drive_stream *stream = &drive->streams[command->number];
+    camera3_stream_t wanted = command->stream, fitting;
 
+    wanted.usage = GRALLOC_USAGE_SW_READ_OFTEN;
+    if (command->largest)
+        take_largest(drive, &wanted);
+    fitting = wanted;
+    fit(drive, &fitting);
+    if (fitting.format != wanted.format || fitting.width != wanted.width || fitting.height != wanted.height)
+        hal_tap_note(drive->tap, "stream %d is another one: the camera doesn't have %ux%u of its format",
+                     command->number, wanted.width, wanted.height);
     pthread_mutex_lock(&drive->lock);
     stream->defined = true;
-    stream->stream = command->stream;
-    stream->stream.usage = GRALLOC_USAGE_SW_READ_OFTEN;
-    if (command->largest)
-        take_largest(drive, &stream->stream);
+    stream->stream = fitting;
     pthread_mutex_unlock(&drive->lock);
 }
 
 static void play_requests(struct drive *drive, const struct drive_command *command)
 {
-    for (int i = 0; i < command->number && !is_lost(drive) && !is_set(drive, &drive->dead); i++) {
+    for (int i = 0; i < command->number && !is_lost(drive) && !drive_has_failed(drive); i++) {
         if (!drive_request(drive, &command->asked))
             drive_give_up(drive, "no buffer is free: the camera keeps them, or has none that the script asks for");
         if (command->gap_ms != 0)
@@ -84,7 +118,7 @@ static void set_environment(struct drive *drive, const struct drive_command *com
 /* A framework that was told of the device's failure sends and configures nothing any more. */
 static bool is_pointless(struct drive *drive, const struct drive_command *command)
 {
-    return (command->kind == DRIVE_REQUEST || command->kind == DRIVE_CONFIGURE) && is_set(drive, &drive->dead);
+    return (command->kind == DRIVE_REQUEST || command->kind == DRIVE_CONFIGURE) && drive_has_failed(drive);
 }
 
 static void play_command(struct drive *drive, const struct drive_command *command)

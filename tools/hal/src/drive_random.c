@@ -1,7 +1,7 @@
 /*
- * Writes a random script: what a correct framework may do, with what the small camera HAL may lack. It opens a camera
- * once or twice, configures it a few times, sends bursts with fences, flushes now and then, also while requests are
- * sent, and closes it, also while the camera has requests.
+ * Writes a random script: what a correct framework may do, and what our two HALs shall lack. It opens a camera once or
+ * twice, configures it a few times, sends bursts with fences, flushes now and then, also while requests are sent and
+ * from several threads, and closes it, also while the camera has requests.
  */
 #include "drive.h"
 
@@ -54,6 +54,31 @@ static void write_environment(struct dice *dice)
     printf("\n");
 }
 
+/* The reference HAL's: faults, and whether its frames wait. Dice of its own: so the rest of a seed's script stays. */
+static void write_reference_environment(uint64_t seed)
+{
+    static const char *const kinds[] = { "request", "result", "buffer" };
+    struct dice dice = { ~seed };
+    const char *before = "env PAUVIGRE_FAULTS ";
+
+    if (chance(&dice, 90))
+        printf("env PAUVIGRE_FAST 1\n");
+    for (unsigned int i = roll(&dice, 8); i > 0; i--) {
+        unsigned int kind = roll(&dice, 3);
+
+        printf("%s%s %u", before, kinds[kind], roll(&dice, 60));
+        if (kind == 2)
+            printf(" %u", roll(&dice, STREAMS));
+        before = ", ";
+    }
+    if (chance(&dice, 10)) {
+        printf("%sdevice %u", before, roll(&dice, 60));
+        before = ", ";
+    }
+    if (before[0] == ',')
+        printf("\n");
+}
+
 static void write_streams(struct dice *dice)
 {
     static const char *const formats[STREAMS] = { "YUV", "IMPL", "BLOB", "RAW16" };
@@ -77,19 +102,23 @@ static unsigned int write_choice(struct dice *dice, unsigned int from)
     return chosen;
 }
 
+/* A device may wait for fences that are never signalled as long as it wants: few requests have them, and then comes a
+ * flush. */
 static void write_burst(struct dice *dice, unsigned int streams)
 {
-    printf("burst %u", 1 + roll(dice, 8));
+    bool never = chance(dice, 5);
+
+    printf("burst %u", 1 + roll(dice, never ? 3 : 8));
     write_choice(dice, streams);
     if (chance(dice, 25))
         printf(" gap %u", roll(dice, 3));
-    if (chance(dice, 5))
+    if (never)
         printf(" fence never");
     else if (chance(dice, 30))
         printf(" fence %u", chance(dice, 50) ? 0 : roll(dice, 25));
     if (chance(dice, 20))
         printf(" settings");
-    printf("\n");
+    printf("\n%s", never ? "flush\n" : "");
 }
 
 static void write_step(struct dice *dice, unsigned int streams)
@@ -98,6 +127,8 @@ static void write_step(struct dice *dice, unsigned int streams)
     case 0: printf("flush\n"); break;
     case 1:
         printf("later %u flush\n", roll(dice, 12));
+        if (chance(dice, 40))
+            printf("later %u flush\n", roll(dice, 25));
         write_burst(dice, streams);
         printf("join\n");
         break;
@@ -136,6 +167,7 @@ void drive_write_random(uint64_t seed)
 
     printf("# the script of seed %" PRIu64 "\n", seed);
     write_environment(&dice);
+    write_reference_environment(seed);
     write_streams(&dice);
     for (unsigned int i = 0; i < sessions; i++)
         write_session(&dice);

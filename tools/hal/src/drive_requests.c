@@ -13,17 +13,6 @@
 
 /* ---- buffers; with the lock taken */
 
-static size_t size_of(const struct drive *drive, const camera3_stream_t *stream)
-{
-    size_t pixels = (size_t)stream->width * stream->height;
-
-    switch (stream->format) {
-    case HAL_PIXEL_FORMAT_BLOB: return (size_t)drive->jpeg_size;
-    case HAL_PIXEL_FORMAT_RAW16: return pixels * 2;
-    default: return pixels * 3 / 2;
-    }
-}
-
 static struct drive_buffer *new_buffer(struct drive *drive, int stream)
 {
     struct drive_buffer *buffer;
@@ -31,7 +20,7 @@ static struct drive_buffer *new_buffer(struct drive *drive, int stream)
     if (drive->buffer_count == DRIVE_MOST_BUFFERS)
         return NULL;
     buffer = &drive->buffers[drive->buffer_count];
-    buffer->handle = drive_handle_new(size_of(drive, &drive->streams[stream].stream));
+    buffer->handle = buffer_file_new(drive_picture_size(drive, &drive->streams[stream].stream));
     if (buffer->handle == NULL)
         return NULL;
     buffer->stream = stream;
@@ -76,7 +65,7 @@ static struct drive_buffer *free_buffer(struct drive *drive, int stream, bool ov
         if (!buffer->held && is_ready(buffer) && (best == NULL || buffer->used < best->used))
             best = buffer;
     }
-    if (held >= limit_of(drive, stream) && !over && !drive->dead)
+    if (held >= limit_of(drive, stream) && !over)
         return NULL;
     return best == NULL || count <= limit_of(drive, stream) ? new_buffer(drive, stream) : best;
 }
@@ -90,7 +79,7 @@ static struct drive_buffer *held_buffer(struct drive *drive, int stream)
     return NULL;
 }
 
-/* Takes a buffer for the frame; waits until there is one. NULL: there is none for too long. */
+/* Takes a buffer for the frame; waits until there is one. NULL: there is none for too long, or the camera failed. */
 static struct drive_buffer *take_buffer(struct drive *drive, const struct drive_asked *asked, int stream,
                                         uint32_t frame)
 {
@@ -102,7 +91,7 @@ static struct drive_buffer *take_buffer(struct drive *drive, const struct drive_
     while ((buffer = free_buffer(drive, stream, asked->over)) == NULL) {
         uint64_t soon = drive_clock() + 2000; /* a release fence may be signalled without a callback */
 
-        if (drive_clock() >= until)
+        if (drive->dead || drive_clock() >= until)
             return NULL;
         drive_wait(drive, soon);
     }
@@ -239,7 +228,7 @@ static bool are_configured(struct drive *drive, const struct drive_asked *asked)
 bool drive_request(struct drive *drive, const struct drive_asked *asked)
 {
     struct made made = { .bad_settings = NULL };
-    bool ready;
+    bool ready, failed;
 
     if (drive->device == NULL)
         return true;
@@ -253,10 +242,11 @@ bool drive_request(struct drive *drive, const struct drive_asked *asked)
     }
     pthread_mutex_lock(&drive->lock);
     ready = make(drive, asked, &made);
+    failed = drive->dead;
     pthread_mutex_unlock(&drive->lock);
     if (ready)
         note_request(drive, &made, drive->device->ops->process_capture_request(drive->device, &made.request));
     if (made.bad_settings != NULL)
         free_camera_metadata(made.bad_settings);
-    return ready;
+    return ready || failed; /* of a camera that failed nothing is asked any more */
 }

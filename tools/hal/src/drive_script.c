@@ -191,16 +191,8 @@ static bool read_nothing(struct words *words, struct drive_command *command)
     return true;
 }
 
-static bool read_environment(struct words *words, struct drive_command *command)
-{
-    if (words->next + 2 > words->count)
-        return false;
-    snprintf(command->name, sizeof(command->name), "%s", words->word[words->next++]);
-    snprintf(command->text, sizeof(command->text), "%s", words->word[words->next++]);
-    return true;
-}
-
-static bool read_note(struct words *words, struct drive_command *command)
+/* The words that are left, one space between two. False: there are none. */
+static bool take_rest(struct words *words, struct drive_command *command)
 {
     size_t length = 0;
 
@@ -210,6 +202,14 @@ static bool read_note(struct words *words, struct drive_command *command)
     return length != 0;
 }
 
+static bool read_environment(struct words *words, struct drive_command *command)
+{
+    if (peek(words) == NULL)
+        return false;
+    snprintf(command->name, sizeof(command->name), "%s", words->word[words->next++]);
+    return take_rest(words, command);
+}
+
 /* ---- lines */
 
 static const struct {
@@ -217,7 +217,7 @@ static const struct {
     enum drive_kind kind;
     bool (*read)(struct words *, struct drive_command *);
 } forms[] = {
-    { "env", DRIVE_ENV, read_environment },     { "note", DRIVE_NOTE, read_note },
+    { "env", DRIVE_ENV, read_environment },     { "note", DRIVE_NOTE, take_rest },
     { "stream", DRIVE_STREAM, read_stream },    { "open", DRIVE_OPEN, read_nothing },
     { "init", DRIVE_INIT, read_nothing },       { "template", DRIVE_TEMPLATE, read_template },
     { "use", DRIVE_USE, read_template },        { "configure", DRIVE_CONFIGURE, read_configure },
