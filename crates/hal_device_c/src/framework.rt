@@ -275,9 +275,11 @@ fn request_of(
         [a, b] => held
             .device
             .request(frame, settings, &[target_of(*a), target_of(*b)]),
-        [a, b, c] => held
-            .device
-            .request(frame, settings, &[target_of(*a), target_of(*b), target_of(*c)]),
+        [a, b, c] => held.device.request(
+            frame,
+            settings,
+            &[target_of(*a), target_of(*b), target_of(*c)],
+        ),
         [a, b, c, d] => {
             let targets = [target_of(*a), target_of(*b), target_of(*c), target_of(*d)];
             held.device.request(frame, settings, &targets)

@@ -3,8 +3,9 @@ ghost use Rattle.std.specs.Prelude.{◌≡◌, None, Some};
 ghost use Rattle.std.specs.Option.{option_map};
 ghost use Rattle.std.specs.declared.option.Option.{Option as Maybe};
 ghost use Rattle.hal_device_model.specs.State.{HalDeviceState};
-ghost use Rattle.std.specs.Coded.{coded_option};
+ghost use Rattle.hal_device_c.specs.Room.{coded_device};
 
+use crate::room::Room;
 use hal_device::HalDevice;
 use std::alloc::Global;
 use std::marker::Model;
@@ -36,7 +37,7 @@ impl Drop for Held {
 #[repr(C)]
 pub struct Handle {
     at: *mut (),
-    pub ghost device: { Maybe HalDeviceState } by { coded_option Held.code },
+    pub ghost device: { Maybe HalDeviceState } by { coded_device },
 }
 
 impl Model for Handle {
@@ -61,24 +62,24 @@ impl Handle {
         Handle { at: null_mut() }
     }
 
-    /// With this device.
-    fn of(held: Box<Held, Global>) -> Handle
-        ensures { result.device ≡ Some held.value }
+    /// With the device in this room.
+    fn of(room: Room<Held, Global>) -> Handle
+        ensures { result.device ≡ Some room.value }
     {
-        Handle {
-            at: Box::into_raw(held) as *mut (),
-        }
+        let Room { at, heap: _ } = room;
+        Handle { at: at as *mut () }
     }
 
-    /// The device, if there is one.
-    fn into_box(self, alloc: Global) -> Option<Box<Held, Global>>
-        ensures { option_map (λ b. b.value) result ≡ self.device }
+    /// The room with the device, if there is one.
+    fn into_room(self, heap: Global) -> Option<Room<Held, Global>>
+        ensures { option_map (λ r. r.value) result ≡ self.device }
     {
         let Handle { at } = self;
         if at.is_null() {
             None
         } else {
-            Some(unsafe { Box::from_raw(alloc, at as *mut Held) })
+            let at = at as *mut Held;
+            Some(Room { at, heap })
         }
     }
 
@@ -87,13 +88,15 @@ impl Handle {
         ensures taken { option_map (λ b. b.value) result ≡ self.old.device }
         ensures handle { self.new.device ≡ None }
     {
-        replace(self, Handle::shut()).into_box(alloc)
+        Some(replace(self, Handle::shut()).into_room(alloc)?.into_box())
     }
 
     /// Puts a device in; one that was there is closed.
     pub(crate) fn put(&mut self, alloc: Global, held: Box<Held, Global>)
         ensures { self.new.device ≡ Some held.value }
     {
-        let _ = replace(self, Handle::of(held)).into_box(alloc);
+        if let Some(room) = replace(self, Handle::of(Room::of(held))).into_room(alloc) {
+            drop(room.into_box());
+        }
     }
 }

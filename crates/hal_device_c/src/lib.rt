@@ -6,5 +6,6 @@ mod framework;
 mod handle;
 mod opening;
 mod records;
+mod room;
 mod rows;
 mod steps;

@@ -2,9 +2,7 @@
 ghost use Rattle.std.specs.Prelude.{◌≡◌};
 ghost use Rattle.hal_device_c.specs.Records.{error_record, fault_of, format_of, has_kind, max_buffers_record, most_of, part_record, profile_of, row_record, row_target, settings_of, settings_record, spec_of, target_of};
 
-use cam_types::{
-    Fault, Format, FrameNo, Part, Profile, Settings, StreamIx, StreamSpec,
-};
+use cam_types::{Fault, Format, FrameNo, Part, Profile, Settings, StreamIx, StreamSpec};
 use error_notify::ErrorEntry;
 use hal_device::{ReadyRow, ReadyTarget};
 use hal_model::HalTarget;
@@ -12,7 +10,7 @@ use stream_config::{Plan, PlanStream};
 
 /// `struct pauvigre_profile`.
 #[repr(C)]
-#[derive(Clone, Copy, Debug, PartialEq, Eq)]
+#[derive(Clone, Copy)]
 pub struct ProfileRecord {
     pub depth: u32,
     pub raw: u32,
@@ -21,7 +19,7 @@ pub struct ProfileRecord {
 
 /// `struct pauvigre_fault`.
 #[repr(C)]
-#[derive(Clone, Copy, Debug, PartialEq, Eq)]
+#[derive(Clone, Copy)]
 pub struct FaultRecord {
     pub kind: u32,
     pub frame: u32,
@@ -30,7 +28,7 @@ pub struct FaultRecord {
 
 /// `struct pauvigre_stream`.
 #[repr(C)]
-#[derive(Clone, Copy, Debug, PartialEq, Eq)]
+#[derive(Clone, Copy)]
 pub struct StreamRecord {
     pub format: u32,
     pub width: u32,
@@ -40,14 +38,14 @@ pub struct StreamRecord {
 
 /// `struct pauvigre_max_buffers`.
 #[repr(C)]
-#[derive(Clone, Copy, Debug, PartialEq, Eq)]
+#[derive(Clone, Copy)]
 pub struct MaxBuffersRecord {
     pub of: [u32; 4],
 }
 
 /// `struct pauvigre_settings`.
 #[repr(C)]
-#[derive(Clone, Copy, Debug, PartialEq, Eq)]
+#[derive(Clone, Copy)]
 pub struct SettingsRecord {
     pub exposure: u64,
     pub iso: u32,
@@ -57,7 +55,7 @@ pub struct SettingsRecord {
 
 /// `struct pauvigre_target`.
 #[repr(C)]
-#[derive(Clone, Copy, Debug, PartialEq, Eq)]
+#[derive(Clone, Copy)]
 pub struct TargetRecord {
     pub stream: u32,
     pub buffer: u32,
@@ -65,7 +63,7 @@ pub struct TargetRecord {
 
 /// `struct pauvigre_row_target`.
 #[repr(C)]
-#[derive(Clone, Copy, Debug, PartialEq, Eq)]
+#[derive(Clone, Copy)]
 pub struct RowTargetRecord {
     pub buffer: u32,
     pub there: bool,
@@ -76,7 +74,7 @@ pub struct RowTargetRecord {
 
 /// `struct pauvigre_row`.
 #[repr(C)]
-#[derive(Clone, Copy, Debug, PartialEq, Eq)]
+#[derive(Clone, Copy)]
 pub struct RowRecord {
     pub frame: u32,
     pub may_expose: bool,
@@ -87,7 +85,7 @@ pub struct RowRecord {
 
 /// `struct pauvigre_part`.
 #[repr(C)]
-#[derive(Clone, Copy, Debug, PartialEq, Eq)]
+#[derive(Clone, Copy)]
 pub struct PartRecord {
     pub exposure: u64,
     pub timestamp: u64,
@@ -99,7 +97,7 @@ pub struct PartRecord {
 
 /// `struct pauvigre_delivered`.
 #[repr(C)]
-#[derive(Clone, Copy, Debug, PartialEq, Eq)]
+#[derive(Clone, Copy)]
 pub struct DeliveredRecord {
     pub buffer: u32,
     pub digest: [u8; 32],
@@ -107,7 +105,7 @@ pub struct DeliveredRecord {
 
 /// `struct pauvigre_error`.
 #[repr(C)]
-#[derive(Clone, Copy, Debug, PartialEq, Eq)]
+#[derive(Clone, Copy)]
 pub struct ErrorRecord {
     pub kind: u32,
     pub frame: u32,
@@ -244,10 +242,7 @@ pub(crate) fn part_record(sent: (u8, Part)) -> PartRecord
             iso,
             ..empty
         },
-        Part::Time { timestamp } => PartRecord {
-            timestamp,
-            ..empty
-        },
+        Part::Time { timestamp } => PartRecord { timestamp, ..empty },
     }
 }
 
