@@ -1,66 +1,20 @@
--- More than four streams, or four targets, are refused as none are.
-use Rattle.std.proofs.Common.{◌≡◌, ℕ, ◌≤◌, ◌==◌, Bool, true, false, ◌||◌, not, if◌then◌else◌, List, [], ◌∷◌, ◌++◌, length, nat_lt, Option, Some, None, is_some, option_to_list, refl, sym, ap, ◌∙◌, arith, length-append}
+-- A request with more than four targets ends as one without a target does.
+use Rattle.std.proofs.Common.{◌≡◌, ℕ, ◌<◌, ◌≤◌, Bool, true, false, ◌||◌, if◌then◌else◌, List, [], ◌∷◌, ◌++◌, length, map, nat_lt, Option, Some, None, option_to_list, refl, sym, ◌∙◌, arith, length-append}
+use Rattle.std.proofs.lemmas.Bool.{lt-ltb}
 use Rattle.std.proofs.lemmas.List.{length-map}
-use Rattle.std.specs.List.{list_any}
 use Rattle.cam_types.specs.Four.{four_list}
 use Rattle.cam_types.specs.declared.four.Four.{Four}
-use Rattle.cam_types.specs.Refusals.{or_else, refused, specs_refusal, where_true}
 use Rattle.cam_types.specs.declared.item.Settings.{Settings}
-use Rattle.cam_types.specs.declared.reply.Reply.{Reply}
-use Rattle.cam_types.specs.declared.stream.StreamSpec.{StreamSpec}
 use Rattle.device_store.specs.Stored.{spec_of}
 use Rattle.hal_device_c.proofs.Few.{many-bad}
-use Rattle.hal_device_c.specs.Configuring.{configure_list}
-use Rattle.hal_device_model.specs.Calls.{are_bad_settings, are_bad_targets, configure_error, is_early, is_malformed, is_over, or_refused, request_error, sequence_error, settings_of}
+use Rattle.hal_device_c.specs.Records.{target_of}
+use Rattle.hal_device_c.specs.declared.records.TargetRecord.{TargetRecord}
+use Rattle.hal_device_model.specs.Calls.{are_bad_settings, are_bad_targets, is_early, is_malformed, is_over, request_error, settings_of}
 use Rattle.hal_device_model.specs.Log.{Request, after_call, unless}
 use Rattle.hal_device_model.specs.State.{HalDeviceState, streams_in}
 use Rattle.hal_device_model.specs.declared.error.CallError.{CallError}
 use Rattle.hal_device_model.specs.declared.error.CallError.TheVariants.{InvalidArgument, NoDevice, WrongSequence}
 use Rattle.hal_model.specs.declared.event.HalTarget.{HalTarget}
-
--- ---- streams
-
-second-refuses : (first rest : Option Reply) → is_some rest ≡ true → is_some (or_else first rest) ≡ true
-second-refuses (Some r) rest h = refl
-second-refuses None rest h = h
-
-first-refuses : (test : Bool) (r : Reply) (rest : Option Reply) → test ≡ true → is_some (or_else (where_true test r) rest) ≡ true
-first-refuses true r rest h = refl
-first-refuses false r rest h = absurd (cc)
-
-pub many-refused : (specs : List StreamSpec) → nat_lt 4 (length specs) ≡ true → is_some (specs_refusal specs) ≡ true
-many-refused specs h =
-    second-refuses (where_true (not (list_any (λ (s : StreamSpec). not s.input) specs)) (refused 21)) _
-    (first-refuses (nat_lt 4 (length specs)) (refused 22) _ h)
-
--- refused lists of streams end a configuration with one error
-same-error : (specs others : List StreamSpec) (due : Option CallError) → is_some (specs_refusal specs) ≡ true → is_some (specs_refusal others) ≡ true
-    → or_refused specs due ≡ or_refused others due
-same-error specs others (Some error) h g = refl
-same-error specs others None h g = rw (h, g) refl
-
-pub list-error : (specs : List StreamSpec) (state : HalDeviceState) → configure_error (configure_list specs) state ≡ configure_error specs state
-list-error specs state = by (nat_lt 4 (length specs)) refl
-  where
-    by : (b : Bool) → nat_lt 4 (length specs) ≡ b → configure_error (if b then [] else specs) state ≡ configure_error specs state
-    by true many = same-error [] specs (sequence_error state) refl (many-refused specs many)
-    by false few = refl
-
-refused-errs : (specs : List StreamSpec) (due : Option CallError) → is_some (specs_refusal specs) ≡ true → or_refused specs due ≡ None → ⊥
-refused-errs specs (Some error) h e = absurd (cc)
-refused-errs specs None h e =
-    let given : Some InvalidArgument ≡ None = sym (ap (λ (b : Bool). if b then Some InvalidArgument else None) h) ∙ e in
-    absurd (cc)
-
--- a list that is taken is handed on as it is
-pub list-same : (specs : List StreamSpec) (state : HalDeviceState) → configure_error (configure_list specs) state ≡ None → configure_list specs ≡ specs
-list-same specs state h = by (nat_lt 4 (length specs)) refl
-  where
-    by : (b : Bool) → nat_lt 4 (length specs) ≡ b → (if b then [] else specs) ≡ specs
-    by true many = absurd (refused-errs specs (sequence_error state) (many-refused specs many) (sym (list-error specs state) ∙ h))
-    by false few = refl
-
--- ---- targets
 
 one-each : {X : Type 0} (o : Option X) → length (option_to_list o) ≤ 1
 one-each None = omega arith
@@ -88,7 +42,7 @@ malformed false true settings h = refl
 malformed false false settings h = absurd (cc)
 
 -- the error of a request that is malformed, whatever it would wait for
-error-if : Bool → Bool → Bool → Option CallError → Option CallError
+abbrev error-if : Bool → Bool → Bool → Option CallError → Option CallError
 error-if over early bad waits =
     if over then Some NoDevice else (if early then Some WrongSequence else (if bad then Some InvalidArgument else waits))
 
@@ -127,3 +81,6 @@ module _ (n : ℕ) (settings : Option Settings) (targets : List HalTarget) (stat
   many-state =
       stays-if (is_over state) (is_early state) (is_malformed n settings [] state) _ _ state none-malformed
       ∙ sym (stays-if (is_over state) (is_early state) (is_malformed n settings targets state) _ _ state is-malformed)
+
+pub many-mapped : (targets : List TargetRecord) → 4 < length targets → nat_lt 4 (length (map target_of targets)) ≡ true
+many-mapped targets h = lt-ltb 4 (length (map target_of targets)) (omega (arith, length-map targets target_of))

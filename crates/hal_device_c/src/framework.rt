@@ -1,5 +1,5 @@
 //! The calls of the framework.
-ghost use Rattle.std.specs.Prelude.{◌≡◌, ◌≤◌, None, Some, IfOk, IfSome, false, length, map, true, if◌then◌else◌};
+ghost use Rattle.std.specs.Prelude.{◌≡◌, ◌<◌, ◌≤◌, None, Some, IfOk, IfSome, false, length, map, true, if◌then◌else◌};
 ghost use Rattle.std.specs.Option.{option_map};
 ghost use Rattle.std.specs.Result.{result_err};
 ghost use Rattle.hal_device.specs.Templates.{template_error};
@@ -17,6 +17,7 @@ use crate::records::{
     settings_record, spec_of, target_of,
 };
 use cam_types::{FrameNo, NoMemory, Settings, SpecList};
+use hal_device::HalDevice;
 use hal_device_model::CallError;
 use std::alloc::Global;
 
@@ -259,8 +260,6 @@ fn few_specs_of(alloc: Global, streams: &[StreamRecord]) -> Result<SpecList, NoM
     Ok(specs)
 }
 
-/// Makes a request. More than four targets, one of which is of a stream that isn't configured or that another names,
-/// stand as none, which is refused as well.
 fn request_of(
     held: &mut Held,
     frame: FrameNo,
@@ -270,20 +269,37 @@ fn request_of(
     ensures answer { result_err result ≡ request_error frame.0 settings (map target_of targets.now) held.old }
     ensures device { held.new ≡ after_call (Request frame.0 settings (map target_of targets.now)) held.old }
 {
+    let device = &mut held.device;
     match targets {
-        [a] => held.device.request(frame, settings, &[target_of(*a)]),
-        [a, b] => held
-            .device
-            .request(frame, settings, &[target_of(*a), target_of(*b)]),
-        [a, b, c] => held.device.request(
-            frame,
-            settings,
-            &[target_of(*a), target_of(*b), target_of(*c)],
-        ),
+        [] => device.request(frame, settings, &[]),
+        [a] => device.request(frame, settings, &[target_of(*a)]),
+        [a, b] => device.request(frame, settings, &[target_of(*a), target_of(*b)]),
+        [a, b, c] => {
+            device.request(
+                frame,
+                settings,
+                &[target_of(*a), target_of(*b), target_of(*c)],
+            )
+        }
         [a, b, c, d] => {
             let targets = [target_of(*a), target_of(*b), target_of(*c), target_of(*d)];
-            held.device.request(frame, settings, &targets)
+            device.request(frame, settings, &targets)
         }
-        _ => held.device.request(frame, settings, &[]),
+        _ => request_many(device, frame, settings, targets),
     }
+}
+
+/// Makes a request with more than four targets, one of which is of a stream that isn't configured or that another has
+/// too: it is refused as one without a target is.
+fn request_many(
+    device: &mut HalDevice,
+    frame: FrameNo,
+    settings: Option<Settings>,
+    targets: &[TargetRecord],
+) -> Result<(), CallError>
+    requires { 4 < length targets.now }
+    ensures answer { result_err result ≡ request_error frame.0 settings (map target_of targets.now) device.old }
+    ensures device { device.new ≡ after_call (Request frame.0 settings (map target_of targets.now)) device.old }
+{
+    device.request(frame, settings, &[])
 }

@@ -1,8 +1,9 @@
 //! The device is opened and closed.
 ghost use Rattle.std.specs.Prelude.{◌≡◌, ◌≤◌, None, Some, IfOk, IfSome, false, true, length, map, if◌then◌else◌};
+ghost use Rattle.std.specs.List.{list_all};
 ghost use Rattle.cam_types.specs.Profile.{is_profile};
 ghost use Rattle.hal_device_c.specs.Calls.{IsAnswer, are_bad_faults, close_answer, is_done, open_error};
-ghost use Rattle.hal_device_c.specs.Records.{fault_of, profile_of};
+ghost use Rattle.hal_device_c.specs.Records.{fault_of, has_kind, profile_of};
 ghost use Rattle.hal_device_model.specs.State.{opened};
 
 use crate::answer::{DONE, INVALID, NO_MEMORY, NOT_OPEN};
@@ -72,7 +73,13 @@ fn opened(alloc: Global, profile: Profile, faults: &[FaultRecord]) -> Option<Box
 fn are_bad(faults: &[FaultRecord]) -> bool
     ensures { result ≡ are_bad_faults faults.now }
 {
-    FAULTS_MOST < faults.len() || !faults.iter().all(|fault| has_kind(fault))
+    FAULTS_MOST < faults.len() || !have_kinds(faults)
+}
+
+fn have_kinds(faults: &[FaultRecord]) -> bool
+    ensures { result ≡ list_all has_kind faults.now }
+{
+    faults.iter().all(|fault| has_kind(fault))
 }
 
 /// The faults, of which there aren't too many.
