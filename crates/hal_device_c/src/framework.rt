@@ -269,23 +269,21 @@ fn request_of(
     ensures answer { result_err result ≡ request_error frame.0 settings (map target_of targets.now) held.old }
     ensures device { held.new ≡ after_call (Request frame.0 settings (map target_of targets.now)) held.old }
 {
-    let device = &mut held.device;
     match targets {
-        [] => device.request(frame, settings, &[]),
-        [a] => device.request(frame, settings, &[target_of(*a)]),
-        [a, b] => device.request(frame, settings, &[target_of(*a), target_of(*b)]),
+        [] => held.device.request(frame, settings, &[]),
+        [a] => held.device.request(frame, settings, &[target_of(*a)]),
+        [a, b] => held
+            .device
+            .request(frame, settings, &[target_of(*a), target_of(*b)]),
         [a, b, c] => {
-            device.request(
-                frame,
-                settings,
-                &[target_of(*a), target_of(*b), target_of(*c)],
-            )
+            let targets = [target_of(*a), target_of(*b), target_of(*c)];
+            held.device.request(frame, settings, &targets)
         }
         [a, b, c, d] => {
             let targets = [target_of(*a), target_of(*b), target_of(*c), target_of(*d)];
-            device.request(frame, settings, &targets)
+            held.device.request(frame, settings, &targets)
         }
-        _ => request_many(device, frame, settings, targets),
+        _ => request_many(&mut held.device, frame, settings, targets),
     }
 }
 
