@@ -1,1 +1,3 @@
 pub mod Kept
+pub mod Ready
+pub mod Templates

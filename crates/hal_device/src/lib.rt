@@ -4,6 +4,7 @@
 mod device;
 mod failures;
 mod quiet;
+mod ready;
 mod request;
 mod requests;
 mod shelf;
@@ -11,6 +12,8 @@ mod shelves;
 mod steps;
 mod stops;
 mod streams;
+mod templates;
 
 pub use device::HalDevice;
+pub use ready::{ReadyRow, ReadyTarget};
 pub use steps::Delivered;

@@ -13,6 +13,7 @@ ghost use Rattle.device_store.specs.Steps.{ShowsAt};
 ghost use Rattle.device_store.specs.Stored.{AreParked, are_before, is_some_target, no_plan, specs_of};
 ghost use Rattle.fence_tokens.specs.Fences.{is_signalled, no_fences};
 ghost use Rattle.hal_device.specs.Kept.{IsBlockAt, rests};
+ghost use Rattle.hal_device.specs.Ready.{is_of};
 ghost use Rattle.hal_device_model.specs.Calls.{delivered_rows, error_rows, exposed_rows, failed_rows, filled_rows, sent_rows, settled};
 
 use buffer_pool::Parked;
@@ -71,6 +72,52 @@ impl QuietDevice {
         ensures { result ≡ slice_get self.now.rows place }
     {
         self.device.at(place)
+    }
+
+    /// Whether the frame's exposure is next.
+    pub fn is_next(&self, frame: FrameNo) -> bool
+        ensures { result ≡ is_of frame.0 (shutter_row self.now.faults self.now.rows) }
+    {
+        match self.device.shutter_due() {
+            Some(row) => row.frame == frame,
+            None => false,
+        }
+    }
+
+    /// Whether a metadata result of the frame is ready.
+    pub fn has_part(&self, frame: FrameNo) -> bool
+        ensures { result ≡ is_some (next_part self.now.faults self.now.rows frame.0) }
+    {
+        self.device.part_due(frame).is_some()
+    }
+
+    /// Whether an error is due at the frame.
+    pub fn has_error(&self, frame: FrameNo) -> bool
+        ensures { result ≡ is_some (next_error self.now.faults self.now.rows frame.0) }
+    {
+        self.device.error_due(frame).is_some()
+    }
+
+    /// Whether the picture of a target may be drawn.
+    pub fn may_fill(&self, frame: FrameNo, stream: StreamIx) -> bool
+        ensures { result ≡
+            is_fill_ready self.now.faults (λ f. is_signalled f (no_fences 0)) self.now.rows frame.0 stream.0 }
+    {
+        self.device.may_take_fill(frame, stream, &self.fences)
+    }
+
+    /// Whether the filled buffer of a target may come back.
+    pub fn may_deliver(&self, frame: FrameNo, stream: StreamIx) -> bool
+        ensures { result ≡ is_delivery_ready self.now.faults self.now.rows frame.0 stream.0 }
+    {
+        self.device.may_deliver(frame, stream)
+    }
+
+    /// Whether the failed buffer of a target may come back.
+    pub fn may_return_failed(&self, frame: FrameNo, stream: StreamIx) -> bool
+        ensures { result ≡ is_failed_return_ready self.now.rows frame.0 stream.0 }
+    {
+        self.device.may_return_failed(frame, stream)
     }
 
     /// Takes the streams of a configuration. No row stands.

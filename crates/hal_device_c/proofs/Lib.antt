@@ -1,0 +1,4 @@
+pub mod Few
+pub mod Handles
+pub mod Many
+pub mod Rooms
