@@ -10,7 +10,7 @@ pub(crate) enum Part {
     Requests,
     /// Exposes frames.
     Sensor,
-    /// Fills buffers.
+    /// Fills buffers, and makes the steps of the other parts where one is ready.
     Stage,
     /// Tells what became of each frame.
     Results,

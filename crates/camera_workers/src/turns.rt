@@ -34,12 +34,25 @@ pub(crate) fn turn<R: Threads + Wait + Sync, G: Gate>(
 {
     match part {
         Part::Sensor => expose(rt, shared, seat),
-        Part::Stage => fill(rt, shared, seat, digests, gate),
+        Part::Stage => help(rt, shared, seat) || fill(rt, shared, seat, digests, gate),
         Part::Client => step(rt, shared, seat, CLIENT),
         Part::Requests => step(rt, shared, seat, REQUESTS),
         Part::Results => step(rt, shared, seat, RESULTS),
         Part::Consumer => step(rt, shared, seat, CONSUMER),
     }
+}
+
+/// Makes a step of another part than the stages: none waits for a loop that sleeps while a stage's is awake.
+fn help<R: Threads + Wait + Sync>(rt: &R, shared: &Shared, seat: &mut CamSeat) -> bool
+    requires { IsIdle script_of shared.now.turnstile seat.old }
+    ensures done { IsDone script_of shared.now.turnstile (view seat.old) seat.new }
+    ensures begins { IsPrefix (view seat.old).seen (view seat.new).seen }
+{
+    step(rt, shared, seat, RESULTS)
+        || step(rt, shared, seat, CONSUMER)
+        || step(rt, shared, seat, REQUESTS)
+        || expose(rt, shared, seat)
+        || step(rt, shared, seat, CLIENT)
 }
 
 /// Makes a step of no job.
