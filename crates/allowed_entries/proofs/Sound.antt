@@ -100,9 +100,9 @@ lates-tell script past =
     of-each script past (λ d. shown (late_due script past d)) (range_with_len 0 (next_early past)) (λ d. of-due script past (late_due script past d) (late-allowed script past d))
 
 -- each of the list is told of an entry that is allowed
-pub all-tell : (script : Script) (past : List Entry) → AllTellAllowed script past (allowed_entries script past)
+pub all_tell : (script : Script) (past : List Entry) → AllTellAllowed script past (allowed_entries script past)
 unfolding allowed_entries
-all-tell script past =
+all_tell script past =
     let join = all-two script past in
     join _ _ (frames-tell script past)
     (join _ _ (next-tell script past)
