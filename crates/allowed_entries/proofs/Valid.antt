@@ -1,7 +1,6 @@
 -- What a valid script and a legal past give to the list.
-use Rattle.std.proofs.Common.{◌≡◌, ◌∙◌, ◌<◌, ◌^◌, ℕ, ◌==◌, ◌+◌, Bool, true, false, ◌&&◌, List, IsTrue, refl, sym, ap, subst, arith, length, inl, inr, if◌then◌else◌}
+use Rattle.std.proofs.Common.{◌≡◌, ◌∙◌, ◌<◌, ◌^◌, ℕ, ◌==◌, ◌+◌, true, ◌&&◌, List, refl, sym, ap, subst, arith, length, inl, inr}
 use Rattle.std.proofs.lemmas.Bool.{and_from, and_parts, cases_Bool, eqb-true}
-use Rattle.std.specs.Prelude.{nat_le}
 use Rattle.cam_types.specs.Profile.{is_plain, is_profile, is_profile_number, profile_fits}
 use Rattle.cam_types.specs.Script.{is_valid}
 use Rattle.cam_types.specs.declared.profile.Profile.{Profile}

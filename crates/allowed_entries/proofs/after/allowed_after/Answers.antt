@@ -1,5 +1,4 @@
 use Rattle.std.proofs.Common.{◌++◌, ◌∙◌, List, ap, reverse, subst, sym}
-use Rattle.trace_model.specs.declared.entry.Entry.{Entry}
 use Rattle.allowed_entries.specs.declared.entry.AllowedEntry.{AllowedEntry}
 use Rattle.allowed_entries.specs.Readings.{all_in}
 use Rattle.allowed_entries.specs.Told.{AllTellAllowed}

@@ -1,5 +1,4 @@
-use Rattle.std.proofs.Common.{◌≡◌, ap, arith, refl}
-use Rattle.allowed_entries.specs.Known.{shown}
+use Rattle.std.proofs.Common.{◌≡◌, arith, refl}
 use Rattle.allowed_entries.specs.Readings.{lates_in}
 use Rattle.allowed_entries.proofs.Numbers.{one_more}
 use Rattle.allowed_entries.proofs.fences.add_lates.Goals as goal

@@ -1,6 +1,6 @@
-use Rattle.std.proofs.Common.{◌≡◌, ◌≤◌, ◌-◌, ◌++◌, ◌∙◌, [], sym, ap, arith, length, map, take}
+use Rattle.std.proofs.Common.{◌-◌, ◌++◌, ◌∙◌, sym, ap, arith, length, map, take}
 use Rattle.std.proofs.lemmas.List.{append-nil, append_assoc, length-take}
-use Rattle.allowed_entries.specs.Readings.{frame_in, frames_in}
+use Rattle.allowed_entries.specs.Readings.{frames_in}
 use Rattle.allowed_entries.proofs.Rows.{none_left, rows_more}
 use Rattle.allowed_entries.proofs.frames.add_rows.Goals as goal
 

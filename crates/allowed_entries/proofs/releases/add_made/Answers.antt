@@ -1,4 +1,4 @@
-use Rattle.std.proofs.Common.{◌≡◌, ◌+◌, ◌-◌, ap, arith, refl}
+use Rattle.std.proofs.Common.{◌+◌, ◌-◌, ap, arith}
 use Rattle.allowed_entries.specs.Known.{shown}
 use Rattle.allowed_entries.proofs.Numbers.{one_more}
 use Rattle.allowed_entries.proofs.releases.add_made.Goals as goal

@@ -1,4 +1,3 @@
-use Rattle.std.proofs.Common.{get_or}
 use Rattle.trace_check.proofs.Prefixes.{allowed-at, legal-before}
 use Rattle.allowed_entries.proofs.Joins.{at_some}
 use Rattle.allowed_entries.proofs.tables.tables_after.Goals as goal
