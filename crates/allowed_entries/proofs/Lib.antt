@@ -1,8 +1,9 @@
-pub mod After
 pub mod Client
 pub mod Due
+pub mod Joins
 pub mod Numbers
-pub mod Reads
+pub mod Readings
 pub mod Rows
-pub mod Sends
+pub mod SendLemmas
 pub mod Sound
+pub mod Valid

@@ -1,5 +1,5 @@
 -- Each of the list is told of an entry that is allowed, and has a line.
-use Rattle.std.proofs.Common.{◌≡◌, ℕ, Bool, true, false, ◌&&◌, List, [], ◌∷◌, ◌++◌, Option, Some, None, IsTrue, refl, sym, ap, ◌∙◌, reverse, filter, if◌then◌else◌}
+use Rattle.std.proofs.Common.{◌≡◌, ℕ, Bool, true, false, List, [], ◌∷◌, ◌++◌, Option, Some, None, IsTrue, refl, sym, ap, ◌∙◌, if◌then◌else◌}
 use Rattle.std.specs.List.{flat_map, list_all, range_with_len}
 use Rattle.std.proofs.lemmas.Bool.{and_from, and_parts}
 use Rattle.cam_types.specs.declared.script.Script.{Script}
@@ -100,9 +100,9 @@ lates-tell script past =
     of-each script past (λ d. shown (late_due script past d)) (range_with_len 0 (next_early past)) (λ d. of-due script past (late_due script past d) (late-allowed script past d))
 
 -- each of the list is told of an entry that is allowed
-pub all-tell : (script : Script) (past : List Entry) → AllTellAllowed script past (allowed_entries script past)
+pub all_tell : (script : Script) (past : List Entry) → AllTellAllowed script past (allowed_entries script past)
 unfolding allowed_entries
-all-tell script past =
+all_tell script past =
     let join = all-two script past in
     join _ _ (frames-tell script past)
     (join _ _ (next-tell script past)

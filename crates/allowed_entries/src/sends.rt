@@ -1,5 +1,5 @@
 //! The send that is due, whatever buffers it takes.
-ghost use Rattle.std.specs.Prelude.{◌≡◌, ◌||◌, find, is_some, not, option_to_list};
+ghost use Rattle.std.specs.Prelude.{◌≡◌, ◌||◌, Option, find, is_some, not, option_to_list};
 ghost use Rattle.std.specs.List.{list_all, range_with_len};
 ghost use Rattle.buffer_facts.specs.Homes.{least_in, place_in};
 ghost use Rattle.judge_sends.specs.Asked.{asks, left_from};
@@ -24,16 +24,14 @@ fn is_in_pool(tables: &JudgeTables, number: u64) -> bool
     matches!(tables.homes().home(number), Home::Pool)
 }
 
-/// Whether one of the buffers is in the pool.
-fn has_one_in_pool(tables: &JudgeTables, made: Made) -> bool
+/// The first of the buffers that is in the pool.
+fn first_in_pool(tables: &JudgeTables, made: Made) -> Option<u64>
     ensures { result ≡
-        is_some (find (λ b. is_at (place_in tables.now.state.buffers b) Pool) (range_with_len made.first.0 made.count)) }
+        find (λ b. is_at (place_in tables.now.state.buffers b) Pool) (range_with_len made.first.0 made.count) }
 {
     let first = u64::from(made.first.0);
     let end = first + u64::from(made.count);
-    (first..end)
-        .find(|number| is_in_pool(tables, *number))
-        .is_some()
+    (first..end).find(|number| is_in_pool(tables, *number))
 }
 
 /// Whether a buffer of the stream is in the pool.
@@ -41,7 +39,7 @@ fn has_free(tables: &JudgeTables, stream: StreamIx) -> bool
     ensures { result ≡ is_some (least_in tables.now.state.buffers stream.0) }
 {
     match tables.homes().made(stream) {
-        Some(made) => has_one_in_pool(tables, made),
+        Some(made) => first_in_pool(tables, made).is_some(),
         None => false,
     }
 }
@@ -68,6 +66,7 @@ fn have_free(tables: &JudgeTables, asked: Targets) -> bool
 }
 
 /// The send of the item, where it is due.
+#[tactic(auto, using(crate::proofs::SendLemmas::send_told))]
 fn send_next(script: &Script, tables: &JudgeTables, next: Queued) -> Option<AllowedEntry>
     ensures { option_to_list result ≡ shown (send_next_in script.now tables.now.state (Option.Some next)) }
 {

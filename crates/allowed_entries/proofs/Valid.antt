@@ -1,7 +1,6 @@
 -- What a valid script and a legal past give to the list.
-use Rattle.std.proofs.Common.{◌≡◌, ◌∙◌, ◌<◌, ◌^◌, ℕ, ◌==◌, ◌+◌, Bool, true, false, ◌&&◌, List, IsTrue, refl, sym, ap, subst, arith, length, inl, inr, if◌then◌else◌}
+use Rattle.std.proofs.Common.{◌≡◌, ◌∙◌, ◌<◌, ◌^◌, ℕ, ◌==◌, ◌+◌, true, ◌&&◌, List, refl, sym, ap, subst, arith, length, inl, inr}
 use Rattle.std.proofs.lemmas.Bool.{and_from, and_parts, cases_Bool, eqb-true}
-use Rattle.std.specs.Prelude.{nat_le}
 use Rattle.cam_types.specs.Profile.{is_plain, is_profile, is_profile_number, profile_fits}
 use Rattle.cam_types.specs.Script.{is_valid}
 use Rattle.cam_types.specs.declared.profile.Profile.{Profile}
@@ -18,7 +17,7 @@ use Rattle.trace_check.proofs.Holding.{numbered}
 use Rattle.allowed_entries.specs.declared.entry.AllowedEntry.{AllowedEntry}
 use Rattle.allowed_entries.specs.Entries.{allowed_entries}
 use Rattle.allowed_entries.specs.Readings.{all_in}
-use Rattle.allowed_entries.proofs.Reads.{allowed_are}
+use Rattle.allowed_entries.proofs.Readings.{allowed_are}
 
 -- ---- a valid script has a profile
 
@@ -43,7 +42,8 @@ valid_profile script h = profile-of script.version script.profile (and_parts (pr
 -- ---- numbers
 
 pub few_fences : (script : Script) (past : List Entry) → is_typed script ≡ true → is_valid script ≡ true → IsLegal script past → next_fence past < 2 ^ 32
-few_fences script past typed valid legal = rw fences_are past (numbers_fit script past typed valid legal).fences
+few_fences script past typed valid legal =
+    let fits = (numbers_fit script past typed valid legal).fences in omega (arith, fences_are past, fits)
 
 pub numbered_held : (script : Script) (past : List Entry) (t : Judged) → is_valid script ≡ true → IsLegal script past → t ≡ held script past → t.state.buffers.first + (length t.state.buffers.places + 72) < 2 ^ 32
 numbered_held script past t valid legal is =

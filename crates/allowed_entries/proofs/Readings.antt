@@ -1,38 +1,30 @@
 -- What is allowed after a legal past is read from its state.
-use Rattle.std.proofs.Common.{◌≡◌, ◌∙◌, ℕ, List, [], ◌∷◌, ◌++◌, Option, refl, sym, ap, filter, length, map, reverse}
+use Rattle.std.proofs.Common.{◌≡◌, ◌∙◌, ℕ, List, [], ◌∷◌, ◌++◌, refl, sym, ap, filter, length, map, reverse}
 use Rattle.std.specs.List.{flat_map, range_with_len}
 use Rattle.basic_lemmas.proofs.Lists.{map-map}
 use Rattle.std.proofs.lemmas.List.{map-id}
 use Rattle.cam_types.specs.declared.script.Script.{Script}
 use Rattle.trace_model.specs.declared.entry.Entry.{Entry}
-use Rattle.trace_model.specs.Client.{begin_due, call_due}
+use Rattle.trace_model.specs.Client.{call_due}
 use Rattle.trace_model.specs.Configuration.{buffers_of}
-use Rattle.trace_model.specs.Drop.{drop_due}
 use Rattle.trace_model.specs.Entry.{is_shutter}
-use Rattle.trace_model.specs.Errors.{error_buffer_due, error_device_due, error_request_due, error_result_due, failed_due}
-use Rattle.trace_model.specs.Filled.{early_due, filled_due, late_due}
 use Rattle.trace_model.specs.Frames.{frames}
 use Rattle.trace_model.specs.Legal.{IsLegal}
 use Rattle.trace_model.specs.Numbers.{next_early, next_fence}
-use Rattle.trace_model.specs.Open.{is_open, is_quiet}
-use Rattle.trace_model.specs.Partial.{partial_due}
-use Rattle.trace_model.specs.Release.{release_due, signal_due}
-use Rattle.trace_model.specs.Send.{send_due}
-use Rattle.trace_model.specs.Shutter.{shutter_due}
+use Rattle.trace_model.specs.Open.{is_open}
 use Rattle.queue_facts.specs.Turns.{turns}
-use Rattle.buffer_facts.specs.Homes.{homes, release_in, signal_in, stream_in}
+use Rattle.buffer_facts.specs.Homes.{homes}
 use Rattle.buffer_facts.proofs.Readings.{earlies_are, release_is, signal_is}
 use Rattle.client_facts.specs.Clients.{clients}
-use Rattle.client_facts.specs.Replies.{begin_in, call_in}
+use Rattle.client_facts.specs.Replies.{call_in}
 use Rattle.client_facts.proofs.Readings.{begin_is, call_is}
-use Rattle.row_facts.specs.Rows.{Row, find_row, no_rows, row, rows}
+use Rattle.row_facts.specs.Rows.{Row, no_rows, row, rows}
 use Rattle.row_facts.proofs.Readings.{quiet_is}
-use Rattle.state_facts.specs.Dues.{early_in, error_buffer_in, error_device_in, error_request_in, error_result_in, failed_in, filled_in, late_in, partial_in, shutter_in}
-use Rattle.state_facts.specs.States.{State, drop_in, send_in, state}
+use Rattle.state_facts.specs.Dues.{late_in}
+use Rattle.state_facts.specs.States.{state}
 use Rattle.state_facts.proofs.Dues.{early_is, error_buffer_is, error_request_is, error_result_is, failed_is, filled_is, late_is, partial_is}
 use Rattle.state_facts.proofs.Exposures.{error_device_is, shutter_is}
 use Rattle.state_facts.proofs.Sends.{drop_is, send_is}
-use Rattle.allowed_entries.specs.declared.buffers.BufferEntry.TheVariants.{Picture, Early, Error, Failure}
 use Rattle.allowed_entries.specs.declared.entry.AllowedEntry.{AllowedEntry}
 use Rattle.allowed_entries.specs.Entries.{allowed_entries, by_streams, of_ends, of_frame, of_frames, of_lates, of_next, of_releases, of_signals, open_frames}
 use Rattle.allowed_entries.specs.Known.{shown, shown_where}
