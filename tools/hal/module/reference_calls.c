@@ -4,7 +4,6 @@
 #include <errno.h>
 #include <hardware/gralloc.h>
 #include <stdio.h>
-#include <string.h>
 #include <system/camera_metadata.h>
 
 static int initialize(const struct camera3_device *device, const camera3_callback_ops_t *callbacks)

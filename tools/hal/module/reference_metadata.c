@@ -1,7 +1,6 @@
 /* Metadata that goes to and fro with requests: settings, the default ones of templates, and results in parts. */
 #include "reference_camera.h"
 
-#include <string.h>
 #include <system/camera_metadata.h>
 
 #define MOST_ENTRIES 8

@@ -2,7 +2,6 @@
 #include "reference_camera.h"
 
 #include <errno.h>
-#include <stdio.h>
 #include <string.h>
 #include <sys/eventfd.h>
 #include <time.h>

@@ -4,7 +4,6 @@
 #include "buffer_file.h"
 
 #include <errno.h>
-#include <string.h>
 
 /* A request in the device's words, and the buffers that it brings. */
 struct asked {

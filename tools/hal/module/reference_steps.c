@@ -1,8 +1,6 @@
 /* The thread that makes the device's steps: the first that is ready, frame by frame, then the next exposure. */
 #include "reference_camera.h"
 
-#include <system/camera_metadata.h>
-
 /* ---- single steps, each of which says what is to be told */
 
 static bool send_part(struct reference_camera *camera, const struct pauvigre_row *row, struct reference_event *event)
