@@ -65,8 +65,8 @@ struct pauvigre_fault {
     uint8_t stream; /* of PAUVIGRE_FAULT_BUFFER alone; 0 else */
 };
 
-/* Opens a device. -EINVAL: the handle is open, a number of the profile isn't from 1 to 16, a fault has another kind than
- * those above, or there are more than 65,536; -ENOMEM. */
+/* Opens a device. -EINVAL: the handle is open, a number of the profile isn't from 1 to 16, a fault has another kind
+ * than those above, or there are more than 65,536; -ENOMEM. */
 int32_t pauvigre_open(struct pauvigre_device *device, const struct pauvigre_profile *profile,
                       const struct pauvigre_fault *faults, size_t fault_count);
 

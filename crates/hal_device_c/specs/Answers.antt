@@ -1,6 +1,5 @@
 -- What a call of the library answers: 0, or the negative number that Linux has for the error (errno.h).
-use Rattle.std.specs.Prelude.{◌≡◌, ℤ, pos, negsuc, Bool, Option, Some, None, if◌then◌else◌}
-use Rattle.hal_device_model.specs.State.{HalDeviceState}
+use Rattle.std.specs.Prelude.{ℤ, pos, negsuc, Bool, Option, Some, None, if◌then◌else◌}
 use Rattle.hal_device_model.specs.declared.error.CallError.{CallError}
 use Rattle.hal_device_model.specs.declared.error.CallError.TheVariants.{InvalidArgument, NoDevice, WrongSequence, NoMemory, Busy}
 

@@ -1,5 +1,5 @@
 -- What a call does to the device of a handle, and what it answers. None: the handle isn't open.
-use Rattle.std.specs.Prelude.{◌≡◌, ℕ, ◌==◌, ℤ, pos, negsuc, Bool, true, false, ◌||◌, not, List, [], ◌∷◌, Option, Some, None, is_none, is_some, length, nat_lt, slice_get, if◌then◌else◌, ◌⊎◌}
+use Rattle.std.specs.Prelude.{◌≡◌, ℕ, ◌==◌, ℤ, pos, negsuc, Bool, false, ◌||◌, not, List, Option, Some, None, is_none, is_some, length, nat_lt, slice_get, if◌then◌else◌, ◌⊎◌}
 use Rattle.std.specs.List.{list_all}
 use Rattle.std.specs.Option.{option_map}
 use Rattle.cam_types.specs.Profile.{is_profile}

@@ -1,5 +1,5 @@
 //! The answers of calls: 0, or the negative number that Linux has for the error.
-ghost use Rattle.std.specs.Prelude.{◌≡◌, ℤ, pos, negsuc};
+ghost use Rattle.std.specs.Prelude.{◌≡◌};
 ghost use Rattle.std.specs.Result.{result_err};
 ghost use Rattle.hal_device_c.specs.Answers.{answer_of, number_of, step_answer};
 

@@ -1,7 +1,8 @@
 /*
  * Three frames from the proved device in C: opens it, configures a YUV stream of 40x30, takes each shutter, metadata
  * result and picture, and closes. Writes the picture of frame N to frame-N.yuv, and for each a line with the digest
- * that the device told, as sha256sum -c reads it. Status 0: all came.
+ * that the device told, as sha256sum -c reads it. Status 0: all came, and no call behind the configuration took memory
+ * (linked with --wrap=malloc,--wrap=realloc).
  */
 #include "pauvigre_device.h"
 
@@ -18,6 +19,26 @@ struct tally {
     int parts;
     int pictures;
 };
+
+/* How often the library asked for memory. */
+static int asked;
+
+void *__real_malloc(size_t size);
+void *__real_realloc(void *memory, size_t size);
+void *__wrap_malloc(size_t size);
+void *__wrap_realloc(void *memory, size_t size);
+
+void *__wrap_malloc(size_t size)
+{
+    asked++;
+    return __real_malloc(size);
+}
+
+void *__wrap_realloc(void *memory, size_t size)
+{
+    asked++;
+    return __real_realloc(memory, size);
+}
 
 static void want(int is_so, const char *what)
 {
@@ -39,6 +60,8 @@ static void set_up(struct pauvigre_device *device)
     want(pauvigre_initialize(device) == 0, "initialize");
     want(pauvigre_configure(device, &stream, 1, &most) == 0, "configure");
     want(most.of[0] == 4 && most.of[1] == 0, "max_buffers");
+    want(asked > 0, "memory at the opening");
+    asked = 0;
 }
 
 static void ask(struct pauvigre_device *device)
@@ -111,6 +134,7 @@ int main(void)
         }
     }
     want(tally.shutters == FRAMES && tally.parts == 3 * FRAMES && tally.pictures == FRAMES, "what came");
+    want(asked == 0, "no memory behind the configuration");
     want(pauvigre_begin_close(&device) == 0, "begin_close");
     want(pauvigre_close(&device) == 0 && device.at == NULL, "close");
     want(pauvigre_close(&device) == -ENODEV, "close again");

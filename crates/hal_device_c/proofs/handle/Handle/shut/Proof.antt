@@ -1,8 +1,7 @@
 -- `shut` makes a handle at null, which has nothing.
-use Rattle.std.proofs.Common.{◌≡◌, List, [], ◌∷◌, refl, lit<}
+use Rattle.std.proofs.Common.{◌≡◌, [], ◌∷◌, refl, lit<}
 use mir.Val.{Val}
 use base.Logic.{SProp, emp}
-use prog.Wp.{WpFn}
 use types.Kit.{‵, raw, ◌⊛◌, ◌$◌, ◌∵◌, !, qed, by, keep, split, fpack, use0}
 use base.Fml.{ftrue}
 use types.Run.{lit, no_more, and_then, returns, enter}
