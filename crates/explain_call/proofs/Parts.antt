@@ -1,4 +1,4 @@
--- What holds of all entries holds of those before a place, and of the one there.
+-- What holds of all entries holds of the one at a place.
 use Rattle.std.proofs.Common.{◌≡◌, ℕ, Bool, true, zero, suc, List, [], ◌∷◌, Option, Some, refl, take, reverse}
 use Rattle.std.specs.List.{list_all}
 use Rattle.std.specs.Prelude.{slice_get}
@@ -8,13 +8,6 @@ use Rattle.trace_check.specs.Verdict.{IsIllegalAt}
 use Rattle.trace_check.specs.declared.verdict.RuleName.{RuleName}
 use Rattle.trace_model.specs.declared.entry.Entry.{Entry}
 use Rattle.trace_model.specs.Allowed.{IsAllowed}
-
-pub all_taken : {X : Type 0} (p : X → Bool) (n : ℕ) (xs : List X) → list_all p xs ≡ true → list_all p (take n xs) ≡ true
-all_taken p zero xs h = refl
-all_taken p (suc n) [] h = refl
-all_taken p (suc n) (x ∷ xs) h =
-    let parts = and_parts (p x) (list_all p xs) h in
-    and_from (p x) (list_all p (take n xs)) parts.0 (all_taken p n xs parts.1)
 
 pub one_of_all : {X : Type 0} (p : X → Bool) (xs : List X) (n : ℕ) (e : X) → slice_get xs n ≡ Some e → list_all p xs ≡ true → p e ≡ true
 one_of_all p [] n e at h = absurd (cc)

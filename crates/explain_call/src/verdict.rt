@@ -64,7 +64,7 @@ fn illegal_entry(
 }
 
 /// The entries before the position.
-#[tactic(auto, using(crate::proofs::Parts::all_taken))]
+#[tactic(auto, using(explain_text::proofs::Lists::all_taken))]
 fn before_of(entries: &[Entry], position: u32) -> &[Entry]
     requires { IsTrue (list_all is_printable entries.now) }
     ensures value { result.now ≡ take position entries.now }

@@ -11,19 +11,23 @@ abbrev pub mark_text : Bool → List ℕ
 mark_text true = codes " same ..\n"
 mark_text false = codes " new ..\n"
 
+-- a number behind what tells of which it is
+unfoldable pub numbered : List ℕ → ℕ → List ℕ
+numbered label n = label ++ decimal n
+
 -- `send N rR.I M ..`
 unfoldable pub send_text : ℕ → ℕ → ℕ → Bool → List ℕ
 send_text n r i same =
-    codes "send " ++ (decimal n ++ (codes " r" ++ (decimal r ++ (codes "." ++ (decimal i ++ mark_text same)))))
+    numbered (codes "send ") n ++ (numbered (codes " r") r ++ (numbered (codes ".") i ++ mark_text same))
 
 -- `buffer N S bB ok - ..`
 unfoldable pub filled_text : ℕ → ℕ → ℕ → List ℕ
 filled_text n s b =
-    codes "buffer " ++ (decimal n ++ (codes " " ++ (decimal s ++ (codes " b" ++ (decimal b ++ codes " ok - ..\n")))))
+    numbered (codes "buffer ") n ++ (numbered (codes " ") s ++ (numbered (codes " b") b ++ codes " ok - ..\n"))
 
 -- `filled dK ..`
 unfoldable pub late_text : ℕ → List ℕ
-late_text d = codes "filled d" ++ (decimal d ++ codes " ..\n")
+late_text d = numbered (codes "filled d") d ++ codes " ..\n"
 
 -- an entry's line, with `..` for what isn't told
 abbrev pub allowed_text : AllowedEntry → List ℕ

@@ -2,7 +2,8 @@
 ghost use Rattle.std.specs.Prelude.{◌≡◌, ◌++◌, IsTrue, OnOk, take};
 ghost use Rattle.std.specs.List.{flat_map, list_all};
 ghost use Rattle.allowed_entries.specs.Known.{prints};
-ghost use Rattle.explain_text.specs.Allowed.{allowed_line, allowed_lines, allowed_part, allowed_text, filled_text, late_text, mark_text, more_mark, send_text};
+ghost use Rattle.explain_text.specs.Allowed.{allowed_line, allowed_lines, allowed_part, allowed_text, filled_text, late_text, mark_text, more_mark, numbered, send_text};
+ghost use Rattle.explain_lines.specs.Lines.{most_lines};
 
 use allowed_entries::AllowedEntry;
 use cam_types::{BufferId, FenceNo, FrameNo, NoMemory, RequestId, StreamIx};
@@ -17,6 +18,20 @@ fn mark_text(same: bool) -> &'static str
     if same { " same ..\n" } else { " new ..\n" }
 }
 
+/// Writes a number behind what tells of which it is.
+#[tactic(auto, unfolding(crate::specs::Allowed::numbered))]
+fn put_numbered(
+    text: &mut Vec<u8>,
+    alloc: Global,
+    label: &[u8],
+    number: u32,
+) -> Result<(), NoMemory>
+    ensures { OnOk result (text.new.items ≡ text.old.items ++ numbered label.now number) }
+{
+    text.extend_from_slice(label)?;
+    put_number(text, alloc, u64::from(number))
+}
+
 /// Writes a send.
 #[tactic(auto, unfolding(crate::specs::Allowed::send_text))]
 fn put_send(
@@ -29,12 +44,9 @@ fn put_send(
 ) -> Result<(), NoMemory>
     ensures { OnOk result (text.new.items ≡ text.old.items ++ send_text frame.0 request.0 item same) }
 {
-    text.extend_from_slice(b"send ")?;
-    put_number(text, alloc, u64::from(frame.0))?;
-    text.extend_from_slice(b" r")?;
-    put_number(text, alloc, u64::from(request.0))?;
-    text.extend_from_slice(b".")?;
-    put_number(text, alloc, u64::from(item))?;
+    put_numbered(text, alloc, b"send ", frame.0)?;
+    put_numbered(text, alloc, b" r", request.0)?;
+    put_numbered(text, alloc, b".", item)?;
     text.extend_from_slice(mark_text(same).as_bytes())
 }
 
@@ -49,12 +61,9 @@ fn put_filled(
 ) -> Result<(), NoMemory>
     ensures { OnOk result (text.new.items ≡ text.old.items ++ filled_text frame.0 stream.0 buffer.0) }
 {
-    text.extend_from_slice(b"buffer ")?;
-    put_number(text, alloc, u64::from(frame.0))?;
-    text.extend_from_slice(b" ")?;
-    put_number(text, alloc, u64::from(stream.0))?;
-    text.extend_from_slice(b" b")?;
-    put_number(text, alloc, u64::from(buffer.0))?;
+    put_numbered(text, alloc, b"buffer ", frame.0)?;
+    put_numbered(text, alloc, b" ", u32::from(stream.0))?;
+    put_numbered(text, alloc, b" b", buffer.0)?;
     text.extend_from_slice(b" ok - ..\n")
 }
 
@@ -63,8 +72,7 @@ fn put_filled(
 fn put_late(text: &mut Vec<u8>, alloc: Global, fence: FenceNo) -> Result<(), NoMemory>
     ensures { OnOk result (text.new.items ≡ text.old.items ++ late_text fence.0) }
 {
-    text.extend_from_slice(b"filled d")?;
-    put_number(text, alloc, u64::from(fence.0))?;
+    put_numbered(text, alloc, b"filled d", fence.0)?;
     text.extend_from_slice(b" ..\n")
 }
 
@@ -110,28 +118,49 @@ fn put_line(
     put_allowed(text, alloc, printer, allowed)
 }
 
-/// Writes the lines of the first so many of the entries.
+/// Writes the lines of the entries.
 fn put_lines(
     text: &mut Vec<u8>,
     alloc: Global,
     printer: &mut Printer,
-    most: usize,
-    all: &[AllowedEntry],
+    list: &[AllowedEntry],
 ) -> Result<(), NoMemory>
-    requires { IsTrue (list_all prints all.now) }
-    ensures { OnOk result (text.new.items ≡ text.old.items ++ flat_map allowed_line (take most all.now)) }
+    requires { IsTrue (list_all prints list.now) }
+    ensures { OnOk result (text.new.items ≡ text.old.items ++ flat_map allowed_line list.now) }
 {
-    let mut left = most;
-    let mut rest = all;
+    let mut rest = list;
     while let [allowed, after @ ..] = rest {
-        if left == 0 {
-            return Ok(());
-        }
         put_line(text, alloc, printer, allowed)?;
-        left -= 1;
         rest = after;
     }
     Ok(())
+}
+
+/// The entries that are shown: the first eight.
+#[tactic(auto, using(crate::proofs::Lists::all_taken))]
+fn first_of(all: &[AllowedEntry]) -> &[AllowedEntry]
+    requires { IsTrue (list_all prints all.now) }
+    ensures value { result.now ≡ take most_lines all.now }
+    ensures prints { IsTrue (list_all prints result.now) }
+{
+    if MOST_LINES < all.len() {
+        &all[..MOST_LINES]
+    } else {
+        all
+    }
+}
+
+/// Writes the lines of the first eight of the entries.
+fn put_first_lines(
+    text: &mut Vec<u8>,
+    alloc: Global,
+    printer: &mut Printer,
+    all: &[AllowedEntry],
+) -> Result<(), NoMemory>
+    requires { IsTrue (list_all prints all.now) }
+    ensures { OnOk result (text.new.items ≡ text.old.items ++ flat_map allowed_line (take most_lines all.now)) }
+{
+    put_lines(text, alloc, printer, first_of(all))
 }
 
 /// Writes that more are allowed, where more are than are shown.
@@ -157,7 +186,7 @@ fn put_allowed_lines(
     ensures { OnOk result (text.new.items ≡ text.old.items ++ allowed_lines all.now) }
 {
     text.extend_from_slice(b"Allowed here:\n")?;
-    put_lines(text, alloc, printer, MOST_LINES, all)?;
+    put_first_lines(text, alloc, printer, all)?;
     put_more_mark(text, all)
 }
 

@@ -1,4 +1,4 @@
-use Rattle.std.proofs.Common.{◌≡◌, ◌++◌, true, length, take}
+use Rattle.std.proofs.Common.{◌≡◌, ◌++◌, true, length}
 use Rattle.std.specs.List.{flat_map, list_all}
 use Rattle.allowed_entries.specs.Known.{prints}
 use Rattle.explain_text.specs.Allowed.{allowed_line}
@@ -7,7 +7,7 @@ use Rattle.explain_text.proofs.allowed.put_lines.Given as goal
 -- what is written and what is left are the whole
 abbrev pub invariant-loop-rest : goal.invariant-loop-rest
 invariant-loop-rest l = record {
-  whole : l.text.items ++ flat_map allowed_line (take l.left l.rest) ≡ l.initial.text.items ++ flat_map allowed_line (take l.most l.all);
+  whole : l.text.items ++ flat_map allowed_line l.rest ≡ l.initial.text.items ++ flat_map allowed_line l.list;
   prints : list_all prints l.rest ≡ true;
 }
 
