@@ -13,9 +13,9 @@
  *   -EAGAIN  the call has to wait, or the step isn't ready: it may be once another step is made
  *   -ENOMEM  there is no memory (pauvigre_open and pauvigre_configure alone, which alone take memory)
  *
- * One call at a time: the library takes no lock, starts no thread, never waits and calls nothing back. Whoever has
- * several threads holds a lock over each call, and over the callback that it makes of the answer, so that callbacks
- * have the order of the device's events. The handle isn't copied while it is open.
+ * One call at a time, from any thread: the library takes no lock, starts no thread, never waits and calls nothing
+ * back. Whoever has several threads holds a lock over each call, and over the callback that it makes of the answer, so
+ * that callbacks have the order of the device's events. The handle isn't copied while it is open.
  *
  * No pointer may be null, also where a count is 0. The library links with the kit's libc/c/heap.c (malloc, free).
  */

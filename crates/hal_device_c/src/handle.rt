@@ -46,6 +46,9 @@ impl Model for Handle {
     ghost also_owns = { λ h. holds h.at h.device };
 }
 
+// What a handle owns is plain data, so C may hand it to another thread.
+unsafe impl Send for Handle {}
+
 impl Held {
     pub(crate) fn new(device: HalDevice) -> Held
         ensures { result ≡ device }
