@@ -1,6 +1,9 @@
 -- Words of the same texts have the same form.
-use Rattle.std.proofs.Common.{◌≡◌, ℕ, List, [], ◌∷◌, Option, None, refl, sym, ap, ◌∙◌, Bor}
+use Rattle.std.proofs.Common.{◌≡◌, ℕ, false, List, [], ◌∷◌, Option, Some, None, IfSome, inr, is_some, refl, sym, ap, ◌∙◌, Bor}
 use Rattle.std.specs.Prelude.{map}
+use Rattle.call_status.specs.Ends.{ReadsBy}
+use Rattle.call_status.proofs.Sinks.{reads_nothing}
+use Rattle.camera_top.specs.Words.{limit_of}
 use Rattle.camera_words.specs.Forms.{alone, form_of, of_three}
 use Rattle.camera_words.specs.declared.form.Form.{Form}
 
@@ -18,3 +21,15 @@ read (a ∷ (b ∷ (c ∷ (d ∷ rest)))) = refl
 
 pub same_form : (a b : List (Bor (List ℕ))) → map (λ word. word.now) a ≡ map (λ word. word.now) b → form_of a ≡ form_of b
 same_form a b same = read a ∙ (ap of-texts same ∙ sym (read b))
+
+-- where there is no memory, nothing is answered
+pub nothing-read : (o : Option ℕ) (before after : Option (List ℕ)) → IfSome o (λ limit. ReadsBy limit 5 before after)
+nothing-read None before after = tt
+nothing-read (Some limit) before after = reads_nothing limit 5 before after (inr refl)
+
+-- what is said of words is said of all words of the same texts
+pub read-as : (a b : List (Bor (List ℕ))) (status : ℕ) (before after : Option (List ℕ)) → map (λ word. word.now) a ≡ map (λ word. word.now) b → IfSome (limit_of (form_of a)) (λ limit. ReadsBy limit status before after) → IfSome (limit_of (form_of b)) (λ limit. ReadsBy limit status before after)
+read-as a b status before after same h = rw (same_form a b same) at h
+
+pub unread-as : (a b : List (Bor (List ℕ))) → map (λ word. word.now) a ≡ map (λ word. word.now) b → is_some (limit_of (form_of b)) ≡ false → is_some (limit_of (form_of a)) ≡ false
+unread-as a b same h = rw (same_form a b same) h

@@ -1,0 +1,28 @@
+use Rattle.std.proofs.Common.{rules, ◌≡◌, map, string_bytes, sym, ap, ◌∙◌}
+use Rattle.std.proofs.lemmas.List.{take_all}
+use Rattle.tools_top.specs.Words.{limit_of}
+use Rattle.tools_words.specs.Tools.{tool_of}
+use Rattle.camera_tools.specs.Ends.{number_of}
+use Rattle.camera_tools.proofs.Words.{nothing-read, read-as, unread-as}
+use Rattle.camera_tools.proofs.answer.Goals as goal
+
+-- src/main.rt:88:9
+pub returns-in_err-push-clause-read : goal.returns-in_err-push-clause-read
+returns-in_err-push-clause-read g c words same =
+    let five : number_of c.from_residual.result ≡ 5 = search rules in
+    rw five (nothing-read (limit_of (tool_of words)) (g.S.Source.left c.args.source.now) (g.S.Source.left c.args.source.now))
+
+-- src/main.rt:61:1
+pub returns-clause-read : goal.returns-clause-read
+returns-clause-read g c words same =
+    let whole = ap (λ texts. map string_bytes texts) (take_all c.loop-text.text-index c.args.texts.now c.loop-text-test.false) in
+    let all : map (λ word. word.now) c.as_slice.result.now ≡ map string_bytes c.args.texts.now = ap (λ items. map (λ word. word.now) items) c.as_slice.ensures.value ∙ (c.loop-text.invariant.same ∙ whole) in
+    read-as c.as_slice.result.now words c.tools_main.result.number (g.S.Source.left c.args.source.now) (g.S.Source.left c.tools_main.new.source) (all ∙ sym same) c.tools_main.ensures.read
+
+-- src/main.rt:61:1
+pub returns-clause-unread : goal.returns-clause-unread
+returns-clause-unread g c words same none =
+    let whole = ap (λ texts. map string_bytes texts) (take_all c.loop-text.text-index c.args.texts.now c.loop-text-test.false) in
+    let all : map (λ word. word.now) c.as_slice.result.now ≡ map string_bytes c.args.texts.now = ap (λ items. map (λ word. word.now) items) c.as_slice.ensures.value ∙ (c.loop-text.invariant.same ∙ whole) in
+    let told = c.tools_main.ensures.unread (unread-as c.as_slice.result.now words (all ∙ sym same) none) in
+    (told.0, told.1, told.2, told.3)
