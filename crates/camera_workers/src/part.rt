@@ -37,6 +37,21 @@ pub(crate) const RESULTS: &[Kind] = &[
 
 pub(crate) const CONSUMER: &[Kind] = &[Kind::Release, Kind::Signal];
 
+/// Those of all these parts.
+pub(crate) const ALL: &[Kind] = &[
+    Kind::Fail,
+    Kind::ReturnFailed,
+    Kind::Partial,
+    Kind::Deliver,
+    Kind::Early,
+    Kind::Finish,
+    Kind::Release,
+    Kind::Signal,
+    Kind::Send,
+    Kind::DropQueued,
+    Kind::Client,
+];
+
 impl Part {
     /// The part of the loop with this number, from 1 on: first those with one loop each, then the stages.
     pub(crate) fn of_loop(number: u32) -> Part {

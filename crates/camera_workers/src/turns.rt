@@ -7,7 +7,7 @@ ghost use Rattle.shared_camera.specs.Cameras.{script_of};
 ghost use Rattle.shared_camera.specs.Moves.{are_alone};
 
 use crate::gate::Gate;
-use crate::part::{CLIENT, CONSUMER, Part, REQUESTS, RESULTS};
+use crate::part::{ALL, CLIENT, CONSUMER, Part, REQUESTS, RESULTS};
 use digest_memory::DigestMemory;
 use fill_jobs::{FillJob, FilledJob};
 use run_model::Kind;
@@ -48,11 +48,7 @@ fn help<R: Threads + Wait + Sync>(rt: &R, shared: &Shared, seat: &mut CamSeat) -
     ensures done { IsDone script_of shared.now.turnstile (view seat.old) seat.new }
     ensures begins { IsPrefix (view seat.old).seen (view seat.new).seen }
 {
-    step(rt, shared, seat, RESULTS)
-        || step(rt, shared, seat, CONSUMER)
-        || step(rt, shared, seat, REQUESTS)
-        || expose(rt, shared, seat)
-        || step(rt, shared, seat, CLIENT)
+    step(rt, shared, seat, ALL) || expose(rt, shared, seat)
 }
 
 /// Makes a step of no job.

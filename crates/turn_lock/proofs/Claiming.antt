@@ -46,7 +46,8 @@ module _ {S F E J : Type 0} (fixed : S → F) (entries : S → List E) (jobs : S
       let one : turns vs ≡ 1 = (let h = turns_set s.views id v w at in let e : turn_of v ≡ 0 = ap (λ b. cond b 1 0) free in omega arith) in
       let same : jobs_of vs ≡ jobs_of s.views = jobs_set s.views id v w at refl in record {
         history = entries value;
-        words = ap (λ (ws : List ℕ). set ws 0 1) r.words ∙ (ap (λ (n : ℕ). n ∷ length r.history ∷ []) (sym one) ∙ ap (λ (es : List E). turns vs ∷ length es ∷ []) (sym all));
+        waiting = r.waiting;
+        words = ap (λ (ws : List ℕ). set ws 0 1) r.words ∙ (ap (λ (n : ℕ). n ∷ length r.history ∷ r.waiting ∷ []) (sym one) ∙ ap (λ (es : List E). turns vs ∷ length es ∷ r.waiting ∷ []) (sym all));
         one = omega arith;
         seen = each_set (λ j u. IsPrefix u.seen (entries value) × IsPrefix u.told u.seen) s.views id w
             (begins_itself (entries value), begins_through v.told v.seen (entries value) (r.seen id v at).1 (subst (λ (es : List E). IsPrefix v.seen es) (sym all) (r.seen id v at).0))

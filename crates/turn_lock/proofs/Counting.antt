@@ -39,7 +39,8 @@ module _ {S F E J : Type 0} (fixed : S → F) (entries : S → List E) (jobs : S
       let knows = r.holder id v at held in
       let begins : IsPrefix r.history (entries value) = subst (λ (es : List E). IsPrefix es (entries value)) knows.0 may.begins in record {
         history = entries value;
-        words = ap (λ (ws : List ℕ). set ws 1 count) r.words ∙ (ap (λ (n : ℕ). n ∷ count ∷ []) (sym turned) ∙ ap (λ (n : ℕ). turns vs ∷ n ∷ []) (sym counted));
+        waiting = r.waiting;
+        words = ap (λ (ws : List ℕ). set ws 1 count) r.words ∙ (ap (λ (n : ℕ). n ∷ count ∷ r.waiting ∷ []) (sym turned) ∙ ap (λ (n : ℕ). turns vs ∷ n ∷ r.waiting ∷ []) (sym counted));
         one = omega (arith, r.one);
         seen = each_set (λ j u. IsPrefix u.seen (entries value) × IsPrefix u.told u.seen) s.views id w
             (begins_itself (entries value), begins_through v.told v.seen (entries value) (r.seen id v at).1 may.begins)

@@ -62,7 +62,8 @@ module _ {S F E J : Type 0} (fixed : S → F) (entries : S → List E) (jobs : S
       let Holds : ℕ → View F E J → Type 0 = λ j u. u.holds ≡ true → (u.seen ≡ r.history) × (u.rest ≡ jobs_beside j vs') in
       let there : get_elem? vs' id ≡ some both = set_else vs other id spent (λ e. ne (sym e)) ∙ set_here s.views id both (at_within s.views id v at) in record {
         history = r.history;
-        words = r.words ∙ ap (λ (n : ℕ). n ∷ length r.history ∷ []) (sym turned);
+        waiting = r.waiting;
+        words = r.words ∙ ap (λ (n : ℕ). n ∷ length r.history ∷ r.waiting ∷ []) (sym turned);
         one = omega (arith, r.one);
         seen = each (λ j u. IsPrefix u.seen r.history × IsPrefix u.told u.seen)
             (longer_begins v.seen w.seen r.history own others, shorter_begins v.seen w.seen r.history own others) ((r.history, refl), ([], refl)) r.seen;
@@ -99,7 +100,8 @@ module _ {S F E J : Type 0} (fixed : S → F) (entries : S → List E) (jobs : S
       let whole : v.seen ≡ r.history → seen ≡ r.history = λ e. begins_whole seen r.history begins (omega (arith, begins_length v.seen seen more, ap length e)) in
       let Holds : ℕ → View F E J → Type 0 = λ j u. u.holds ≡ true → (u.seen ≡ r.history) × (u.rest ≡ jobs_beside j vs) in record {
         history = r.history;
-        words = r.words ∙ ap (λ (n : ℕ). n ∷ length r.history ∷ []) (sym turned);
+        waiting = r.waiting;
+        words = r.words ∙ ap (λ (n : ℕ). n ∷ length r.history ∷ r.waiting ∷ []) (sym turned);
         one = omega (arith, r.one);
         seen = each_set (λ j u. IsPrefix u.seen r.history × IsPrefix u.told u.seen) s.views id w (begins, first) (λ j u ne e. r.seen j u e);
         longest = (let l = r.longest in dite (ℕ_discrete l.0 id)

@@ -3,6 +3,7 @@ pub mod Numbers
 pub mod Beginnings
 pub mod JobLists
 pub mod Keeping
+pub mod Queueing
 pub mod Claiming
 pub mod Counting
 pub mod Releasing

@@ -27,10 +27,11 @@ module _ {F E J : Type 0} where
   root_first v (suc k) live empty = rw (empty, eqb-suc-zero k) refl
 
 module _ {S F E J : Type 0} (fixed : S → F) (entries : S → List E) (jobs : S → List J) where
-  pub begins : (value : S) (count : ℕ) → jobs value ≡ [] → length (entries value) ≡ count → IsKept fixed entries jobs (fixed value) (opening (0 ∷ count ∷ []) (Some value ∷ []) (root_view {J = J} (fixed value) (entries value)))
+  pub begins : (value : S) (count : ℕ) → jobs value ≡ [] → length (entries value) ≡ count → IsKept fixed entries jobs (fixed value) (opening (0 ∷ count ∷ 0 ∷ []) (Some value ∷ []) (root_view {J = J} (fixed value) (entries value)))
   begins value count idle counted = let v : View F E J = root_view (fixed value) (entries value) in record {
     history = entries value;
-    words = ap (λ (n : ℕ). 0 ∷ n ∷ []) (sym counted);
+    waiting = 0;
+    words = ap (λ (n : ℕ). 0 ∷ n ∷ 0 ∷ []) (sym counted);
     one = omega arith;
     seen = only (λ j u. IsPrefix u.seen (entries value) × IsPrefix u.told u.seen) v (begins_itself (entries value), (entries value, refl));
     longest = (0, v, refl, refl, refl);

@@ -55,7 +55,8 @@ module _ {S F E J : Type 0} (fixed : S → F) (entries : S → List E) (jobs : S
       let out : IsPermutation (jobs value) (jobs_of vs) = IsPermutation-trans (jobs value) (own ++ jobs_beside id vs) (jobs_of vs) parts'
       (IsPermutation-sym (jobs_of vs) (own ++ jobs_beside id vs) (jobs_parts vs id w (set_here s.views id w (at_within s.views id v at)))) in record {
         history = entries value;
-        words = ap (λ (ws : List ℕ). set ws 0 0) r.words ∙ (ap (λ (n : ℕ). n ∷ length r.history ∷ []) (sym free) ∙ ap (λ (es : List E). turns vs ∷ length es ∷ []) all);
+        waiting = r.waiting;
+        words = ap (λ (ws : List ℕ). set ws 0 0) r.words ∙ (ap (λ (n : ℕ). n ∷ length r.history ∷ r.waiting ∷ []) (sym free) ∙ ap (λ (es : List E). turns vs ∷ length es ∷ r.waiting ∷ []) all);
         one = omega arith;
         seen = each_set (λ j u. IsPrefix u.seen (entries value) × IsPrefix u.told u.seen) s.views id w
             (begins_itself (entries value), begins_through v.told v.seen (entries value) (r.seen id v at).1 may.begins)

@@ -55,7 +55,8 @@ module _ {S F E J : Type 0} (fixed : S → F) (entries : S → List E) (jobs : S
       let made : v.made ≡ length vs = (let root = one_value s.views 0 r.root.0 v r.root.1 (subst (λ (k : ℕ). get_elem? s.views k ≡ some v) here at) in
       sym (ap (λ (u : View F E J). u.made) root) ∙ (r.root.2 ∙ sym long)) in record {
         history = r.history;
-        words = r.words ∙ ap (λ (n : ℕ). n ∷ length r.history ∷ []) (sym turned);
+        waiting = r.waiting;
+        words = r.words ∙ ap (λ (n : ℕ). n ∷ length r.history ∷ r.waiting ∷ []) (sym turned);
         one = omega (arith, r.one);
         seen = each_snoc (λ j u. IsPrefix u.seen r.history × IsPrefix u.told u.seen) vs right ((r.seen id v at).0, (v.seen, refl))
             (each_set (λ j u. IsPrefix u.seen r.history × IsPrefix u.told u.seen) s.views id left (r.seen id v at) (λ j u ne e. r.seen j u e));

@@ -1,5 +1,5 @@
 -- The rule that a turnstile keeps between any two steps of any threads.
--- The table has two words and one slot. Seats are numbered as they were made, and so are their views. A view is live
+-- The table has three words and one slot. Seats are numbered as they were made, and so are their views. A view is live
 -- until a join spends it.
 use Rattle.std.specs.Prelude.{◌≡◌, ◌≢◌, ℕ, ◌≤◌, ◌==◌, ◌||◌, ◌⊎◌, true, List, [], ◌∷◌, length, Option, Some, IsPermutation, AllPairs}
 use mathlib.Core.Option.{none, some}
@@ -19,8 +19,9 @@ module _ {S F E J : Type 0} (fixed : S → F) (entries : S → List E) (jobs : S
     -- the longest list of entries that a live view has seen
     pub history : List E
     -- 1. The first word is 1 where just one view holds the turn, 0 where none does, and nothing else. The second is the
-    -- number of entries of the history. There is no other word
-    pub words : s.words ≡ turns s.views ∷ length history ∷ []
+    -- number of entries of the history. The third is anything: nothing stands on it. There is no other word
+    pub waiting : ℕ
+    pub words : s.words ≡ turns s.views ∷ length history ∷ waiting ∷ []
     pub one : turns s.views ≤ 1
     -- 2. What the views have seen are beginnings of the history. Who holds the turn has seen all of it, and knows the
     -- jobs of the others. What the root was told at its last join begins what it has seen

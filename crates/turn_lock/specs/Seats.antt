@@ -3,6 +3,7 @@ use Rattle.std.specs.Prelude.{◌≡◌, ℕ, Bool, List, [], ◌∷◌, Option,
 use Rattle.turn_lock.specs.declared.seat.Seat.{Seat}
 use Rattle.turn_lock.specs.declared.turnstile.Turnstile.{Turnstile}
 use Rattle.turn_lock.specs.declared.view.View.{View}
+use Rattle.turn_lock.specs.Turns.{Enters}
 
 -- the slots that a seat holds: while it has the turn, the turnstile's, which is then empty
 abbrev pub in_hand : {S : Type 0} → Bool → List (ℕ × Option S)
@@ -32,3 +33,9 @@ module _ {S F E J : Type 0} where
       pub table : seat.place.table_id ≡ turnstile.table.shared.table_id
       pub same : (view seat).fixed ≡ Some (fixed_of turnstile)
       pub slots : seat.place.me.1 ≡ in_hand (view seat).holds
+
+  module _ (fixed : S → F) (entries : S → List E) (jobs : S → List J) where
+    -- the seat, whose view was v, has taken the turn and holds the slot with the value
+    abbrev pub HasTurn : Turnstile S F E J → View F E J → Seat S F E J → Type 0
+    HasTurn turnstile v seat =
+        (value : S) × Carries seat value × Enters fixed entries jobs (fixed_of fixed turnstile) v value (view seat)

@@ -21,6 +21,10 @@ module _ {S F E J : Type 0} where
   abbrev pub Compares : Step (Option S) → Me (Option S) (View F E J) → ℕ → Me (Option S) (View F E J) → Type 0
   Compares step m found n = (n ≡ (record m.0 { told = [] }, m.1)) × IsPrefix m.0.told m.0.seen
 
+  -- a step on the third word tells nothing
+  abbrev pub Stays : Step (Option S) → Me (Option S) (View F E J) → ℕ → Me (Option S) (View F E J) → Type 0
+  Stays step m found n = n ≡ m
+
   module _ (fixed : S → F) (entries : S → List E) (jobs : S → List J) where
     -- the claim: where the word was 0 the seat has the turn, and the slot with the value
     abbrev pub Claims : Step (Option S) → Me (Option S) (View F E J) → ℕ → Me (Option S) (View F E J) → Type 0

@@ -1,6 +1,6 @@
 //! The steps of threads at a turnstile, as the table sees them.
 // The rule of the table, and what each step on it tells.
-ghost use Rattle.turn_lock.specs.Steps.{Claims, Tells, Releases, Counts, Compares, joining};
+ghost use Rattle.turn_lock.specs.Steps.{Claims, Tells, Releases, Stays, Counts, Compares, joining};
 ghost use Rattle.turn_lock.specs.Turns.{splitting, split_off};
 ghost use Rattle.turn_lock.specs.Views.{spent};
 
@@ -40,6 +40,13 @@ pub(crate) struct Release;
 
 impl<S: Kept> Play<Option<S>, View<S::Fixed, S::Entry, S::Job>> for Release {
     ghost then = { Releases S.entries S.jobs };
+}
+
+// A thread begins or ends to wait: the third word goes up or down.
+pub(crate) struct Queue;
+
+impl<S, F, E, J> Play<Option<S>, View<F, E, J>> for Queue {
+    ghost then = { Stays };
 }
 
 // A new seat.

@@ -28,7 +28,7 @@ impl<S: Kept> Turnstile<S> {
             return Err(value);
         };
         slots.push_reserved(Some(value));
-        match Table::new(alloc, &[0, count], slots, &about) {
+        match Table::new(alloc, &[0, count, 0], slots, &about) {
             Ok((table, place)) => Ok((Turnstile { table }, Seat { place })),
             Err(Refused { mut slots }) => {
                 let slot = slots.pop();

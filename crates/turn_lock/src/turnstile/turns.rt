@@ -1,14 +1,18 @@
 //! Taking turns.
 ghost use Rattle.std.specs.Prelude.{◌≡◌, true, false, MatchBool, length};
-ghost use Rattle.turn_lock.specs.Seats.{view, fixed_of, Carries, IsOf, IsSeatOf};
+ghost use Rattle.turn_lock.specs.Seats.{view, fixed_of, Carries, HasTurn, IsOf, IsSeatOf};
 ghost use Rattle.turn_lock.specs.Turns.{Enters, MayLeave, Leaves};
 
 use super::Turnstile;
 use crate::kept::Kept;
-use crate::plays::{Claim, Release, Tell};
+use crate::plays::{Claim, Queue, Release, Tell};
 use crate::seat::{Held, Seat};
+use std::hint::spin_loop;
 use std::marker::PhantomData;
 use std::sync::Wait;
+
+/// So many looks for a free turn before a thread sleeps: a turn is short.
+const LOOKS: u32 = 100;
 
 impl<S: Kept> Turnstile<S> {
     /// Waits for the turn, and takes it with the value.
@@ -19,16 +23,13 @@ impl<S: Kept> Turnstile<S> {
         ensures turn { Enters S.fixed S.entries S.jobs (fixed_of S.fixed self.now) (view seat.old) result.value
             (view seat.new) }
     {
-        for _ in rt.forever() {
-            if self.claim(seat) {
-                return Held {
-                    value: self.take_out(seat),
-                    turn: PhantomData,
-                };
-            }
-            self.table.shared.park(rt, 0, 1);
+        if !self.claim_soon(seat) {
+            self.claim_queued(rt, seat);
         }
-        unreachable!()
+        Held {
+            value: self.take_out(seat),
+            turn: PhantomData,
+        }
     }
 
     /// Puts the value back, which has so many entries, and gives up the turn.
@@ -44,7 +45,55 @@ impl<S: Kept> Turnstile<S> {
         self.put_back(seat, value);
         self.tell(seat, count);
         self.release(seat);
-        self.table.shared.wake_one(0);
+        if self.table.shared.peek(2) > 0 {
+            self.table.shared.wake_one(0);
+        }
+    }
+
+    // Takes the turn if it is free at one of some looks.
+    fn claim_soon(&self, seat: &mut Seat<S>) -> bool
+        requires seat { IsSeatOf S.fixed self.now seat.old }
+        requires free { (view seat.old).holds ≡ false }
+        ensures seat { IsOf S.fixed self.now seat.new }
+        ensures turn { MatchBool result (HasTurn S.fixed S.entries S.jobs self.now (view seat.old) seat.new)
+            (seat.new.place.me ≡ seat.old.place.me) }
+    {
+        for _ in 0..LOOKS {
+            if self.table.shared.peek(0) == 0 && self.claim(seat) {
+                return true;
+            }
+            spin_loop();
+        }
+        false
+    }
+
+    // Waits until the turn is free and takes it. Meanwhile who leaves sees that a thread waits, and wakes it.
+    fn claim_queued<R: Wait>(&self, rt: &R, seat: &mut Seat<S>)
+        requires seat { IsSeatOf S.fixed self.now seat.old }
+        requires free { (view seat.old).holds ≡ false }
+        ensures seat { IsOf S.fixed self.now seat.new }
+        ensures turn { HasTurn S.fixed S.entries S.jobs self.now (view seat.old) seat.new }
+    {
+        let shared = &self.table.shared;
+        shared.fetch_add::<Queue>(&mut seat.place, 2, 1);
+        self.claim_woken(rt, &mut *seat);
+        shared.fetch_sub::<Queue>(&mut seat.place, 2, 1);
+    }
+
+    // Tries for the turn, and sleeps until it may be free.
+    fn claim_woken<R: Wait>(&self, rt: &R, seat: &mut Seat<S>)
+        requires seat { IsSeatOf S.fixed self.now seat.old }
+        requires free { (view seat.old).holds ≡ false }
+        ensures seat { IsOf S.fixed self.now seat.new }
+        ensures turn { HasTurn S.fixed S.entries S.jobs self.now (view seat.old) seat.new }
+    {
+        for _ in rt.forever() {
+            if self.claim(seat) {
+                return;
+            }
+            self.table.shared.park(rt, 0, 1);
+        }
+        unreachable!()
     }
 
     // Takes the turn if no seat has it, and the slot with the value.
@@ -52,9 +101,7 @@ impl<S: Kept> Turnstile<S> {
         requires seat { IsSeatOf S.fixed self.now seat.old }
         requires free { (view seat.old).holds ≡ false }
         ensures seat { IsOf S.fixed self.now seat.new }
-        ensures turn { MatchBool result
-            ((value : S) × Carries seat.new value
-            × Enters S.fixed S.entries S.jobs (fixed_of S.fixed self.now) (view seat.old) value (view seat.new))
+        ensures turn { MatchBool result (HasTurn S.fixed S.entries S.jobs self.now (view seat.old) seat.new)
             (seat.new.place.me ≡ seat.old.place.me) }
     {
         self.table

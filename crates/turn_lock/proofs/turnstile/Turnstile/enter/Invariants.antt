@@ -1,7 +1,0 @@
-use Rattle.std.proofs.Common.{◌≡◌}
-use Rattle.turn_lock.specs.Seats.{view, IsSeatOf}
-use Rattle.turn_lock.proofs.turnstile.Turnstile.enter.Given as goal
-
--- each try that fails leaves the seat as it was
-abbrev pub invariant-loop : goal.invariant-loop
-invariant-loop g l = record { seat : IsSeatOf g.S.Kept.fixed l.self l.seat; same : view l.seat ≡ view l.fn.seat }
