@@ -1,5 +1,4 @@
-use Rattle.std.specs.Prelude.{ℕ, ◌+◌, ◌==◌, Bool, false, List, [], ◌∷◌, length, take, drop, count_by, codes, bytes_eq, if◌then◌else◌}
-use Rattle.std.specs.List.{list_any}
+use Rattle.std.specs.Prelude.{ℕ, ◌+◌, ◌==◌, Bool, false, List, [], ◌∷◌, Option, Some, None, length, take, drop, count_by, codes, bytes_eq, if◌then◌else◌, option_map, unwrap_or}
 use Rattle.std.specs.Str.Lines.{strip_carriage_return}
 use Rattle.text_parts.specs.Cuts.{parts_at}
 use Rattle.text_parts.specs.Words.{loose_words}
@@ -13,17 +12,22 @@ begins_trace (word ∷ words) = bytes_eq word (codes "trace")
 
 -- the line's first word is `trace`, by the words of a script's text
 abbrev pub is_trace_line : List ℕ → Bool
-is_trace_line line = begins_trace (loose_words (strip_carriage_return line))
+is_trace_line line = begins_trace (loose_words line)
 
--- the bytes of the lines before the first such line, each with its end
-abbrev pub bytes_before : List (List ℕ) → ℕ
-bytes_before [] = 0
-bytes_before (line ∷ lines) = if is_trace_line line then 0 else length line + 1 + bytes_before lines
+-- a line that an LF ends is without the CR before it; the last part has no LF, so that a CR is one of its bytes
+abbrev pub line_before : List ℕ → List (List ℕ) → List ℕ
+line_before part [] = part
+line_before part (next ∷ parts) = strip_carriage_return part
+
+-- how many bytes stand before the first such line
+abbrev pub bytes_before : List (List ℕ) → Option ℕ
+bytes_before [] = None
+bytes_before (part ∷ parts) =
+    if is_trace_line (line_before part parts) then Some 0 else option_map (λ n. length part + 1 + n) (bytes_before parts)
 
 -- where the trace begins; at the end where there is no such line
 unfoldable pub trace_start : List ℕ → ℕ
-trace_start input =
-    if list_any is_trace_line (parts_at 10 input) then bytes_before (parts_at 10 input) else length input
+trace_start input = unwrap_or (bytes_before (parts_at 10 input)) (length input)
 
 abbrev pub script_part : List ℕ → List ℕ
 script_part input = take (trace_start input) input

@@ -19,7 +19,7 @@ pub struct Parts<'i> {
 fn is_trace_line(line: &[u8]) -> bool
     ensures { result ≡ is_trace_line line.now }
 {
-    match next_loose_word(without_return(line)) {
+    match next_loose_word(line) {
         Some((word, _)) => word == b"trace".as_slice(),
         None => false,
     }
@@ -34,7 +34,7 @@ fn trace_start(input: &[u8]) -> usize
     let mut start = 0;
     let mut rest = input;
     while let Some((line, after)) = split_at_byte(rest, b'\n') {
-        if is_trace_line(line) {
+        if is_trace_line(without_return(line)) {
             return start;
         }
         start += line.len() + 1;
