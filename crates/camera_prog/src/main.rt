@@ -2,43 +2,24 @@
 #![tactic(auto)]
 
 ghost use Rattle.std.specs.Prelude.{◌≡◌, ◌≢◌, ◌≤◌, ℕ, List, false, is_some, map, string_bytes, IfOk, IfSome};
-ghost use Rattle.std.specs.Process.{exit_status};
 ghost use Rattle.std.specs.Borrow.{Bor};
 ghost use Rattle.call_status.specs.Ends.{CountsSink, CountsSource, ReadsBy};
+ghost use Rattle.call_status.specs.Program.{number_of};
 ghost use Rattle.camera_top.specs.Commands.{TellsOf};
 ghost use Rattle.camera_top.specs.Words.{limit_of};
 ghost use Rattle.camera_words.specs.Forms.{form_of};
-ghost use Rattle.camera_prog.specs.Ends.{number_of};
 
+use call_status::{code_of, words_of};
 use camera_top::{OpenGate, Status, camera_main};
 use io_edge::{NoMemory, Sink, Source, StdSink, StdSource};
-use std::alloc::{AllocError, Global};
-use std::env::Args;
+use std::alloc::Global;
 use std::process::ExitCode;
 use std::sync::Wait;
 use std::thread::Threads;
 use std::time::Clock;
-use std::{env, io};
 
 fn main(rt: HostRuntime) -> ExitCode {
     code_of(run(&rt, &rt))
-}
-
-/// What the program ends with.
-fn code_of(ended: Result<Status, NoMemory>) -> ExitCode
-    ensures { exit_status result ≡ number_of ended }
-{
-    ExitCode::from(number_of(ended))
-}
-
-/// The number that the program ends with.
-fn number_of(ended: Result<Status, NoMemory>) -> u8
-    ensures { result ≡ number_of ended }
-{
-    match ended {
-        Ok(status) => status.number,
-        Err(_) => Status::NO_MEMORY.number,
-    }
 }
 
 /// Runs the top call on the program's words, standard input and standard output, with threads where it starts some.
@@ -88,27 +69,4 @@ fn answer<R: Threads + Wait + Clock + Sync, S: Source, K: Sink>(
         words.push(text.as_str())?;
     }
     Ok(camera_main(alloc, rt, words.as_slice(), source, sink, &OpenGate))
-}
-
-/// The words behind the program's name. Words that are no text are no form of the command line, as no words are.
-fn words_of(rt: &HostRuntime) -> Result<Vec<String>, NoMemory> {
-    match env::args(rt) {
-        Ok(args) => behind_the_name(rt.alloc(), args),
-        Err(error) => {
-            if error.kind() == io::ErrorKind::OutOfMemory {
-                return Err(AllocError);
-            }
-            Ok(Vec::new(rt.alloc()))
-        }
-    }
-}
-
-/// All of the process's words but the first, in their order.
-fn behind_the_name(alloc: Global, mut args: Args) -> Result<Vec<String>, NoMemory> {
-    let mut words = Vec::new(alloc);
-    let _name = args.next();
-    for text in args {
-        words.push(text)?;
-    }
-    Ok(words)
 }

@@ -5,33 +5,25 @@
 ghost use Rattle.std.specs.Prelude.{◌≡◌, ◌≢◌, ◌≤◌, ℕ, List, false, is_some, map, string_bytes, IfOk, IfSome};
 ghost use Rattle.std.specs.Borrow.{Bor};
 ghost use Rattle.call_status.specs.Ends.{CountsSink, CountsSource, ReadsBy};
-ghost use Rattle.camera_tools.specs.Ends.{number_of};
+ghost use Rattle.call_status.specs.Program.{number_of};
 ghost use Rattle.tools_top.specs.Commands.{TellsOfTool};
 ghost use Rattle.tools_top.specs.Words.{limit_of};
 ghost use Rattle.tools_words.specs.Tools.{tool_of};
 
+use call_status::{code_of, words_of};
 use io_edge::{NoMemory, Sink, Source, StdSink, StdSource};
-use std::alloc::{AllocError, Global};
+use std::alloc::Global;
 use std::process::ExitCode;
-use std::{env, io};
 use tools_top::{Status, tools_main};
 
 fn main(rt: HostRuntime) -> ExitCode {
-    ExitCode::from(number_of(run(&rt)))
-}
-
-/// The number that the program ends with.
-fn number_of(ended: Result<Status, NoMemory>) -> u8
-    ensures { result ≡ number_of ended }
-{
-    match ended {
-        Ok(status) => status.number,
-        Err(_) => Status::NO_MEMORY.number,
-    }
+    code_of(run(&rt))
 }
 
 /// Runs the top call on the program's words, standard input and standard output.
-fn run(rt: &HostRuntime) -> Result<Status, NoMemory> {
+fn run(rt: &HostRuntime) -> Result<Status, NoMemory>
+    ensures { number_of result ≤ 5 }
+{
     let mut source = StdSource::new(rt)?;
     let mut sink = StdSink::new(rt)?;
     let texts = words_of(rt)?;
@@ -68,23 +60,4 @@ fn answer<S: Source, K: Sink>(
         words.push(text.as_str())?;
     }
     Ok(tools_main(alloc, words.as_slice(), source, sink))
-}
-
-/// The words behind the program's name. Words that are no text ask for no tool, as no words do.
-fn words_of(rt: &HostRuntime) -> Result<Vec<String>, NoMemory> {
-    let mut words = Vec::new(rt.alloc());
-    match env::args(rt) {
-        Ok(args) => {
-            for text in args.skip(1) {
-                words.push(text)?;
-            }
-            Ok(words)
-        }
-        Err(error) => {
-            if error.kind() == io::ErrorKind::OutOfMemory {
-                return Err(AllocError);
-            }
-            Ok(words)
-        }
-    }
 }
