@@ -3,6 +3,7 @@ use Rattle.std.proofs.Common.{◌≡◌, ℕ, ◌==◌, ◌+◌, ◌≤◌, Bool
 use Rattle.std.specs.List.{list_all, list_any}
 use Rattle.std.proofs.lemmas.Bool.{cases_Bool, false≢true, and_parts}
 use Rattle.std.proofs.lemmas.Bool.Decides.{nat_tests}
+use Rattle.cam_types.specs.Four.{four_list}
 use Rattle.cam_types.specs.declared.number.BufferId.{BufferId}
 use Rattle.cam_types.specs.declared.number.FenceNo.{FenceNo}
 use Rattle.cam_types.specs.declared.number.FrameNo.{FrameNo}
@@ -14,14 +15,19 @@ use Rattle.trace_model.specs.declared.entry.Sent.{Sent}
 use Rattle.trace_model.specs.Allowed.{IsAllowed}
 use Rattle.trace_model.specs.Complete.{IsComplete, device_fences}
 use Rattle.trace_model.specs.Entry.{brings, is_early, is_early_with, is_late_with}
-use Rattle.trace_model.specs.Fence.{is_late}
+use Rattle.trace_model.specs.Configuration.{buffers_of}
+use Rattle.trace_model.specs.Fence.{fence_of, is_late, is_same_fence}
 use Rattle.trace_model.specs.Filled.{early_due}
 use Rattle.trace_model.specs.Frames.{frames, has_target, is_sent, targets_of}
 use Rattle.trace_model.specs.Laws.{FencesOnce, early_buffers, late_after_early, releases_what_is_there}
 use Rattle.trace_model.specs.Legal.{IsLegal}
 use Rattle.trace_model.specs.Numbers.{next_early}
+use Rattle.trace_model.specs.Place.{Pool, is_at, place}
+use Rattle.trace_model.specs.Send.{takes_from_pool}
 use Rattle.trace_model.specs.Open.{all_settled, early_fences, is_metadata_ended, is_open, is_returned, is_settled}
+use Rattle.trace_model.proofs.LawLemmas.{sends-from-pool}
 use Rattle.trace_bounds.proofs.Shapes.{early-is, late-is, release-there}
+use Rattle.buffer_laws.specs.Laws.{sends_what_is_home}
 use Rattle.buffer_laws.proofs.Fences.{by_number, by_other, fences_released_once, fences_signalled_later, is_one, one_equals, signalled-once}
 use Rattle.buffer_laws.proofs.Home.{each-home}
 use Rattle.buffer_laws.proofs.Once.{out-not-returned}
@@ -307,6 +313,20 @@ released_when_there script [] legal = refl
 released_when_there script (Release b f ∷ past) legal =
     rw (release-there past b f legal.0, released_when_there script past legal.1) refl
 released_when_there script (e ∷ past) legal = released_when_there script past legal.1
+
+from-pool : (past : List Entry) (t : Sent) → takes_from_pool past t ≡ true → is_at (place t.buffer.0 past) Pool ≡ true
+from-pool past t h =
+    let own = list_any (λ b. b == t.buffer.0) (buffers_of past t.stream.0) in
+    let home = is_at (place t.buffer.0 past) Pool in
+    let fence = is_same_fence t.fence (fence_of t.buffer.0 past) in
+    (and_parts home fence (and_parts own (home && fence) h).1).0
+
+pub sent_from_home : (script : Script) (past : List Entry) → IsLegal script past → sends_what_is_home past ≡ true
+sent_from_home script [] legal = refl
+sent_from_home script (Send m r i same targets ∷ past) legal =
+    let home = all-where (takes_from_pool past) (λ t. is_at (place t.buffer.0 past) Pool) (four_list targets) (from-pool past) (sends-from-pool script past m.0 r.0 i same targets legal.0) in
+    rw (home, sent_from_home script past legal.1) refl
+sent_from_home script (e ∷ past) legal = sent_from_home script past legal.1
 
 pub fences_once : (script : Script) (past : List Entry) → IsComplete script past → FencesOnce past
 fences_once script past complete = record {

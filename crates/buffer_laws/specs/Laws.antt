@@ -1,12 +1,15 @@
-use Rattle.std.specs.Prelude.{ℕ, ◌==◌, ◌≤◌, List, count_by, IsTrue}
+use Rattle.std.specs.Prelude.{ℕ, ◌==◌, ◌≤◌, Bool, true, ◌&&◌, List, [], ◌∷◌, count_by, IsTrue}
 use Rattle.std.specs.List.{list_all}
+use Rattle.cam_types.specs.Four.{four_list}
 use Rattle.cam_types.specs.declared.script.Script.{Script}
 use Rattle.trace_model.specs.declared.entry.Entry.{Entry}
+use Rattle.trace_model.specs.declared.entry.Entry.TheVariants.{Send}
 use Rattle.trace_model.specs.Complete.{IsComplete, released}
 use Rattle.trace_model.specs.Entry.{releases_fence, returns_target}
 use Rattle.trace_model.specs.Frames.{frames, targets_of}
 use Rattle.trace_model.specs.Laws.{ConservesBuffers, FencesOnce, delivers_in_order, signals_after_release}
 use Rattle.trace_model.specs.Legal.{IsLegal}
+use Rattle.trace_model.specs.Place.{Pool, is_at, place}
 
 -- What is said of buffers and fences. The laws themselves stand in trace_model, beside the definitions.
 
@@ -38,3 +41,14 @@ ReturnsOnce script past = IsComplete script past →
 -- in a legal run the filled buffers of each stream come in the order of frames
 abbrev pub DeliversInOrder : Script → List Entry → Type 0
 DeliversInOrder script past = IsLegal script past → IsTrue (delivers_in_order past)
+
+-- in a legal run a buffer is sent only where it is home. So behind an early return it was released before, which waits
+-- for its late fill
+abbrev pub sends_what_is_home : List Entry → Bool
+sends_what_is_home [] = true
+sends_what_is_home (Send _ _ _ _ targets ∷ past) =
+    list_all (λ t. is_at (place t.buffer.0 past) Pool) (four_list targets) && sends_what_is_home past
+sends_what_is_home (_ ∷ past) = sends_what_is_home past
+
+abbrev pub SendsFromHome : Script → List Entry → Type 0
+SendsFromHome script past = IsLegal script past → IsTrue (sends_what_is_home past)

@@ -2,7 +2,7 @@
 ghost use Rattle.std.specs.Prelude.{List};
 ghost use Rattle.cam_types.specs.declared.script.Script.{Script as SomeScript};
 ghost use Rattle.trace_model.specs.declared.entry.Entry.{Entry as SomeEntry};
-ghost use Rattle.buffer_laws.specs.Laws.{DeliversInOrder, KeepsBuffers, ReleasesOnce, ReturnsAtMostOnce, ReturnsOnce, SignalsLater, SignalsOnce};
+ghost use Rattle.buffer_laws.specs.Laws.{DeliversInOrder, KeepsBuffers, ReleasesOnce, ReturnsAtMostOnce, ReturnsOnce, SendsFromHome, SignalsLater, SignalsOnce};
 
 /// In a legal run every buffer is sent as often as it is returned, and once more while it is at the device: then it is
 /// one of the configuration's.
@@ -30,4 +30,11 @@ pub fn buffers_end_once()
 #[tactic(auto, using(crate::proofs::Order::delivered_in_order))]
 pub fn deliveries_are_in_order()
     ensures { (script : SomeScript) (past : List SomeEntry) → DeliversInOrder script past }
+{}
+
+/// In a legal run a buffer is sent only where it is home: one that came back early was released since, which waits for its
+/// late fill.
+#[tactic(auto, using(crate::proofs::Early::sent_from_home))]
+pub fn buffers_are_sent_from_home()
+    ensures { (script : SomeScript) (past : List SomeEntry) → SendsFromHome script past }
 {}

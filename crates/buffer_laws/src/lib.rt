@@ -6,7 +6,7 @@ mod laws;
 mod worked;
 
 pub use laws::{
-    buffers_are_conserved, buffers_end_once, deliveries_are_in_order,
+    buffers_are_conserved, buffers_are_sent_from_home, buffers_end_once, deliveries_are_in_order,
     fences_are_released_and_signalled_once,
 };
 pub use worked::breaches_are_seen;

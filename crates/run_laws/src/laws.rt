@@ -6,7 +6,7 @@ ghost use Rattle.trace_model.specs.Complete.{IsComplete};
 ghost use Rattle.trace_model.specs.declared.entry.Entry.{Entry as SomeEntry};
 
 use buffer_laws::{
-    buffers_are_conserved, buffers_end_once, deliveries_are_in_order,
+    buffers_are_conserved, buffers_are_sent_from_home, buffers_end_once, deliveries_are_in_order,
     fences_are_released_and_signalled_once,
 };
 use frame_laws::{
@@ -18,6 +18,7 @@ pub fn a_complete_run_keeps_the_laws()
     ensures { (script : SomeScript) (past : List SomeEntry) → IsComplete script past → KeepsLaws script past }
 {
     buffers_are_conserved();
+    buffers_are_sent_from_home();
     buffers_end_once();
     deliveries_are_in_order();
     fences_are_released_and_signalled_once();

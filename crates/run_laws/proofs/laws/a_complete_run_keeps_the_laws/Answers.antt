@@ -13,4 +13,5 @@ returns c = λ script past complete. record {
   metadata = c.metadata_ends_in_order.ensures script past complete.legal;
   parts = c.partials_count_up.ensures.whole script past complete;
   fences = c.fences_are_released_and_signalled_once.ensures.signalled script past complete;
+  resent = c.buffers_are_sent_from_home.ensures script past complete.legal;
 }
