@@ -1,2 +1,1 @@
-pub mod TypedFits
-pub mod FitsValid
+pub mod Fitting

@@ -5,7 +5,7 @@ ghost use Rattle.std.specs.List.{flat_map, list_all};
 ghost use Rattle.command_words.specs.Words.{word_of, word_text};
 ghost use Rattle.text_parts.specs.Lines.{line_text};
 ghost use Rattle.script_spelling.specs.Spelling.{arguments_of, behind_spaces, command_line_words, device_lines, early_lines, fault_words, pick_lines, version_words};
-ghost use Rattle.script_spelling.specs.Fits.{command_typed, fault_fits, numbers_typed};
+ghost use Rattle.script_spelling.specs.Fits.{command_typed, fault_typed, numbers_typed};
 
 use crate::value::{is_byte, is_word, write_item, write_items, write_numbers, write_specs};
 use cam_types::{Command, Fault, NoMemory, Profile};
@@ -44,7 +44,7 @@ pub fn write_early(out: &mut String, early: bool) -> Result<(), NoMemory>
 /// Writes a fault line.
 fn write_fault(out: &mut String, fault: &Fault) -> Result<(), NoMemory>
     ensures text { OnOk result (string_bytes out.new ≡ string_bytes out.old ++ line_text (fault_words fault.now)) }
-    ensures typed { OnOk result (fault_fits fault.now ≡ true) }
+    ensures typed { OnOk result (fault_typed fault.now ≡ true) }
 {
     match *fault {
         Fault::Request(frame) => {
@@ -76,7 +76,7 @@ fn write_fault(out: &mut String, fault: &Fault) -> Result<(), NoMemory>
 pub fn write_faults(out: &mut String, faults: &[Fault]) -> Result<(), NoMemory>
     ensures text { OnOk result
         (string_bytes out.new ≡ string_bytes out.old ++ flat_map line_text (map fault_words faults.now)) }
-    ensures typed { OnOk result (list_all fault_fits faults.now ≡ true) }
+    ensures typed { OnOk result (list_all fault_typed faults.now ≡ true) }
 {
     for fault in faults {
         write_fault(out, fault)?;

@@ -1,10 +1,9 @@
 //! The text of a whole script.
 
-ghost use Rattle.std.specs.Prelude.{◌≡◌, ◌++◌, true, OnOk, IfOk, IsTrue, string_bytes, ◌&&◌};
-ghost use Rattle.std.specs.List.{list_all};
+ghost use Rattle.std.specs.Prelude.{◌≡◌, ◌++◌, true, OnOk, IfOk, IsTrue, string_bytes};
 ghost use Rattle.cam_types.specs.Script.{is_valid};
 ghost use Rattle.script_spelling.specs.Spelling.{text_of};
-ghost use Rattle.script_spelling.specs.Fits.{command_typed, fault_fits, fits, numbers_typed};
+ghost use Rattle.script_spelling.specs.Fits.{fits, is_typed};
 
 use crate::line::{
     write_commands, write_device, write_early, write_faults, write_picks, write_version,
@@ -16,9 +15,7 @@ use std::alloc::Global;
 #[tactic(auto, unfolding(crate::specs::Spelling::text_of))]
 fn write_script(out: &mut String, script: &Script) -> Result<(), NoMemory>
     ensures text { OnOk result (string_bytes out.new ≡ string_bytes out.old ++ text_of script.now) }
-    ensures typed { OnOk result
-        (list_all fault_fits script.now.faults
-        && (numbers_typed script.now.picks && list_all command_typed script.now.commands) ≡ true) }
+    ensures typed { OnOk result (is_typed script.now ≡ true) }
 {
     write_version(out, script.version)?;
     write_device(out, script.version, script.profile)?;

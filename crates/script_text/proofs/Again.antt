@@ -14,7 +14,8 @@ use Rattle.cam_types.specs.declared.script.Command.TheVariants as command
 use Rattle.cam_types.specs.declared.script.Fault.{Fault}
 use Rattle.cam_types.specs.declared.script.Script.{Script}
 use Rattle.cam_types.specs.Script.{awaited_by, is_closing_command}
-use Rattle.script_spelling.specs.Fits.{targets_fit, item_fits, settings_fit, spec_fits, command_fits, fault_fits, fits}
+use Rattle.script_spelling.proofs.Fitting.{targets_fit, item_fits, settings_fit, spec_fits, command_fits, script-both}
+use Rattle.script_spelling.specs.Fits.{fault_typed, fits}
 use Rattle.text_parts.specs.Lines.{lines_of}
 use Rattle.line_reading.specs.Lines.{is_printable, is_comment, text_limit}
 use Rattle.script_text.specs.Lines.{Line, FaultLine, EarlyLine, DeviceLine, PickLine, CommandLine, line_of}
@@ -69,13 +70,13 @@ fault-added : (s : Script) (d : ℕ) (fs : List Fault) (f : Fault) → leb d 1 �
 unfolding added
 fault-added s d fs f few h = rw (few, h) refl
 
-faults-again : (s : Script) (d : ℕ) (fs rest : List Fault) (n : ℕ) (more : List ℕ) → leb d 1 ≡ true → list_all fault_fits rest ≡ true → length (fs ++ rest) ≤ 64
+faults-again : (s : Script) (d : ℕ) (fs rest : List Fault) (n : ℕ) (more : List ℕ) → leb d 1 ≡ true → list_all fault_typed rest ≡ true → length (fs ++ rest) ≤ 64
     → script_from (Some (made s d fs [] [])) n (lines_of (flat_map line_text (map fault_words rest) ++ more)) ≡ script_from (Some (made s d (fs ++ rest) [] [])) (n + length rest) (lines_of more)
 faults-again s d fs [] n more few h l =
     let e : n ≡ n + 0 = omega arith in
     ap (λ xs. script_from (Some (made s d xs [] [])) n (lines_of more)) (sym (append-nil fs)) ∙ ap (λ m. script_from (Some (made s d (fs ++ []) [] [])) m (lines_of more)) e
 faults-again s d fs (f ∷ rest) n more few h l =
-    let p = and_parts (fault_fits f) (list_all fault_fits rest) h in
+    let p = and_parts (fault_typed f) (list_all fault_typed rest) h in
     let regrouped : (fs ++ f ∷ []) ++ rest ≡ fs ++ f ∷ rest = append_assoc fs (f ∷ []) rest in
     let long : length (fs ++ f ∷ []) + length rest ≤ 64 = omega (arith, length-append (fs ++ f ∷ []) rest, ap length regrouped) in
     let here = fault-added s d fs f few (le-leb _ _ (omega arith)) in
@@ -267,9 +268,9 @@ version-is v p h = elim (chosen (eqb v 1) (is_plain_profile p) (eqb v 2 && is_pr
 pub text-again : (s : Script) → fits s ≡ true → length (text_of s) ≤ text_limit → script_of (text_of s) ≡ Ok s
 unfolding script_of
 text-again s h l =
-    let a = and_parts (profile_fits s.version s.profile && (leb (length s.faults) 64 && list_all fault_fits s.faults)) _ h in
-    let head = and_parts (profile_fits s.version s.profile) (leb (length s.faults) 64 && list_all fault_fits s.faults) a.0 in
-    let faults = and_parts (leb (length s.faults) 64) (list_all fault_fits s.faults) head.1 in
+    let a = and_parts (profile_fits s.version s.profile && (leb (length s.faults) 64 && list_all fault_typed s.faults)) _ (script-both s ∙ h) in
+    let head = and_parts (profile_fits s.version s.profile) (leb (length s.faults) 64 && list_all fault_typed s.faults) a.0 in
+    let faults = and_parts (leb (length s.faults) 64) (list_all fault_typed s.faults) head.1 in
     let b = and_parts (leb (length s.picks) 8192 && list_all (λ p. ltb p (2 ^ 32)) s.picks) _ a.1 in
     let picks = and_parts (leb (length s.picks) 8192) (list_all (λ p. ltb p (2 ^ 32)) s.picks) b.0 in
     let c = and_parts (leb (length s.commands) 512 && list_all command_fits s.commands) _ b.1 in

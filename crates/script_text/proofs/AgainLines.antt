@@ -10,7 +10,8 @@ use Rattle.cam_types.specs.declared.script.Fault.{Fault}
 use Rattle.cam_types.specs.declared.script.Fault.TheVariants as fault
 use Rattle.cam_types.specs.declared.script.Word.{Word}
 use Rattle.cam_types.specs.declared.script.Word.TheVariants.{Configure, Once, Burst, Repeat, Stop, Wait, Await, Flush, Close, Disconnect}
-use Rattle.script_spelling.specs.Fits.{item_fits, spec_fits, command_fits, fault_fits}
+use Rattle.script_spelling.proofs.Fitting.{item_fits, spec_fits, command_fits}
+use Rattle.script_spelling.specs.Fits.{fault_typed}
 use Rattle.line_reading.specs.Words.{picks_of}
 use Rattle.script_text.specs.Values.{spec_of, item_of}
 use Rattle.line_reading.specs.Values.{number}
@@ -90,7 +91,7 @@ no-comment Disconnect = refl
 number-here : (n : ℕ) → ltb n (2 ^ 32) ≡ true → number (decimal n) ≡ Some n
 number-here n h = number-again (2 ^ 32) n (ltb-true _ _ h) (omega arith)
 
-fault-again : (f : Fault) → fault_fits f ≡ true → fault_of (fault_arguments f) ≡ Ok f
+fault-again : (f : Fault) → fault_typed f ≡ true → fault_of (fault_arguments f) ≡ Ok f
 unfolding fault_of frame_and_stream
 fault-again (fault.Request n) h = rw (number-here n.0 h) refl
 fault-again (fault.Result n) h = rw (number-here n.0 h) refl
@@ -99,7 +100,7 @@ fault-again (fault.Buffer n s) h =
     rw (number-here n.0 p.0, number-again (2 ^ 8) s.0 (ltb-true _ _ p.1) (omega arith)) refl
 fault-again (fault.Device n) h = rw (number-here n.0 h) refl
 
-pub fault-line-again : (v : ℕ) (f : Fault) → fault_fits f ≡ true → line_of v (codes "fault") (fault_arguments f) ≡ Ok (FaultLine f)
+pub fault-line-again : (v : ℕ) (f : Fault) → fault_typed f ≡ true → line_of v (codes "fault") (fault_arguments f) ≡ Ok (FaultLine f)
 unfolding line_of
 fault-line-again v f h = rw (fault-again f h) refl
 
@@ -150,7 +151,7 @@ command-line-again v c h = rw (no-fault (word_of c), no-pick (word_of c), no-ear
 small-word : (n : ℕ) → ltb n (2 ^ 32) ≡ true → is_word (decimal n) ≡ true
 small-word n h = number-word n (omega (arith, ltb-true n (2 ^ 32) h))
 
-pub fault-words : (f : Fault) → fault_fits f ≡ true → list_all is_word (fault_words f) ≡ true
+pub fault-words : (f : Fault) → fault_typed f ≡ true → list_all is_word (fault_words f) ≡ true
 fault-words (fault.Request n) h = rw (small-word n.0 h) refl
 fault-words (fault.Result n) h = rw (small-word n.0 h) refl
 fault-words (fault.Buffer n s) h =

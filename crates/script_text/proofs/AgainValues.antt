@@ -12,7 +12,7 @@ use Rattle.cam_types.specs.declared.item.Targets.{Targets}
 use Rattle.cam_types.specs.declared.stream.Format.{Format}
 use Rattle.cam_types.specs.declared.stream.Format.TheVariants.{Raw16, Yuv, Other}
 use Rattle.cam_types.specs.declared.stream.StreamSpec.{StreamSpec}
-use Rattle.script_spelling.specs.Fits.{settings_fit, targets_fit, item_fits, format_fits, spec_fits}
+use Rattle.script_spelling.proofs.Fitting.{settings_fit, targets_fit, item_fits, format_fits, spec_fits}
 use Rattle.text_parts.specs.Numbers.{number_below}
 use Rattle.line_reading.specs.Values.{all_of, four_numbers}
 use Rattle.script_text.specs.Values.{format_of, side_of, stream_of, spec_of, settings_of, targets, joined_targets, targets_of, item_of}

@@ -16,7 +16,8 @@ use Rattle.cam_types.specs.declared.script.Word.{Word}
 use Rattle.cam_types.specs.declared.script.Word.TheVariants.{Configure, Once, Burst, Repeat, Stop, Wait, Await, Flush, Close, Disconnect}
 use Rattle.cam_types.specs.declared.stream.StreamSpec.{StreamSpec}
 use Rattle.cam_types.specs.Script.{is_closing_command, awaited_by}
-use Rattle.script_spelling.specs.Fits.{item_fits, spec_fits, command_fits, fault_fits, fits}
+use Rattle.script_spelling.proofs.Fitting.{item_fits, spec_fits, command_fits, script_fits, script-both}
+use Rattle.script_spelling.specs.Fits.{fault_typed, fits}
 use Rattle.line_reading.specs.declared.cause.Cause.{Cause}
 use Rattle.line_reading.specs.declared.cause.Cause.TheVariants.{NotAscii, UnknownWord, Limit, FaultAfterCommand}
 use Rattle.line_reading.specs.declared.cause.TextRefused.{TextRefused}
@@ -121,7 +122,7 @@ command-fits Disconnect words c h w = ends-step command.Disconnect words c refl 
 
 -- ---- faults and picks
 
-fault-fits : (words : List (List ℕ)) (f : Fault) → fault_of words ≡ Ok f → fault_fits f ≡ true
+fault-fits : (words : List (List ℕ)) (f : Fault) → fault_of words ≡ Ok f → fault_typed f ≡ true
 unfolding fault_of frame_and_stream
 fault-fits [] f h = absurd (cc)
 fault-fits (kind ∷ words) f h = grind (arith, nat_tests, number-below)
@@ -173,7 +174,7 @@ device-fits (depth ∷ words) p h =
 
 -- a line fits a script of the version
 abbrev line_fits : ℕ → Line → Bool
-line_fits v (FaultLine f) = fault_fits f
+line_fits v (FaultLine f) = fault_typed f
 line_fits v EarlyLine = true
 line_fits v (DeviceLine p) = profile_fits v p
 line_fits v (PickLine ps) = list_all is_u32 ps
@@ -234,7 +235,7 @@ line-fits v word words line h =
 -- ---- the file
 
 abbrev parts_fit : Script → Bool
-parts_fit s = profile_fits s.version s.profile && (list_all fault_fits s.faults && (list_all is_u32 s.picks && list_all command_fits s.commands))
+parts_fit s = profile_fits s.version s.profile && (list_all fault_typed s.faults && (list_all is_u32 s.picks && list_all command_fits s.commands))
 
 abbrev state_fits : Option Begun → Bool
 state_fits None = true
@@ -250,14 +251,14 @@ push-passes p (y ∷ xs) x h k = let q = and_parts (p y) (list_all p xs) h in an
 
 record PartsFit (s : Script) : Type 0 where
   profile : profile_fits s.version s.profile ≡ true
-  faults : list_all fault_fits s.faults ≡ true
+  faults : list_all fault_typed s.faults ≡ true
   picks : list_all is_u32 s.picks ≡ true
   commands : list_all command_fits s.commands ≡ true
 
 parts-fit : (s : Script) → parts_fit s ≡ true → PartsFit s
 parts-fit s h =
     let a = and_parts (profile_fits s.version s.profile) _ h in
-    let b = and_parts (list_all fault_fits s.faults) _ a.1 in
+    let b = and_parts (list_all fault_typed s.faults) _ a.1 in
     let c = and_parts (list_all is_u32 s.picks) _ b.1 in
     record { profile = a.0; faults = b.0; picks = c.0; commands = c.1 }
 
@@ -267,7 +268,7 @@ parts-from s p = and_from _ _ p.profile (and_from _ _ p.faults (and_from _ _ p.p
 with-line-fits : (b : Begun) (line : Line) → parts_fit b.script ≡ true → line_fits b.script.version line ≡ true → counts_within (with_line b line) ≡ true → parts_fit (with_line b line).script ≡ true
 with-line-fits b (FaultLine f) h k w =
     let p = parts-fit b.script h in
-    and_from _ _ p.profile (and_from _ _ (push-passes fault_fits b.script.faults f p.faults k) (and_from _ _ p.picks p.commands))
+    and_from _ _ p.profile (and_from _ _ (push-passes fault_typed b.script.faults f p.faults k) (and_from _ _ p.picks p.commands))
 with-line-fits b EarlyLine h k w = h
 with-line-fits b (DeviceLine profile) h k w =
     let p = parts-fit b.script h in
@@ -355,7 +356,7 @@ closed-cases false cs e h = (
   list_any-append is_closing_command cs (command.Close ∷ []) ∙ grind arith,
 )
 
-end-valid : (n : ℕ) (state : Option Begun) (s : Script) → state_fits state ≡ true → at_end n state ≡ Ok s → fits s ≡ true
+end-valid : (n : ℕ) (state : Option Begun) (s : Script) → state_fits state ≡ true → at_end n state ≡ Ok s → script_fits s ≡ true
 end-valid n None s f h = absurd (cc)
 end-valid n (Some b) s f h =
     let e : record b.script { commands = closed b.script.commands } ≡ s = cc in
@@ -366,25 +367,25 @@ end-valid n (Some b) s f h =
     let profile = p.profile in
     let faults = p.faults in
     let picks = p.picks in
-    let k : fits (record b.script { commands = closed b.script.commands }) ≡ true = grind arith in
-    ap fits (sym e) ∙ k
+    let k : script_fits (record b.script { commands = closed b.script.commands }) ≡ true = grind arith in
+    ap script_fits (sym e) ∙ k
 
 at-line-ok : {A : Type 0} (n : ℕ) (r : Result A Cause) (f : A → Result Script TextRefused) (s : Script) → at_line n r f ≡ Ok s → (x : A) × (r ≡ Ok x) × (f x ≡ Ok s)
 at-line-ok n (Ok x) f s h = (x, refl, h)
 at-line-ok n (Err cause) f s h = absurd (cc)
 
-script-valid : (before : Option Begun) (n : ℕ) (lines : List (List ℕ)) (s : Script) → state_fits before ≡ true → script_from before n lines ≡ Ok s → fits s ≡ true
+script-valid : (before : Option Begun) (n : ℕ) (lines : List (List ℕ)) (s : Script) → state_fits before ≡ true → script_from before n lines ≡ Ok s → script_fits s ≡ true
 unfolding script_from
 script-valid before n [] s f h = end-valid n before s f h
 script-valid before n (line ∷ lines) s f h =
     let p = at-line-ok n (after before line) (λ next. script_from next (n + 1) lines) s h in
     script-valid p.0 (n + 1) lines s (after-fits before line p.0 f p.1) p.2
 
-long-step : (b : Bool) (r : Result Script TextRefused) (s : Script) → (r ≡ Ok s → fits s ≡ true) → cond b (Err (Bad 0 Limit)) r ≡ Ok s → fits s ≡ true
+long-step : (b : Bool) (r : Result Script TextRefused) (s : Script) → (r ≡ Ok s → script_fits s ≡ true) → cond b (Err (Bad 0 Limit)) r ≡ Ok s → script_fits s ≡ true
 long-step true r s k h = absurd (cc)
 long-step false r s k h = k h
 
 -- what a text means is a valid script
 pub text-valid : (text : List ℕ) (s : Script) → script_of text ≡ Ok s → fits s ≡ true
 unfolding script_of
-text-valid text s h = long-step (ltb text_limit (length text)) (script_from None 1 (lines_of text)) s (script-valid None 1 (lines_of text) s refl) h
+text-valid text s h = sym (script-both s) ∙ long-step (ltb text_limit (length text)) (script_from None 1 (lines_of text)) s (script-valid None 1 (lines_of text) s refl) h
