@@ -4,11 +4,13 @@
 
 mod draft;
 mod item;
+mod laws;
 mod line;
 mod list;
 mod printing;
 mod reading;
 mod stream;
 
+pub use laws::one_profile_is_plain;
 pub use printing::print;
 pub use reading::read;

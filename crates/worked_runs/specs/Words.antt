@@ -29,12 +29,9 @@ stream n = record { 0 = n }
 abbrev pub request : ℕ → RequestId
 request n = record { 0 = n }
 
--- the two templates
+-- the settings of the template for a preview
 abbrev pub preview : Settings
 preview = shot 2 128 10000000 100
-
-abbrev pub still : Settings
-still = shot 1 200 20000000 100
 
 abbrev pub item : Settings → ℕ → List ℕ → Item
 item settings count list = record { settings = settings; targets = record { count = count; list = list } }
@@ -52,9 +49,6 @@ abbrev pub with : ℕ → ℕ → Option FenceNo → Sent
 with s b f = record { stream = record { 0 = s }; buffer = record { 0 = b }; fence = f }
 
 -- four places, of which the first ones are filled
-abbrev pub none : {T : Type 0} → Four T
-none = record { a = None; b = None; c = None; d = None }
-
 abbrev pub one : {T : Type 0} → T → Four T
 one a = record { a = Some a; b = None; c = None; d = None }
 
@@ -63,6 +57,3 @@ two a b = record { a = Some a; b = Some b; c = None; d = None }
 
 abbrev pub three : {T : Type 0} → T → T → T → Four T
 three a b c = record { a = Some a; b = Some b; c = Some c; d = None }
-
-abbrev pub four : {T : Type 0} → T → T → T → T → Four T
-four a b c d = record { a = Some a; b = Some b; c = Some c; d = Some d }
