@@ -1,5 +1,5 @@
 //! The device, and the calls that take in what comes to it.
-ghost use Rattle.std.specs.Prelude.{◌≡◌, ◌<◌, ◌≤◌, ◌↔◌, [], ◌∷◌, ◌++◌, None, Some, IfErr, IfOk, IfSome, IsErr, IsTrue, OnErr, OnOk, length, slice_get};
+ghost use Rattle.std.specs.Prelude.{◌≡◌, ◌<◌, ◌≤◌, ◌↔◌, [], ◌∷◌, ◌++◌, None, Some, IfErr, IfOk, IfSome, IsErr, IsTrue, OnErr, OnOk, is_ok, length, map, option_to_list, slice_get};
 ghost use Rattle.std.specs.List.{list_all};
 ghost use Rattle.cam_types.specs.Four.{four_list};
 ghost use Rattle.cam_types.specs.Metadata.{range_fault};
@@ -7,7 +7,7 @@ ghost use Rattle.cam_types.specs.Picture.{is_offered};
 ghost use Rattle.device_rows.specs.Jobs.{IsFillJobOut, IsSensorJobOut};
 ghost use Rattle.device_rows.specs.Kept.{is_fresh, rise_from};
 ghost use Rattle.device_rows.specs.Rows.{all_stopped, fill_ended, row_at, sensor_home, with_row};
-ghost use Rattle.device_store.specs.Stored.{AreParked, are_before, is_some_target, no_plan, specs_of};
+ghost use Rattle.device_store.specs.Stored.{AreParked, are_before, is_some_target, no_plan, spec_of, specs_of};
 ghost use Rattle.device_core.specs.View.{with_plan, with_rows};
 
 use buffer_pool::Parked;
@@ -17,7 +17,7 @@ use fill_jobs::FilledJob;
 use sensor_sim::ExposedJob;
 use std::alloc::Global;
 use std::marker::Model;
-use stream_config::Plan;
+use stream_config::{Plan, PlanStream, is_offered};
 
 /// The device: the rows of the open frames with all that it holds for them, and the faults that it shall have. It can't
 /// be let go: `scrap` ends it.
@@ -45,13 +45,20 @@ impl Device {
         Ok(Device { store, faults })
     }
 
-    /// Takes the streams of a configuration, whose formats and sizes are offered. No row stands.
-    pub fn configure(&mut self, plan: Plan)
+    /// Takes the streams of a configuration. No row stands. Where a stream's format or size isn't offered the plan comes
+    /// back, and nothing is changed.
+    pub fn configure(&mut self, plan: Plan) -> Result<(), Plan>
         requires empty { self.old.rows ≡ [] }
-        requires offered { IsTrue (list_all is_offered (specs_of plan)) }
-        ensures { self.new ≡ with_plan plan self.old }
+        ensures offered { is_ok result ≡ list_all is_offered (specs_of plan) }
+        ensures taken { OnOk result (self.new ≡ with_plan plan self.old) }
+        ensures refused { IfErr result (λ back. back ≡ plan) }
+        ensures unchanged { OnErr result (self.new ≡ self.old) }
     {
+        if !are_offered(plan) {
+            return Err(plan);
+        }
         self.store.configure(plan);
+        Ok(())
     }
 
     /// How many rows stand.
@@ -126,5 +133,25 @@ impl Device {
         ensures { self.new ≡ self.old }
     {
         let _ = self.store.len();
+    }
+}
+
+/// Whether the format and size of each stream are offered.
+fn are_offered(plan: Plan) -> bool
+    ensures { result ≡ list_all is_offered (specs_of plan) }
+{
+    let streams = plan.streams;
+    is_offered_at(streams.a)
+        && is_offered_at(streams.b)
+        && is_offered_at(streams.c)
+        && is_offered_at(streams.d)
+}
+
+fn is_offered_at(stream: Option<PlanStream>) -> bool
+    ensures { result ≡ list_all is_offered (map spec_of (option_to_list stream)) }
+{
+    match stream {
+        Some(stream) => is_offered(stream.spec),
+        None => true,
     }
 }

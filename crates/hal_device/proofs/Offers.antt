@@ -5,12 +5,11 @@ use Rattle.std.specs.List.{list_all}
 use Rattle.std.specs.Option.{option_map}
 use Rattle.std.proofs.lemmas.Bool.{and_parts}
 use Rattle.std.proofs.lemmas.Bool.Decides.{nat_tests}
-use Rattle.buffer_manager.proofs.Accepted.{IsAccepted, accepted}
 use Rattle.buffer_pool.specs.Blocks.{block_length}
 use Rattle.cam_types.specs.Picture.{is_offered}
-use Rattle.cam_types.specs.Refusals.{specs_refusal}
 use Rattle.cam_types.specs.declared.profile.Profile.{Profile}
 use Rattle.cam_types.specs.declared.stream.StreamSpec.{StreamSpec}
+use Rattle.device_store.proofs.General.{get-passes}
 use Rattle.device_store.specs.Stored.{spec_of, specs_of}
 use Rattle.hal_device_model.specs.Calls.{configured}
 use Rattle.hal_device_model.specs.State.{HalDeviceState, spare_for, spares_for}
@@ -39,14 +38,13 @@ offered_all plan h = all-specs plan.streams.a plan.streams.b plan.streams.c plan
 
 -- ---- the plan of accepted streams
 
-offered-one : (profile : Profile) (specs : List StreamSpec) (k : ℕ) → IsAccepted specs → (o : Option StreamSpec) → slice_get specs k ≡ o → is_offered_at (option_map (plan_stream profile) o) ≡ true
-offered-one profile specs k is None at = refl
-offered-one profile specs k is (Some spec) at = is.offered k spec at
+offered-one : (profile : Profile) (specs : List StreamSpec) (k : ℕ) → list_all is_offered specs ≡ true → (o : Option StreamSpec) → slice_get specs k ≡ o → is_offered_at (option_map (plan_stream profile) o) ≡ true
+offered-one profile specs k all None at = refl
+offered-one profile specs k all (Some spec) at = get-passes is_offered specs k spec all at
 
-pub plan_offered : (profile : Profile) (specs : List StreamSpec) → specs_refusal specs ≡ None → are_offered (plan_of profile specs) ≡ true
-plan_offered profile specs none =
-    let is = accepted specs none in
-    rw (offered-one profile specs 0 is (slice_get specs 0) refl, offered-one profile specs 1 is (slice_get specs 1) refl, offered-one profile specs 2 is (slice_get specs 2) refl, offered-one profile specs 3 is (slice_get specs 3) refl) refl
+pub plan_offered : (profile : Profile) (specs : List StreamSpec) → list_all is_offered specs ≡ true → are_offered (plan_of profile specs) ≡ true
+plan_offered profile specs all =
+    rw (offered-one profile specs 0 all (slice_get specs 0) refl, offered-one profile specs 1 all (slice_get specs 1) refl, offered-one profile specs 2 all (slice_get specs 2) refl, offered-one profile specs 3 all (slice_get specs 3) refl) refl
 
 pub plan_packed : (profile : Profile) (specs : List StreamSpec) → are_packed (plan_of profile specs) ≡ true
 plan_packed profile [] = refl

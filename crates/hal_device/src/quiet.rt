@@ -126,7 +126,10 @@ impl QuietDevice {
         requires offered { IsTrue (list_all is_offered (specs_of plan)) }
         ensures { self.new ≡ with_plan plan self.old }
     {
-        self.device.configure(plan);
+        match self.device.configure(plan) {
+            Ok(()) => {}
+            Err(_) => unreachable!(),
+        }
     }
 
     /// Takes a request's row with the buffers of its targets, for which there is room.

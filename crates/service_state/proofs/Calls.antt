@@ -23,7 +23,7 @@ use Rattle.queue_facts.specs.Turns.{next_of, turns}
 use Rattle.queue_facts.specs.Turns as queue
 use Rattle.buffer_facts.specs.Homes.{Homes, all_home, configured as configured_with, count_in}
 use Rattle.cam_types.specs.Refusals.{specs_refusal}
-use Rattle.service_state.proofs.Fitting.{few_specs}
+use Rattle.stream_config.proofs.Accepted.{few_specs}
 use Rattle.buffer_facts.specs.Homes as buffers
 use Rattle.client_facts.specs.Clients as client
 use Rattle.client_calls.specs.Around.{Fits}

@@ -189,8 +189,11 @@ fn plan(specs: &SpecList, profile: Profile, device: &mut Device)
     requires rest { device.old.rows ≡ [] }
     ensures { device.new ≡ with_plan (plan_of profile specs.now) device.old }
 {
-    match check(specs, profile) {
-        Ok(plan) => device.configure(plan),
+    let Ok(plan) = check(specs, profile) else {
+        unreachable!()
+    };
+    match device.configure(plan) {
+        Ok(()) => {}
         Err(_) => unreachable!(),
     }
 }

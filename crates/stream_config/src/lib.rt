@@ -2,9 +2,11 @@
 #![tactic(auto)]
 
 mod configure;
+mod offered;
 mod plan;
 mod refusal;
 
 pub use configure::check;
+pub use offered::is_offered;
 pub use plan::{Plan, PlanStream};
 pub use refusal::ConfigRefused;

@@ -6,9 +6,10 @@ ghost use Rattle.cam_types.specs.Picture.{is_size_of};
 ghost use Rattle.cam_types.specs.Refusals.{is_raw, is_yuv, specs_refusal};
 ghost use Rattle.stream_config.specs.Refused.{as_reply};
 
+use crate::offered::is_offered;
 use cam_types::{
     BAD_FORMAT, BAD_SIZE, Format, INPUT_STREAM, NO_OUTPUT, RAW_STREAMS, Reply, STREAM_LIMIT,
-    StreamSpec, TOO_MANY, TOO_MANY_RAW, TOO_MANY_YUV, YUV_STREAMS, frame_bytes,
+    StreamSpec, TOO_MANY, TOO_MANY_RAW, TOO_MANY_YUV, YUV_STREAMS,
 };
 
 /// Why a configuration is refused: the refusal's number, and the place of the stream that it speaks of, counted
@@ -103,7 +104,7 @@ fn first_bad_size(specs: &[StreamSpec]) -> Option<usize>
     ensures within { IfSome result (λ i. i < length specs.now) }
     ensures value { result ≡ position_from (λ s. not (is_size_of s.format s.width s.height)) 0 specs.now }
 {
-    specs.iter().position(|spec| frame_bytes(*spec).is_none())
+    specs.iter().position(|spec| !is_offered(*spec))
 }
 
 fn raw_count(specs: &[StreamSpec]) -> usize

@@ -5,7 +5,7 @@ use Rattle.hal_device.proofs.device.HalDevice.configure.Goals as goal
 
 pub take_plan-requires-clause-offered : goal.take_plan-requires-clause-offered
 take_plan-requires-clause-offered c =
-    rw c.in-Ok.ensures.planned (plan_offered c.self.inside.profile c.args.specs.now (sym c.in-Ok.ensures.refused))
+    rw c.in-Ok.ensures.planned (plan_offered c.self.inside.profile c.args.specs.now c.in-Ok.ensures.offered)
 
 pub take_plan-requires-clause-packed : goal.take_plan-requires-clause-packed
 take_plan-requires-clause-packed c = rw c.in-Ok.ensures.planned (plan_packed c.self.inside.profile c.args.specs.now)
