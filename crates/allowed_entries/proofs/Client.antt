@@ -7,10 +7,10 @@ use Rattle.trace_model.specs.declared.entry.Entry.TheVariants.{Begin, Call}
 use Rattle.trace_model.specs.Calls.{command_at, is_waiting_command, word_of}
 use Rattle.trace_model.specs.Entry.{is_refusal}
 use Rattle.run_model.specs.Ready.{or_entry}
-use Rattle.queue_facts.specs.Turns.{Turns}
-use Rattle.buffer_facts.specs.Homes.{Homes}
-use Rattle.client_facts.specs.Clients.{Clients}
-use Rattle.client_facts.specs.Replies.{begin_in, begin_with, call_in, call_with, over_in, reply_in}
+use Rattle.state_facts.specs.Turns.{Turns}
+use Rattle.state_facts.specs.Homes.{Homes}
+use Rattle.state_facts.specs.Clients.{Clients}
+use Rattle.state_facts.specs.Replies.{begin_in, begin_with, call_in, call_with, over_in, reply_in}
 use Rattle.allowed_entries.specs.Known.{shown}
 
 one-of-two : (waits begun rest : Bool) (b c : Entry) → shown (or_entry (if waits && not begun then Some b else None) (if (not waits || begun) && rest then Some c else None)) ≡ shown (if waits && not begun then Some b else None) ++ shown (if (not waits || begun) && rest then Some c else None)

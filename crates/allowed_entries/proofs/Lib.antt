@@ -7,3 +7,7 @@ pub mod Rows
 pub mod SendLemmas
 pub mod Sound
 pub mod Valid
+pub mod Complete
+pub mod Lists
+pub mod Opens
+pub mod Streams

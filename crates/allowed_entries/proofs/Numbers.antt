@@ -6,7 +6,7 @@ use Rattle.std.proofs.lemmas.List.{append-nil, append_assoc, get_or_past}
 use Rattle.std.proofs.lemmas.Grind.{flat_map-append}
 use Rattle.basic_lemmas.proofs.Ranges.{range-more}
 use Rattle.trace_model.specs.Place.{Place, Pool, Client, is_at}
-use Rattle.buffer_facts.specs.Homes.{Homes, release_in}
+use Rattle.state_facts.specs.Homes.{Homes, release_in}
 
 pub flat_more : {A : Type 0} (f : ℕ → List A) (a n j : ℕ) → a + n ≡ j → flat_map f (range_with_len a (n + 1)) ≡ flat_map f (range_with_len a n) ++ f j
 flat_more f a n j at =

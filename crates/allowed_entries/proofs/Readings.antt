@@ -1,34 +1,25 @@
 -- What is allowed after a legal past is read from its state.
-use Rattle.std.proofs.Common.{◌≡◌, ◌∙◌, ℕ, List, [], ◌∷◌, ◌++◌, refl, sym, ap, filter, length, map, reverse}
+use Rattle.std.proofs.Common.{◌≡◌, ◌∙◌, ℕ, List, [], ◌∷◌, ◌++◌, refl, sym, ap, length, map}
 use Rattle.std.specs.List.{flat_map, range_with_len}
-use Rattle.basic_lemmas.proofs.Lists.{map-map}
-use Rattle.std.proofs.lemmas.List.{map-id}
 use Rattle.cam_types.specs.declared.script.Script.{Script}
 use Rattle.trace_model.specs.declared.entry.Entry.{Entry}
-use Rattle.trace_model.specs.Client.{call_due}
 use Rattle.trace_model.specs.Configuration.{buffers_of}
 use Rattle.trace_model.specs.Entry.{is_shutter}
-use Rattle.trace_model.specs.Frames.{frames}
 use Rattle.trace_model.specs.Legal.{IsLegal}
 use Rattle.trace_model.specs.Numbers.{next_early, next_fence}
-use Rattle.trace_model.specs.Open.{is_open}
-use Rattle.queue_facts.specs.Turns.{turns}
-use Rattle.buffer_facts.specs.Homes.{homes}
-use Rattle.buffer_facts.proofs.Readings.{earlies_are, release_is, signal_is}
-use Rattle.client_facts.specs.Clients.{clients}
-use Rattle.client_facts.specs.Replies.{call_in}
-use Rattle.client_facts.proofs.Readings.{begin_is, call_is}
-use Rattle.row_facts.specs.Rows.{Row, no_rows, row, rows}
-use Rattle.row_facts.proofs.Readings.{quiet_is}
-use Rattle.state_facts.specs.Dues.{late_in}
-use Rattle.state_facts.specs.States.{state}
-use Rattle.state_facts.proofs.Dues.{early_is, error_buffer_is, error_request_is, error_result_is, failed_is, filled_is, late_is, partial_is}
-use Rattle.state_facts.proofs.Exposures.{error_device_is, shutter_is}
-use Rattle.state_facts.proofs.Sends.{drop_is, send_is}
+use Rattle.state_facts.specs.Homes.{homes}
+use Rattle.state_facts.proofs.BufferReadings.{earlies_are, release_is, signal_is}
+use Rattle.state_facts.proofs.ClientReadings.{begin_is}
+use Rattle.state_facts.specs.Row.{open_rows}
+use Rattle.state_facts.specs.States.{late_in, state}
+use Rattle.state_facts.proofs.OpenRows.{row-numbers}
+use Rattle.state_facts.proofs.StateFrames.{early_is, error_buffer_is, error_device_is, error_request_is, error_result_is, failed_is, filled_is, late_is, partial_is, shutter_is}
+use Rattle.state_facts.proofs.StateSends.{drop_is, send_is}
 use Rattle.allowed_entries.specs.declared.entry.AllowedEntry.{AllowedEntry}
 use Rattle.allowed_entries.specs.Entries.{allowed_entries, by_streams, of_ends, of_frame, of_frames, of_lates, of_next, of_releases, of_signals, open_frames}
 use Rattle.allowed_entries.specs.Known.{shown, shown_where}
 use Rattle.allowed_entries.specs.Readings.{all_in, buffers_in, ends_in, frame_in, frames_in, lates_in, next_in, releases_in, signals_in}
+use Rattle.state_facts.proofs.Runs.{call-by-rows}
 
 -- lists that agree at each number
 streams-same : (f g : ℕ → List AllowedEntry) → ((s : ℕ) → f s ≡ g s) → by_streams f ≡ by_streams g
@@ -49,34 +40,26 @@ frame-is script past n legal =
     (two (ap shown (partial_is script past n legal))
     (two (streams-same _ _ (λ s. ap shown (filled_is script past n s legal)))
     (two (streams-same _ _ (λ s. ap shown (early_is script past n s legal)))
-    (two (ap shown (error_request_is script past n))
+    (two (ap shown (error_request_is script past n legal))
     (two (ap shown (error_result_is script past n legal))
-    (two (streams-same _ _ (λ s. ap shown (error_buffer_is script past n s)))
+    (two (streams-same _ _ (λ s. ap shown (error_buffer_is script past n s legal)))
     (streams-same _ _ (λ s. ap shown (failed_is script past n s legal)))))))))
 
--- the open frames are those of the rows
-numbers-are : (script : Script) (past : List Entry) → map (λ r. r.frame) (rows script past) ≡ filter (λ n. is_open n past) (frames past)
-numbers-are script past =
-    map-map (λ (r : Row). r.frame) (row script past) (filter (λ n. is_open n past) (frames past)) ∙ map-id (filter (λ n. is_open n past) (frames past))
-
-frames-are : (script : Script) (past : List Entry) → IsLegal script past → of_frames script past ≡ frames_in script (state script past) (map (λ r. r.frame) (rows script past))
+frames-are : (script : Script) (past : List Entry) → IsLegal script past → of_frames script past ≡ frames_in script (state script past) (map (λ r. r.number) (open_rows script past))
 unfolding of_frames frames_in
 frames-are script past legal =
     flat-same (of_frame script past) (frame_in script (state script past)) (open_frames past) (λ n. frame-is script past n legal)
-    ∙ ap (λ (ns : List ℕ). flat_map (frame_in script (state script past)) (reverse ns)) (sym (numbers-are script past))
+    ∙ ap (flat_map (frame_in script (state script past))) (sym (row-numbers script past legal))
 
 -- of the next frame, of the client and the device
 next-are : (script : Script) (past : List Entry) → IsLegal script past → of_next script past ≡ next_in script (state script past)
 unfolding of_next next_in
 next-are script past legal = two (ap shown (send_is script past legal)) (ap shown (drop_is script past))
 
-call-reads : (script : Script) (past : List Entry) → IsLegal script past → call_due script past ≡ call_in script (no_rows (rows script past)) (clients script past) (turns script past) (homes past)
-call-reads script past legal = rw (← quiet_is script past) (call_is script past legal)
-
 ends-are : (script : Script) (past : List Entry) → IsLegal script past → of_ends script past ≡ ends_in script (state script past)
 unfolding of_ends ends_in
 ends-are script past legal =
-    two (ap shown (begin_is script past)) (two (ap shown (call-reads script past legal)) (ap shown (error_device_is script past legal)))
+    two (ap shown (begin_is script past)) (two (ap shown (call-by-rows script past legal)) (ap shown (error_device_is script past legal)))
 
 -- of buffers and fences
 releases-are : (script : Script) (past : List Entry) → IsLegal script past → of_releases past ≡ releases_in (homes past)

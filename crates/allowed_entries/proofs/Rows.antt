@@ -1,39 +1,37 @@
--- The frames of rows, the last row's first.
-use Rattle.std.proofs.Common.{◌≡◌, ◌∙◌, ◌<◌, ◌≤◌, ℕ, ◌+◌, ◌-◌, List, [], ◌∷◌, ◌++◌, refl, sym, ap, arith, get_or, length, map, reverse, take}
-use Rattle.std.specs.List.{flat_map}
-use Rattle.std.proofs.lemmas.List.{map-append, reverse-append, take_all, take_more}
+-- The frames of rows, one after the other.
+use Rattle.std.proofs.Common.{◌≡◌, ◌∙◌, ◌<◌, ℕ, ◌+◌, List, [], ◌∷◌, ◌++◌, refl, sym, ap, append-nil, get_or, length, map, take}
+use Rattle.std.proofs.lemmas.List.{append_assoc, take_more}
 use Rattle.basic_lemmas.proofs.Lists.{map-map}
 use Rattle.cam_types.specs.declared.script.Script.{Script}
-use Rattle.row_facts.specs.Rows.{Row}
+use Rattle.state_facts.specs.Row.{Row}
 use Rattle.state_facts.specs.States.{State}
 use Rattle.judge_rows.specs.declared.row.OpenRow.{OpenRow}
 use Rattle.judge_rows.specs.Views.{row_of, rows_of}
+use Rattle.allowed_entries.specs.declared.entry.AllowedEntry.{AllowedEntry}
 use Rattle.allowed_entries.specs.Readings.{frame_in, frames_in}
 
--- the last row's come first
-pub last_first : (script : Script) (s : State) (newer : List OpenRow) (row : OpenRow) → frames_in script s (map (λ r. r.frame.0) (newer ++ row ∷ [])) ≡ frame_in script s row.frame.0 ++ frames_in script s (map (λ r. r.frame.0) newer)
+-- one row more
+pub frames_more : (script : Script) (s : State) (rows : List OpenRow) (row : OpenRow) → frames_in script s (map (λ r. r.frame.0) (rows ++ row ∷ [])) ≡ frames_in script s (map (λ r. r.frame.0) rows) ++ frame_in script s row.frame.0
 unfolding frames_in
-last_first script s newer row =
-    ap (λ (ns : List ℕ). flat_map (frame_in script s) (reverse ns)) (map-append (λ (r : OpenRow). r.frame.0) newer (row ∷ []))
-    ∙ ap (flat_map (frame_in script s)) (reverse-append (map (λ (r : OpenRow). r.frame.0) newer) (row.frame.0 ∷ []))
+frames_more script s [] row = append-nil (frame_in script s row.frame.0)
+frames_more script s (r ∷ rows) row =
+    ap (λ (l : List AllowedEntry). frame_in script s r.frame.0 ++ l) (frames_more script s rows row)
+    ∙ sym (append_assoc (frame_in script s r.frame.0) _ _)
 
--- of no rows there are none
 pub none_first : (script : Script) (s : State) → frames_in script s [] ≡ []
 unfolding frames_in
 none_first script s = refl
 
 -- the frames of the table's rows
-pub frames_of : (rows : List OpenRow) (state : List Row) → rows_of rows ≡ state → map (λ r. r.frame.0) rows ≡ map (λ r. r.frame) state
-frames_of rows state is = sym (map-map (λ (r : Row). r.frame) row_of rows) ∙ ap (map (λ (r : Row). r.frame)) is
+pub frames_of : (rows : List OpenRow) (state : List Row) → rows_of rows ≡ state → map (λ r. r.frame.0) rows ≡ map (λ r. r.number) state
+frames_of rows state is = sym (map-map (λ (r : Row). r.number) row_of rows) ∙ ap (map (λ (r : Row). r.number)) is
 
--- the rows without the last one, and its frame's
-pub rows_more : (script : Script) (s : State) (rest : List OpenRow) (d : OpenRow) → 1 ≤ length rest → frames_in script s (map (λ r. r.frame.0) rest) ≡ frame_in script s (get_or rest (length rest - 1) d).frame.0 ++ frames_in script s (map (λ r. r.frame.0) (take (length rest - 1) rest))
-rows_more script s rest d some =
-    let all : take (length rest - 1 + 1) rest ≡ rest = take_all (length rest - 1 + 1) rest (omega (arith, some)) in
-    let parts = take_more rest (length rest - 1) d (omega (arith, some)) in
-    ap (λ (rows : List OpenRow). frames_in script s (map (λ r. r.frame.0) rows)) (sym all ∙ parts)
-    ∙ last_first script s (take (length rest - 1) rest) (get_or rest (length rest - 1) d)
-
-pub none_left : (script : Script) (s : State) (rest : List OpenRow) → length rest < 1 → frames_in script s (map (λ r. r.frame.0) rest) ≡ []
-none_left script s [] few = none_first script s
-none_left script s (r ∷ rest) few = absurd (omega (arith, few))
+-- as the loop adds them
+pub added_more : (script : Script) (s : State) (before now new : List AllowedEntry) (rows : List OpenRow) (i : ℕ) (other : OpenRow) → now ≡ before ++ frames_in script s (map (λ r. r.frame.0) (take i rows)) → i < length rows → new ≡ now ++ frame_in script s (get_or rows i other).frame.0 → new ≡ before ++ frames_in script s (map (λ r. r.frame.0) (take (i + 1) rows))
+added_more script s before now new rows i other was less step =
+    let row = get_or rows i other in
+    let old = frames_in script s (map (λ r. r.frame.0) (take i rows)) in
+    let one : take (i + 1) rows ≡ take i rows ++ row ∷ [] = take_more rows i other less in
+    step ∙ (ap (λ (l : List AllowedEntry). l ++ frame_in script s row.frame.0) was
+    ∙ (append_assoc before old (frame_in script s row.frame.0)
+    ∙ ap (λ (l : List AllowedEntry). before ++ l) (sym (ap (λ (rs : List OpenRow). frames_in script s (map (λ r. r.frame.0) rs)) one ∙ frames_more script s (take i rows) row))))

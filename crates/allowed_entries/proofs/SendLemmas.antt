@@ -5,7 +5,7 @@ use Rattle.cam_types.specs.declared.request.Queued.{Queued}
 use Rattle.cam_types.specs.declared.script.Script.{Script}
 use Rattle.trace_model.specs.declared.entry.Sent.{Sent}
 use Rattle.trace_model.specs.Send.{are_last, targets_in_order, with_target}
-use Rattle.buffer_facts.specs.Homes.{least_in}
+use Rattle.state_facts.specs.Homes.{least_in}
 use Rattle.state_facts.specs.States.{State, may_go_in, send_next_in, send_of, target_in, targets_in}
 use Rattle.allowed_entries.specs.declared.entry.AllowedEntry.TheVariants as known
 use Rattle.allowed_entries.specs.Known.{shown}

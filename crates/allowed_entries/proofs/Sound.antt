@@ -19,12 +19,13 @@ use Rattle.trace_model.specs.Printable.{is_printable}
 use Rattle.trace_model.specs.Release.{release_due, signal_due}
 use Rattle.trace_model.specs.Send.{send_due}
 use Rattle.trace_model.specs.Shutter.{shutter_due}
-use Rattle.send_laws.proofs.Due.{send-allowed}
+use Rattle.trace_laws.proofs.Due.{send-allowed}
 use Rattle.allowed_entries.specs.declared.entry.AllowedEntry.{AllowedEntry}
 use Rattle.allowed_entries.specs.Entries.{allowed_entries, by_streams, of_ends, of_frame, of_frames, of_lates, of_next, of_releases, of_signals, open_frames}
 use Rattle.allowed_entries.specs.Known.{known_of, prints, shown, shown_where}
 use Rattle.allowed_entries.specs.Told.{AllTellAllowed, TellsAllowed}
-use Rattle.allowed_entries.proofs.Due.{begin-allowed, call-allowed, device-allowed, drop-allowed, early-allowed, error-allowed, failed-allowed, filled-allowed, late-allowed, part-allowed, release-allowed, request-allowed, result-allowed, shutter-allowed, signal-allowed}
+use Rattle.allowed_entries.proofs.Due.{begin-allowed, call-allowed, device-allowed, error-allowed}
+use Rattle.run_model.proofs.Legal.{drop_allowed, shutter_allowed, part_allowed, failed_allowed, filled_allowed, early_allowed, late_allowed, release_allowed, signal_allowed, request_allowed, result_allowed}
 
 -- ---- of two lists, of an entry that is due, and of those of numbers
 
@@ -60,14 +61,14 @@ frame-tells script past n =
     let join = all-two script past in
     let due = of-due script past in
     let streams = of-streams script past in
-    join _ _ (of-due-where script past (is_shutter n) (shutter_due script past) (shutter-allowed script past))
-    (join _ _ (due (partial_due script past n) (part-allowed script past n))
-    (join _ _ (streams _ (λ s. due (filled_due script past n s) (filled-allowed script past n s)))
-    (join _ _ (streams _ (λ s. due (early_due script past n s) (early-allowed script past n s)))
-    (join _ _ (due (error_request_due script past n) (request-allowed script past n))
-    (join _ _ (due (error_result_due script past n) (result-allowed script past n))
+    join _ _ (of-due-where script past (is_shutter n) (shutter_due script past) (shutter_allowed script past))
+    (join _ _ (due (partial_due script past n) (part_allowed script past n))
+    (join _ _ (streams _ (λ s. due (filled_due script past n s) (filled_allowed script past n s)))
+    (join _ _ (streams _ (λ s. due (early_due script past n s) (early_allowed script past n s)))
+    (join _ _ (due (error_request_due script past n) (request_allowed script past n))
+    (join _ _ (due (error_result_due script past n) (result_allowed script past n))
     (join _ _ (streams _ (λ s. due (error_buffer_due script past n s) (error-allowed script past n s)))
-    (streams _ (λ s. due (failed_due past n s) (failed-allowed script past n s)))))))))
+    (streams _ (λ s. due (failed_due past n s) (failed_allowed script past n s)))))))))
 
 frames-tell : (script : Script) (past : List Entry) → AllTellAllowed script past (of_frames script past)
 unfolding of_frames
@@ -76,7 +77,7 @@ frames-tell script past = of-each script past (of_frame script past) (open_frame
 next-tell : (script : Script) (past : List Entry) → AllTellAllowed script past (of_next script past)
 unfolding of_next
 next-tell script past =
-    all-two script past _ _ (of-due script past (send_due script past) (send-allowed script past)) (of-due script past (drop_due script past) (drop-allowed script past))
+    all-two script past _ _ (of-due script past (send_due script past) (send-allowed script past)) (of-due script past (drop_due script past) (drop_allowed script past))
 
 ends-tell : (script : Script) (past : List Entry) → AllTellAllowed script past (of_ends script past)
 unfolding of_ends
@@ -87,17 +88,17 @@ ends-tell script past =
 releases-tell : (script : Script) (past : List Entry) → AllTellAllowed script past (of_releases past)
 unfolding of_releases
 releases-tell script past =
-    of-streams script past _ (λ s. of-each script past (λ b. shown (release_due past b)) (buffers_of past s) (λ b. of-due script past (release_due past b) (release-allowed script past b)))
+    of-streams script past _ (λ s. of-each script past (λ b. shown (release_due past b)) (buffers_of past s) (λ b. of-due script past (release_due past b) (release_allowed script past b)))
 
 signals-tell : (script : Script) (past : List Entry) → AllTellAllowed script past (of_signals past)
 unfolding of_signals
 signals-tell script past =
-    of-each script past (λ f. shown (signal_due past f)) (range_with_len 0 (next_fence past)) (λ f. of-due script past (signal_due past f) (signal-allowed script past f))
+    of-each script past (λ f. shown (signal_due past f)) (range_with_len 0 (next_fence past)) (λ f. of-due script past (signal_due past f) (signal_allowed script past f))
 
 lates-tell : (script : Script) (past : List Entry) → AllTellAllowed script past (of_lates script past)
 unfolding of_lates
 lates-tell script past =
-    of-each script past (λ d. shown (late_due script past d)) (range_with_len 0 (next_early past)) (λ d. of-due script past (late_due script past d) (late-allowed script past d))
+    of-each script past (λ d. shown (late_due script past d)) (range_with_len 0 (next_early past)) (λ d. of-due script past (late_due script past d) (late_allowed script past d))
 
 -- each of the list is told of an entry that is allowed
 pub all_tell : (script : Script) (past : List Entry) → AllTellAllowed script past (allowed_entries script past)

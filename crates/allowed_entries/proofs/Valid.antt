@@ -1,43 +1,23 @@
 -- What a valid script and a legal past give to the list.
 use Rattle.std.proofs.Common.{◌≡◌, ◌∙◌, ◌<◌, ◌^◌, ℕ, ◌==◌, ◌+◌, true, ◌&&◌, List, refl, sym, ap, subst, arith, length, inl, inr}
 use Rattle.std.proofs.lemmas.Bool.{and_from, and_parts, cases_Bool, eqb-true}
-use Rattle.cam_types.specs.Profile.{is_plain, is_profile, is_profile_number, profile_fits}
 use Rattle.cam_types.specs.Script.{is_valid}
-use Rattle.cam_types.specs.declared.profile.Profile.{Profile}
 use Rattle.cam_types.specs.declared.script.Script.{Script}
 use Rattle.trace_model.specs.declared.entry.Entry.{Entry}
 use Rattle.trace_model.specs.Legal.{IsLegal}
 use Rattle.trace_model.specs.Numbers.{next_fence}
-use Rattle.trace_bounds.specs.Typed.{is_typed}
-use Rattle.buffer_facts.proofs.Readings.{fences_are}
+use Rattle.trace_laws.specs.Typed.{is_typed}
+use Rattle.state_facts.proofs.BufferReadings.{fences_are}
 use Rattle.state_facts.proofs.Fits.{numbers_fit}
-use Rattle.judge_tables.specs.Judged.{Judged}
+use Rattle.judge_rows.specs.Judged.{Judged}
 use Rattle.trace_check.specs.Held.{held}
-use Rattle.trace_check.proofs.Holding.{numbered}
 use Rattle.allowed_entries.specs.declared.entry.AllowedEntry.{AllowedEntry}
 use Rattle.allowed_entries.specs.Entries.{allowed_entries}
 use Rattle.allowed_entries.specs.Readings.{all_in}
 use Rattle.allowed_entries.proofs.Readings.{allowed_are}
+use Rattle.service_parts.proofs.Room.{buffers_fit}
 
 -- ---- a valid script has a profile
-
-plain-number : (n m : ℕ) → (n == m) ≡ true → is_profile_number m ≡ true → is_profile_number n ≡ true
-plain-number n m same h = let is : n ≡ m = eqb-true n m same in rw is h
-
-profile-of : (version : ℕ) (p : Profile) → profile_fits version p ≡ true → is_profile p ≡ true
-profile-of version p h =
-    elim (cases_Bool (version == 1)) [
-      | inl first ↦
-          (let plain : is_plain p ≡ true = rw first at h in
-          let parts = and_parts (p.depth == 6) ((p.raw == 3) && (p.yuv == 4)) plain in
-          let sizes = and_parts (p.raw == 3) (p.yuv == 4) parts.1 in
-          and_from _ _ (plain-number p.depth 6 parts.0 refl) (and_from _ _ (plain-number p.raw 3 sizes.0 refl) (plain-number p.yuv 4 sizes.1 refl)))
-      | inr other ↦
-          (let second = rw other at h in (and_parts (version == 2) (is_profile p) second).1)
-    ]
-
-pub valid_profile : (script : Script) → is_valid script ≡ true → is_profile script.profile ≡ true
-valid_profile script h = profile-of script.version script.profile (and_parts (profile_fits script.version script.profile) _ h).0
 
 -- ---- numbers
 
@@ -47,7 +27,7 @@ few_fences script past typed valid legal =
 
 pub numbered_held : (script : Script) (past : List Entry) (t : Judged) → is_valid script ≡ true → IsLegal script past → t ≡ held script past → t.state.buffers.first + (length t.state.buffers.places + 72) < 2 ^ 32
 numbered_held script past t valid legal is =
-    subst (λ (u : Judged). u.state.buffers.first + (length u.state.buffers.places + 72) < 2 ^ 32) (sym is) (numbered script past valid legal)
+    subst (λ (u : Judged). u.state.buffers.first + (length u.state.buffers.places + 72) < 2 ^ 32) (sym is) (buffers_fit script past valid legal)
 
 -- ---- the list
 

@@ -17,9 +17,9 @@ use crate::service::{add_ends, add_next};
 use crate::tables::tables_after;
 use cam_types::{NoMemory, Script};
 use judge_entries::number::next_fence;
-use judge_tables::JudgeTables;
+use judge_rows::JudgeTables;
 use std::alloc::Global;
-use trace_bounds::{every_script_is_typed, legal_traces_print};
+use trace_laws::{every_script_is_typed, legal_traces_print};
 use trace_model::Entry;
 
 /// Adds all that is due by the tables of a trace that released so many fences.

@@ -9,7 +9,7 @@ use crate::pictures::filled_due;
 use cam_types::{FrameNo, NoMemory, Script, StreamIx};
 use judge_due::buffers::{early_due, failed_due};
 use judge_due::errors::error_buffer_due;
-use judge_tables::JudgeTables;
+use judge_rows::JudgeTables;
 
 /// A kind of entry of a frame's buffer.
 #[derive(Clone, Copy, Debug, PartialEq, Eq)]

@@ -6,7 +6,7 @@ use crate::entry::AllowedEntry;
 use crate::list::{add, add_due};
 use crate::pictures::late_due;
 use cam_types::{FenceNo, NoMemory};
-use judge_tables::JudgeTables;
+use judge_rows::JudgeTables;
 
 /// Adds the signals that are due of the first so many fences.
 pub(crate) fn add_signals(

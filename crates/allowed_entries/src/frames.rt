@@ -1,7 +1,7 @@
 //! What is due of the open frames.
 ghost use Rattle.std.specs.Prelude.{◌≡◌, ◌++◌, OnOk, map};
 ghost use Rattle.trace_model.specs.Entry.{is_shutter};
-ghost use Rattle.state_facts.specs.Dues.{shutter_in};
+ghost use Rattle.state_facts.specs.States.{shutter_in};
 ghost use Rattle.allowed_entries.specs.Known.{shown_where};
 ghost use Rattle.allowed_entries.specs.Readings.{frame_in, frames_in};
 
@@ -13,8 +13,7 @@ use judge_due::errors::{error_request_due, error_result_due};
 use judge_due::exposures::shutter_due;
 use judge_due::parts::partial_due;
 use judge_entries::entry::is_shutter;
-use judge_rows::OpenRow;
-use judge_tables::JudgeTables;
+use judge_rows::{JudgeTables, OpenRow};
 
 /// Adds the shutter, where it is due of the frame.
 fn add_shutter(
@@ -54,7 +53,7 @@ fn add_frame(
     add_buffers(list, script, tables, frame, BufferEntry::Failure)
 }
 
-/// Adds what is due of the frames of rows, the last row's first.
+/// Adds what is due of the frames of rows.
 fn add_rows(
     list: &mut Vec<AllowedEntry>,
     script: &Script,
@@ -64,10 +63,8 @@ fn add_rows(
     ensures { OnOk result (list.new.items ≡
         list.old.items ++ frames_in script.now tables.now.state (map (λ r. r.frame.0) rows.now)) }
 {
-    let mut rest = rows;
-    while let [newer @ .., row] = rest {
+    for row in rows {
         add_frame(list, script, tables, row.frame)?;
-        rest = newer;
     }
     Ok(())
 }
@@ -79,7 +76,7 @@ pub(crate) fn add_frames(
     tables: &JudgeTables,
 ) -> Result<(), NoMemory>
     ensures { OnOk result (list.new.items ≡
-        list.old.items ++ frames_in script.now tables.now.state (map (λ r. r.frame) tables.now.state.rows)) }
+        list.old.items ++ frames_in script.now tables.now.state (map (λ r. r.number) tables.now.state.rows)) }
 {
     add_rows(list, script, tables, tables.rows().rows())
 }

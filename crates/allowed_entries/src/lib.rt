@@ -1,6 +1,7 @@
-//! The entries that are allowed after those of a legal trace, each as far as the past determines it.
+//! The entries that are allowed after those of a legal trace, each as far as the past determines it; and why the list
+//! can be believed.
 //!
-//! They are read from the tables of the trace's state (`judge_tables`), by the readings with which a trace is judged
+//! They are read from the tables of the trace's state (`judge_rows`), by the readings with which a trace is judged
 //! (`judge_due`): so each costs what the open frames and the configuration's buffers cost, however long the trace is.
 #![tactic(auto)]
 
@@ -9,6 +10,7 @@ mod buffers;
 mod entry;
 mod fences;
 mod frames;
+mod laws;
 mod list;
 mod pictures;
 mod releases;
@@ -18,3 +20,4 @@ mod tables;
 
 pub use after::allowed_after;
 pub use entry::{AllowedEntry, known_of};
+pub use laws::{what_is_allowed_is_told, what_is_told_is_allowed};

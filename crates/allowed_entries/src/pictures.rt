@@ -1,17 +1,18 @@
 //! Pictures that are due: all but their digests.
-ghost use Rattle.std.specs.Prelude.{◌≡◌, option_map, option_to_list};
-ghost use Rattle.row_facts.specs.Rows.{Row as SomeRow, find_row};
+ghost use Rattle.std.specs.Prelude.{◌≡◌, List, option_map, option_to_list};
+ghost use Rattle.cam_types.specs.declared.stream.StreamSpec.{StreamSpec as SomeSpec};
+ghost use Rattle.state_facts.specs.FrameReadings.{filled_from, late_from};
+ghost use Rattle.state_facts.specs.Homes.{passed_in};
+ghost use Rattle.state_facts.specs.Row.{Row as SomeRow};
+ghost use Rattle.state_facts.specs.States.{filled_in, late_in};
 ghost use Rattle.judge_rows.specs.Views.{row_of, slot_of};
-ghost use Rattle.state_facts.specs.Dues.{filled_at, filled_in, late_at, late_in};
-ghost use Rattle.state_facts.specs.States.{State as SomeState};
 ghost use Rattle.allowed_entries.specs.Known.{shown};
 
 use crate::entry::AllowedEntry;
 use cam_types::{FenceNo, FrameNo, Script, StreamIx};
 use judge_due::buffers::may_deliver;
-use judge_due::slots::{early_slot, slot_for};
-use judge_rows::{OpenRow, OpenSlot, early_row, find_row};
-use judge_tables::JudgeTables;
+use judge_due::slots::{pending_slot, slot_for};
+use judge_rows::{JudgeTables, OpenRow, OpenSlot, find_row, pending_row};
 
 /// The row's buffer for the stream, where it is due back with its picture.
 fn filled_at(
@@ -21,8 +22,11 @@ fn filled_at(
     row: &OpenRow,
     slot: Option<OpenSlot>,
 ) -> Option<AllowedEntry>
-    ensures { option_to_list result ≡
-        shown (filled_at script.now tables.now.state stream.0 (row_of row.now) (option_map slot_of slot)) }
+    ensures { let s = tables.now.state in
+        option_to_list result ≡
+        shown
+        (filled_from script.now s.client.streams s.rows (passed_in s.buffers) stream.0 (row_of row.now)
+        (option_map slot_of slot)) }
 {
     match slot {
         Some(slot) => {
@@ -48,7 +52,7 @@ pub(crate) fn filled_due(
     stream: StreamIx,
 ) -> Option<AllowedEntry>
     ensures { option_to_list result ≡
-        shown (filled_in script.now tables.now.state stream.0 (find_row frame.0 tables.now.state.rows)) }
+        shown (filled_in script.now tables.now.state frame.0 stream.0) }
 {
     match find_row(tables.rows().rows(), frame) {
         Some(row) => filled_at(script, tables, stream, &row, slot_for(&row.slots, stream)),
@@ -56,19 +60,13 @@ pub(crate) fn filled_due(
     }
 }
 
-/// The signal of the device fence, where the buffer that came back early with it has no picture yet.
+/// The signal of the device fence, where a buffer waits for it.
 fn late_at(fence: FenceNo, slot: Option<OpenSlot>) -> Option<AllowedEntry>
-    ensures { (s : SomeState) (r : SomeRow) →
-        option_to_list result ≡ shown (late_at s fence.0 r (option_map slot_of slot)) }
+    ensures { (streams : List SomeSpec) (r : SomeRow) →
+        option_to_list result ≡ shown (late_from streams fence.0 r (option_map slot_of slot)) }
 {
     match slot {
-        Some(slot) => {
-            if slot.settled {
-                None
-            } else {
-                Some(AllowedEntry::Late { fence })
-            }
-        }
+        Some(_) => Some(AllowedEntry::Late { fence }),
         None => None,
     }
 }
@@ -77,8 +75,8 @@ fn late_at(fence: FenceNo, slot: Option<OpenSlot>) -> Option<AllowedEntry>
 pub(crate) fn late_due(tables: &JudgeTables, fence: FenceNo) -> Option<AllowedEntry>
     ensures { option_to_list result ≡ shown (late_in tables.now.state fence.0) }
 {
-    match early_row(tables.rows().rows(), fence) {
-        Some(row) => late_at(fence, early_slot(&row.slots, fence)),
+    match pending_row(tables.rows().rows(), fence) {
+        Some(row) => late_at(fence, pending_slot(&row.slots, fence)),
         None => None,
     }
 }

@@ -1,14 +1,14 @@
 //! The releases that are due.
 ghost use Rattle.std.specs.Prelude.{◌≡◌, ◌<◌, ◌^◌, ◌+◌, ◌++◌, OnOk, length};
 ghost use Rattle.std.specs.List.{flat_map, range_with_len};
-ghost use Rattle.buffer_facts.specs.Homes.{release_in, stream_in};
+ghost use Rattle.state_facts.specs.Homes.{release_in, stream_in};
 ghost use Rattle.allowed_entries.specs.Known.{shown};
 ghost use Rattle.allowed_entries.specs.Readings.{releases_in};
 
 use crate::entry::AllowedEntry;
 use crate::list::add_due;
 use cam_types::{BufferId, Made, NoMemory, StreamIx};
-use judge_tables::JudgeTables;
+use judge_rows::JudgeTables;
 use trace_model::Entry;
 
 /// The release that is due of the buffer with the number. (None has a number past the type's.)

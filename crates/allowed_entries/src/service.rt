@@ -10,7 +10,7 @@ use cam_types::{NoMemory, Script};
 use judge_due::client::client_due;
 use judge_due::drop_due;
 use judge_due::exposures::error_device_due;
-use judge_tables::JudgeTables;
+use judge_rows::JudgeTables;
 
 /// Adds what is due of the next frame.
 #[tactic(auto, unfolding(crate::specs::Readings::next_in))]

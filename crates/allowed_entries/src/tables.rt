@@ -5,10 +5,10 @@ ghost use Rattle.trace_check.specs.Held.{held};
 ghost use Rattle.trace_model.specs.Legal.{IsLegal};
 
 use cam_types::{NoMemory, Script};
-use judge_tables::JudgeTables;
+use judge_rows::JudgeTables;
 use std::alloc::Global;
-use trace_bounds::every_script_is_typed;
 use trace_check::note_by;
+use trace_laws::every_script_is_typed;
 use trace_model::Entry;
 
 /// The tables of the state of entries of which each is allowed after those before it.

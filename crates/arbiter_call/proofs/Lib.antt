@@ -1,2 +1,4 @@
+pub mod Valid
+pub mod Scripts
 pub mod Telling
 pub mod LogTexts

@@ -1,22 +1,22 @@
 -- What `arbiter` answers and writes. (docs/FORMATS.md, several clients)
-use Rattle.std.specs.Prelude.{◌≡◌, ℕ, List, [], ◌∷◌, ◌++◌, Option, Some, None, Result, Ok, Err}
+use Rattle.std.specs.Prelude.{◌≡◌, ℕ, List, [], ◌∷◌, ◌++◌, Option, Some, None, Result, Ok}
 use Rattle.io_edge.specs.States.{SinkState, Writes}
 use Rattle.cam_types.specs.declared.script.Script.{Script}
 use Rattle.camera_arbiter.specs.Answers.{log_of}
 use Rattle.camera_arbiter.specs.Laws.{IsOver, KeepsLaws}
 use Rattle.camera_arbiter.specs.declared.answer.LogLine.{LogLine}
-use Rattle.arbiter_text.specs.Grammar.{arbiter_text_of}
-use Rattle.arbiter_text.specs.Scripts.{script_behind}
-use Rattle.arbiter_text.specs.Spelling.{first_line, last_line, line_of, refused_text}
-use Rattle.arbiter_text.specs.declared.text.ArbiterText.{ArbiterText}
-use Rattle.line_reading.specs.declared.cause.TextRefused.{TextRefused}
-use Rattle.line_reading.specs.declared.cause.TextRefused.TheVariants.{Bad, NoMemory}
-use Rattle.run_laws.specs.Lawful as run_laws
+use Rattle.arbiter_call.specs.Grammar.{arbiter_text_of}
+use Rattle.arbiter_call.specs.Scripts.{script_behind}
+use Rattle.arbiter_call.specs.Spelling.{first_line, last_line, line_of, refused_text}
+use Rattle.arbiter_call.specs.declared.text.ArbiterText.{ArbiterText}
+use Rattle.text_parts.specs.declared.cause.TextRefused.{TextRefused}
+use Rattle.run_model.specs.Lawful as run_laws
 use Rattle.run_model.specs.History.{trace_of}
 use Rattle.run_model.specs.Played.{IsPlayedRun}
 use Rattle.run_model.specs.declared.step.Move.{Move}
-use Rattle.run_output.specs.Texts.{text_in}
-use Rattle.run_output.specs.declared.output.Output.TheVariants.{Summary}
+use Rattle.call_parts.specs.Meanings.{OfMeaning}
+use Rattle.call_parts.specs.Texts.{text_in}
+use Rattle.call_parts.specs.declared.output.Output.TheVariants.{Summary}
 
 -- the summary of the played run of a session's script, which is complete and keeps the laws
 pub record IsSummary (script : Script) (told : List ℕ) : Type 0 where
@@ -60,9 +60,8 @@ pub record IsArbitratedText (text : ArbiterText) (told : List ℕ) : Type 0 wher
 
 -- the status and the whole text that belong to what a text means
 abbrev pub ArbitratesText : Result ArbiterText TextRefused → ℕ → List ℕ → Type 0
-ArbitratesText (Ok text) status told = (status ≡ 0) × IsArbitratedText text told
-ArbitratesText (Err (Bad line cause)) status told = (status ≡ 1) × (told ≡ refused_text line cause)
-ArbitratesText (Err NoMemory) status told = ⊥
+ArbitratesText meaning status told =
+    OfMeaning refused_text (λ text number said. (number ≡ 0) × IsArbitratedText text said) meaning status told
 
 abbrev pub Arbitrates : List ℕ → ℕ → List ℕ → Type 0
 Arbitrates input status told = ArbitratesText (arbiter_text_of input) status told

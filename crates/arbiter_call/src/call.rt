@@ -1,21 +1,48 @@
 //! `arbiter`: what clients ask of cameras is answered, and their sessions are played.
 ghost use Rattle.std.specs.Prelude.{◌≡◌, ◌≢◌, ◌≤◌, IfOk, IfSome, IsTrue, Result};
 ghost use Rattle.std.specs.Io.KnownBytes.{IsAtEnd};
-ghost use Rattle.call_status.specs.Answers.{AnswersWithMemory, Tells, TellsBy};
-ghost use Rattle.call_status.specs.Ends.{CountsSink, CountsSource, ReadsBy};
-ghost use Rattle.arbiter_text.specs.Spelling.{refused_text};
-ghost use Rattle.arbiter_text.specs.Valid.{is_valid};
+ghost use Rattle.call_parts.specs.Answers.{AnswersWithMemory, Tells, TellsBy};
+ghost use Rattle.call_parts.specs.Ends.{CountsSink, CountsSource, ReadsBy};
+ghost use Rattle.arbiter_call.specs.Spelling.{refused_text};
+ghost use Rattle.arbiter_call.specs.Valid.{is_valid};
 ghost use Rattle.arbiter_call.specs.Arbitrates.{Arbitrates, ArbitratesText, IsArbitrated, IsArbitratedText};
 
 use crate::sessions::tell_log;
 use crate::text_sink::TextSink;
-use arbiter_text::{ArbiterText, read, refused_text};
-use call_status::{Status, answer};
+use crate::{ArbiterText, read, refused_text};
+use call_parts::{InputWork, Status, answer, answer_input};
 use cam_types::{NoMemory, SCRIPT_BYTES};
 use camera_arbiter::{arbitrate, every_log_keeps_the_laws};
-use io_edge::{ReadBytes, ReadFault, Sink, Source, read_all};
-use line_reading::{Cause, TextRefused};
+use io_edge::{Sink, Source};
 use std::alloc::Global;
+use text_parts::{Cause, TextRefused};
+
+/// What `arbiter` makes of its input.
+#[derive(Drop)]
+struct Arbiter;
+
+impl InputWork for Arbiter {
+    ghost use Rattle.text_parts.specs.declared.cause.Cause.TheVariants.{Limit};
+    ghost use Rattle.arbiter_call.specs.Arbitrates.{Arbitrates};
+    ghost use Rattle.arbiter_call.specs.Spelling.{refused_text};
+
+    ghost limit = { 65536 };
+
+    ghost belongs = { λ _. Arbitrates };
+
+    ghost refusal = { λ _. refused_text 0 Limit };
+
+    fn refuse_long<K: Sink>(&self, alloc: Global, sink: &mut K) -> Status {
+        refuse(alloc, 0, Cause::Limit, sink)
+    }
+
+    fn answer_whole<K: Sink>(&self, alloc: Global, input: &[u8], sink: &mut K) -> Status {
+        answer_text(alloc, input, sink)
+    }
+
+    #[tactic(auto, using(crate::proofs::Telling::are_told, crate::proofs::Telling::long_refused))]
+    fn keeps_the_laws(&self) {}
+}
 
 /// Reads what clients ask of cameras, answers it, plays each session, and writes the log with the sessions' summaries.
 /// All memory is taken before the first write.
@@ -36,12 +63,7 @@ pub fn arbiter_call<S: Source, K: Sink>(alloc: Global, source: &mut S, sink: &mu
     ensures known { result.number ≤ 5 }
     ensures no_usage { result.number ≢ 2 }
 {
-    match read_all(alloc, source, SCRIPT_BYTES) {
-        Err(ReadFault::Failed) => Status::SOURCE_FAILED,
-        Err(ReadFault::NoMemory) => Status::NO_MEMORY,
-        Ok(ReadBytes::TooLong) => refuse(alloc, 0, Cause::Limit, sink),
-        Ok(ReadBytes::Whole(bytes)) => answer_text(alloc, bytes.as_slice(), sink),
-    }
+    answer_input(alloc, source, sink, SCRIPT_BYTES, &Arbiter)
 }
 
 /// Answers what a text asks, and writes the log.

@@ -2,17 +2,16 @@
 ghost use Rattle.std.specs.Prelude.{IfOk, IsTrue, OnOk, reverse};
 ghost use Rattle.std.specs.List.{list_all};
 ghost use Rattle.cam_types.specs.Script.{is_valid};
-ghost use Rattle.arbiter_text.specs.Scripts.{shots_fit};
+ghost use Rattle.arbiter_call.specs.Scripts.{shots_fit};
 ghost use Rattle.arbiter_call.specs.Arbitrates.{Adds, IsLineText, IsSummary, IsWholeText};
 
 use crate::text_sink::TextSink;
-use arbiter_text::{FIRST_LINE, LAST_LINE, line_text, script_behind};
-use call_status::Status;
+use crate::{FIRST_LINE, LAST_LINE, line_text, script_behind};
+use call_parts::{Output, Status};
 use cam_types::{NoMemory, Script};
 use camera_arbiter::LogLine;
 use play_calls::{play_prepared, prepare};
-use run_laws::a_complete_run_keeps_the_laws;
-use run_output::Output;
+use run_model::a_complete_run_keeps_the_laws;
 use std::alloc::{AllocError, Global};
 
 /// Plays a session, and appends its summary. The memory of its run is given back before this returns.

@@ -1,20 +1,20 @@
 -- What `auto` answers and writes. (docs/FORMATS.md, automatic exposure)
-use Rattle.std.specs.Prelude.{◌≡◌, ℕ, List, ◌++◌, Result, Ok, Err}
+use Rattle.std.specs.Prelude.{◌≡◌, ℕ, List, ◌++◌, Result, Ok}
 use Rattle.io_edge.specs.States.{SinkState, Writes}
 use Rattle.cam_types.specs.declared.script.Script.{Script}
-use Rattle.exposure_text.specs.Grammar.{auto_text_of}
-use Rattle.exposure_text.specs.Spelling.{refused_text}
-use Rattle.line_reading.specs.declared.cause.TextRefused.{TextRefused}
-use Rattle.line_reading.specs.declared.cause.TextRefused.TheVariants.{Bad, NoMemory}
-use Rattle.exposure_text.specs.declared.text.AutoText.{AutoText}
-use Rattle.auto_output.specs.Lines.{front_of}
-use Rattle.auto_output.specs.Output.{lines_of, script_of, shots_of}
-use Rattle.run_laws.specs.Lawful.{KeepsLaws}
+use Rattle.auto_call.specs.Grammar.{auto_text_of}
+use Rattle.auto_call.specs.Spelling.{refused_text}
+use Rattle.text_parts.specs.declared.cause.TextRefused.{TextRefused}
+use Rattle.auto_call.specs.declared.text.AutoText.{AutoText}
+use Rattle.auto_call.specs.OutputLines.{front_of}
+use Rattle.auto_call.specs.Output.{lines_of, script_of, shots_of}
+use Rattle.run_model.specs.Lawful.{KeepsLaws}
 use Rattle.run_model.specs.History.{trace_of}
 use Rattle.run_model.specs.Played.{IsPlayedRun}
 use Rattle.run_model.specs.declared.step.Move.{Move}
-use Rattle.run_output.specs.Texts.{text_in}
-use Rattle.run_output.specs.declared.output.Output.TheVariants.{Trace}
+use Rattle.call_parts.specs.Meanings.{OfMeaning}
+use Rattle.call_parts.specs.Texts.{text_in}
+use Rattle.call_parts.specs.declared.output.Output.TheVariants.{Trace}
 
 -- the script of the frames of a text's scenes
 abbrev pub frames_script : AutoText → Script
@@ -32,9 +32,8 @@ pub record IsCapturedText (text : AutoText) (told : List ℕ) : Type 0 where
 
 -- the status and the whole text that belong to what a text means
 abbrev pub CapturesText : Result AutoText TextRefused → ℕ → List ℕ → Type 0
-CapturesText (Ok text) status told = (status ≡ 0) × IsCapturedText text told
-CapturesText (Err (Bad line cause)) status told = (status ≡ 1) × (told ≡ refused_text line cause)
-CapturesText (Err NoMemory) status told = ⊥
+CapturesText meaning status told =
+    OfMeaning refused_text (λ text number said. (number ≡ 0) × IsCapturedText text said) meaning status told
 
 abbrev pub Captures : List ℕ → ℕ → List ℕ → Type 0
 Captures input status told = CapturesText (auto_text_of input) status told

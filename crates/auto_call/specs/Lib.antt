@@ -1,1 +1,10 @@
+pub mod Lines
+pub mod Valid
+pub mod Grammar
+pub mod Spelling
+pub mod Brightness
+pub mod Search
+pub mod Scene
+pub mod OutputLines
+pub mod Output
 pub mod Auto

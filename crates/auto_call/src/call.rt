@@ -2,23 +2,48 @@
 ghost use Rattle.std.specs.Prelude.{◌≡◌, ◌≢◌, ◌≤◌, ◌⊎◌, IfSome, IsTrue, Result};
 ghost use Rattle.std.specs.Io.KnownBytes.{IsAtEnd};
 ghost use Rattle.cam_types.specs.Script.{is_valid as is_valid_script};
-ghost use Rattle.call_status.specs.Answers.{AnswersWithMemory, Tells, TellsBy, Untouched};
-ghost use Rattle.call_status.specs.Ends.{CountsSink, CountsSource, ReadsBy};
-ghost use Rattle.exposure_text.specs.Spelling.{refused_text};
-ghost use Rattle.exposure_text.specs.Valid.{is_valid};
+ghost use Rattle.call_parts.specs.Answers.{AnswersWithMemory, Tells, TellsBy, Untouched};
+ghost use Rattle.call_parts.specs.Ends.{CountsSink, CountsSource, ReadsBy};
+ghost use Rattle.auto_call.specs.Spelling.{refused_text};
+ghost use Rattle.auto_call.specs.Valid.{is_valid};
 ghost use Rattle.auto_call.specs.Auto.{Captures, CapturesText, IsCaptured};
 ghost use Rattle.play_calls.specs.Says.{PlaysBehind};
 
-use auto_output::{Drawn, draw_up};
-use call_status::{Status, answer};
+use crate::{AutoText, Drawn, draw_up, refused_text};
+use call_parts::{InputWork, Output, Status, answer, answer_input};
 use cam_types::{SCRIPT_BYTES, Script};
-use exposure_text::{AutoText, refused_text};
-use io_edge::{ReadBytes, ReadFault, Sink, Source, read_all};
-use line_reading::{Cause, TextRefused};
+use io_edge::{Sink, Source};
 use play_calls::{play_behind, prepare};
-use run_laws::a_complete_run_keeps_the_laws;
-use run_output::Output;
+use run_model::a_complete_run_keeps_the_laws;
 use std::alloc::Global;
+use text_parts::{Cause, TextRefused};
+
+/// What `auto` makes of its input.
+#[derive(Drop)]
+struct Auto;
+
+impl InputWork for Auto {
+    ghost use Rattle.text_parts.specs.declared.cause.Cause.TheVariants.{Limit};
+    ghost use Rattle.auto_call.specs.Auto.{Captures};
+    ghost use Rattle.auto_call.specs.Spelling.{refused_text};
+
+    ghost limit = { 65536 };
+
+    ghost belongs = { λ _. Captures };
+
+    ghost refusal = { λ _. refused_text 0 Limit };
+
+    fn refuse_long<K: Sink>(&self, alloc: Global, sink: &mut K) -> Status {
+        refuse_auto(alloc, 0, Cause::Limit, sink)
+    }
+
+    fn answer_whole<K: Sink>(&self, alloc: Global, input: &[u8], sink: &mut K) -> Status {
+        capture_text(alloc, input, sink)
+    }
+
+    #[tactic(auto, using(crate::proofs::Capturing::are_told, crate::proofs::Capturing::long_refused))]
+    fn keeps_the_laws(&self) {}
+}
 
 /// Reads scenes, searches an exposure for each, and writes what was found of each frame and scene, and the trace of the
 /// frames.
@@ -39,19 +64,14 @@ pub fn auto_call<S: Source, K: Sink>(alloc: Global, source: &mut S, sink: &mut K
     ensures no_usage { result.number ≢ 2 }
 {
     a_complete_run_keeps_the_laws();
-    match read_all(alloc, source, SCRIPT_BYTES) {
-        Err(ReadFault::Failed) => Status::SOURCE_FAILED,
-        Err(ReadFault::NoMemory) => Status::NO_MEMORY,
-        Ok(ReadBytes::TooLong) => refuse_auto(alloc, 0, Cause::Limit, sink),
-        Ok(ReadBytes::Whole(bytes)) => capture_text(alloc, bytes.as_slice(), sink),
-    }
+    answer_input(alloc, source, sink, SCRIPT_BYTES, &Auto)
 }
 
 /// Searches the scenes that a text asks for, and writes their frames.
 fn capture_text<K: Sink>(alloc: Global, input: &[u8], sink: &mut K) -> Status
     ensures { TellsBy (Captures input.now) result.number (K.state sink.old) (K.state sink.new) }
 {
-    match exposure_text::read(alloc, input) {
+    match crate::read(alloc, input) {
         Err(TextRefused::NoMemory) => Status::NO_MEMORY,
         Err(TextRefused::Bad { line, cause }) => refuse_auto(alloc, line, cause, sink),
         Ok(text) => capture_scenes(alloc, &text, sink),

@@ -2,3 +2,4 @@ pub mod Tests
 pub mod Lists
 pub mod Counts
 pub mod Ranges
+pub mod Options

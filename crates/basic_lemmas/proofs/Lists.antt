@@ -1,11 +1,14 @@
 -- Lemmas on lists.
-use Rattle.std.proofs.Common.{◌≡◌, ℕ, ◌==◌, Bool, true, false, ◌||◌, not, List, [], ◌∷◌, ◌++◌, Some, None, length, filter, find, map, refl, arith, inl, inr}
-use Rattle.std.specs.List.{list_all, list_any}
+use Rattle.std.proofs.Common.{◌≡◌, ℕ, ◌==◌, Bool, true, false, ◌||◌, not, List, [], ◌∷◌, ◌++◌, Some, None, length, filter, find, map, refl, arith, inl, inr, sym, reverse, ◌+◌, ◌-◌, ap, zero, suc, slice_get, take, if◌then◌else◌, ◌∙◌, is_some}
+use Rattle.std.specs.List.{list_all, list_any, find}
 use Rattle.std.specs.Option.{option_map}
-use Rattle.std.proofs.lemmas.Bool.{and_from, and_parts, both_ways, cases_Bool, false≢true, eqb-true, or_right}
-use Rattle.std.proofs.lemmas.List.{map-append}
+use Rattle.std.proofs.lemmas.Bool.{and_from, and_parts, both_ways, cases_Bool, false≢true, eqb-true, or_right, eq-eqb}
+use Rattle.std.proofs.lemmas.List.{map-append, reverse-append}
 use Rattle.std.proofs.lemmas.List.Elements.{filter-append}
 use Rattle.basic_lemmas.proofs.Tests.{or-crossed}
+use Rattle.std.proofs.lemmas.List.Sorted.{IsPermutation-reverse, list_any-IsPermutation}
+use Rattle.std.specs.Prelude.{slice_get}
+use Rattle.std.proofs.lemmas.List.Folds.{list_all-append}
 
 pub any-or : {X : Type 0} (p q : X → Bool) (xs : List X) → list_any (λ x. p x || q x) xs ≡ (list_any p xs || list_any q xs)
 any-or p q [] = refl
@@ -216,4 +219,98 @@ any-at p (y ∷ xs) x h k =
     elim (cases_Bool (y == x)) [
       | inl here ↦ (let at = eqb-true y x here in rw (at, k) refl)
       | inr other ↦ (let h' = rw other at h in or_right (p y) (list_any p xs) (any-at p xs x h' k))
+    ]
+
+pub any-reversed : {X : Type 0} (p : X → Bool) (xs : List X) → list_any p (reverse xs) ≡ list_any p xs
+any-reversed p xs = sym (list_any-IsPermutation p xs (reverse xs) (IsPermutation-reverse xs))
+
+pub get-last : {X : Type 0} (xs : List X) (x : X) → slice_get (xs ++ x ∷ []) (length xs) ≡ Some x
+get-last [] x = refl
+get-last (z ∷ xs) x = get-last xs x
+
+pub all-reversed : {X : Type 0} (p : X → Bool) (xs : List X) → list_all p xs ≡ true → list_all p (reverse xs) ≡ true
+all-reversed p [] h = refl
+all-reversed p (x ∷ xs) h =
+    let parts = and_parts (p x) (list_all p xs) h in
+    rw (reverse-append (x ∷ []) xs, list_all-append, all-reversed p xs parts.1, parts.0) refl
+
+pub append-none : {X : Type 0} (xs : List X) → xs ++ [] ≡ xs
+append-none [] = refl
+append-none {X} (x ∷ xs) = ap (λ (z : List X). x ∷ z) (append-none xs)
+
+pub any-agree : {X : Type 0} (p q : X → Bool) (xs : List X) → ((x : X) → p x ≡ q x) → list_any p xs ≡ list_any q xs
+any-agree p q [] h = refl
+any-agree p q (x ∷ xs) h = rw (h x, any-agree p q xs h) refl
+
+pub found-passes : {X : Type 0} (p : X → Bool) (xs : List X) (x : X) → find p xs ≡ Some x → p x ≡ true
+found-passes p [] x h = absurd (cc)
+found-passes p (y ∷ xs) x h =
+    elim (cases_Bool (p y)) [
+      | inl here ↦ (let h' = rw here at h in let same : y ≡ x = cc in rw same at here)
+      | inr other ↦ (let h' = rw other at h in found-passes p xs x h')
+    ]
+
+pub all-at : {X : Type 0} (p : X → Bool) (xs : List X) (i : ℕ) (x : X) → list_all p xs ≡ true → slice_get xs i ≡ Some x → p x ≡ true
+all-at p [] i x all h = absurd (cc)
+all-at p (y ∷ xs) zero x all h = let parts = and_parts (p y) (list_all p xs) all in let same : y ≡ x = cc in rw same at parts.0
+all-at p (y ∷ xs) (suc i) x all h = all-at p xs i x (and_parts (p y) (list_all p xs) all).1 h
+
+pub all-taken : {X : Type 0} (p : X → Bool) (n : ℕ) (xs : List X) → list_all p xs ≡ true → list_all p (take n xs) ≡ true
+all-taken p zero xs h = refl
+all-taken p (suc n) [] h = refl
+all-taken p (suc n) (x ∷ xs) h = let q = and_parts (p x) (list_all p xs) h in and_from _ _ q.0 (all-taken p n xs q.1)
+
+pub any-appended : {X : Type 0} (p : X → Bool) (xs ys : List X) → list_any p (xs ++ ys) ≡ (list_any p xs || list_any p ys)
+any-appended p [] ys = refl
+any-appended p (x ∷ xs) ys = rw (any-appended p xs ys) (again (p x) (list_any p xs) (list_any p ys))
+  where
+    again : (a b c : Bool) → (a || (b || c)) ≡ ((a || b) || c)
+    again true b c = refl
+    again false b c = refl
+
+pub found-changed : {X : Type 0} (key : X → ℕ) (change : X → X) (n : ℕ) (xs : List X) → ((x : X) → key (change x) ≡ key x) → find (λ x. key x == n) (map (λ x. if key x == n then change x else x) xs) ≡ option_map change (find (λ x. key x == n) xs)
+found-changed key change n [] same = refl
+found-changed key change n (x ∷ xs) same =
+    let ih = found-changed key change n xs same in
+    elim (cases_Bool (key x == n)) [
+      | inl here ↦ (let here' : (key (change x) == n) ≡ true = ap (λ k. k == n) (same x) ∙ here in rw (here, here') refl)
+      | inr other ↦ rw (other, other) ih
+    ]
+
+pub filter-agree : {X : Type 0} (p q : X → Bool) (xs : List X) → ((x : X) → p x ≡ q x) → filter p xs ≡ filter q xs
+filter-agree p q [] same = refl
+filter-agree p q (x ∷ xs) same = rw (same x, filter-agree p q xs same) refl
+
+pub any-first : {X : Type 0} (p : X → Bool) (xs ys : List X) → list_any p xs ≡ true → list_any p (xs ++ ys) ≡ true
+any-first p [] ys h = absurd (false≢true h)
+any-first p (x ∷ xs) ys h =
+    elim (cases_Bool (p x)) [ inl here ↦ rw here refl | inr over ↦ (let h' = rw over at h in rw over (any-first p xs ys h')) ]
+
+pub any-back : {X : Type 0} (p : X → Bool) (xs ys : List X) → list_any p ys ≡ true → list_any p (xs ++ ys) ≡ true
+any-back p [] ys h = h
+any-back p (x ∷ xs) ys h = or_right (p x) (list_any p (xs ++ ys)) (any-back p xs ys h)
+
+pub any-found : {X : Type 0} (p : X → Bool) (xs : List X) → list_any p xs ≡ is_some (find p xs)
+any-found p [] = refl
+any-found p (x ∷ xs) = elim (cases_Bool (p x)) [ inl here ↦ rw here refl | inr other ↦ rw other (any-found p xs) ]
+
+pub found-listed : (p : ℕ → Bool) (xs : List ℕ) (x : ℕ) → find p xs ≡ Some x → list_any (λ y. y == x) xs ≡ true
+found-listed p [] x h = absurd (cc)
+found-listed p (y ∷ xs) x h =
+    elim (cases_Bool (p y)) [
+      | inl here ↦ (let h' = rw here at h in let same : y ≡ x = cc in rw (eq-eqb y x same) refl)
+      | inr other ↦ (let h' = rw other at h in or_right (y == x) (list_any (λ z. z == x) xs) (found-listed p xs x h'))
+    ]
+
+pub all-map : {X Y : Type 0} (p : Y → Bool) (f : X → Y) (xs : List X) → ((x : X) → p (f x) ≡ true) → list_all p (map f xs) ≡ true
+all-map p f [] each = refl
+all-map p f (x ∷ xs) each = rw (each x) (all-map p f xs each)
+
+pub all-found : {X : Type 0} (p q : X → Bool) (xs : List X) (x : X) → list_all p xs ≡ true → find q xs ≡ Some x → p x ≡ true
+all-found p q [] x all h = absurd (cc)
+all-found p q (y ∷ xs) x all h =
+    let parts = and_parts (p y) (list_all p xs) all in
+    elim (cases_Bool (q y)) [
+      | inl here ↦ (let h' = rw here at h in let same : y ≡ x = cc in rw same at parts.0)
+      | inr other ↦ (let h' = rw other at h in all-found p q xs x parts.1 h')
     ]

@@ -1,7 +1,8 @@
 -- Lemmas on tests, beside those of the library (`Rattle.std.proofs.lemmas.Bool`).
-use Rattle.std.proofs.Common.{◌≡◌, ℕ, ◌==◌, ◌+◌, Bool, true, false, ◌&&◌, ◌||◌, not, cond, if◌then◌else◌, Some, None, refl, arith, inl, inr, ◌⊎◌, nat_lt}
+use Rattle.std.proofs.Common.{◌≡◌, ℕ, ◌==◌, ◌+◌, Bool, true, false, ◌&&◌, ◌||◌, not, cond, if◌then◌else◌, Some, None, refl, arith, inl, inr, ◌⊎◌, nat_lt, zero, suc, ◌-◌, ◌∷◌, ap, map, sym, ◌<◌, ◌≤◌}
 use Rattle.std.proofs.lemmas.Bool.{both_ways, false≢true}
 use Rattle.std.proofs.lemmas.Bool.Decides.{nat_tests}
+use Rattle.std.specs.Prelude.{replicate, ◌&&◌}
 
 -- ---- and
 
@@ -12,10 +13,6 @@ and-false false = refl
 pub and-true : (a : Bool) → (a && true) ≡ a
 and-true true = refl
 and-true false = refl
-
-pub and-not : (a : Bool) → (a && not a) ≡ false
-and-not true = refl
-and-not false = refl
 
 -- ---- or
 
@@ -30,11 +27,6 @@ or-alone false h = h
 pub or-again : (a b c : Bool) → ((a || b) || c) ≡ (a || (b || c))
 or-again true b c = refl
 or-again false b c = refl
-
-pub or-turned : (a b c : Bool) → (a || (b || c)) ≡ (b || (a || c))
-or-turned true true c = refl
-or-turned true false c = refl
-or-turned false b c = refl
 
 pub or-crossed : (a b c d : Bool) → ((a || b) || (c || d)) ≡ ((a || c) || (b || d))
 or-crossed true b c d = refl
@@ -85,11 +77,83 @@ passed-where b x y h = (given-where b x y h).0
 pub eq-turned : (d f : ℕ) → (f == d) ≡ false → (d == f) ≡ false
 eq-turned d f h = grind (arith, nat_tests, h)
 
-pub lt-next : (f a b : ℕ) → f ≡ a → b ≡ 1 + a → nat_lt f b ≡ true
-lt-next f a b at next = grind (arith, nat_tests, at, next)
-
 pub lt-more : (f n m : ℕ) → m ≡ 1 + n → nat_lt f n ≡ true → nat_lt f m ≡ true
 lt-more f n m next low = grind (arith, nat_tests, next, low)
 
-pub lt-more-by : (f a b k : ℕ) → nat_lt f a ≡ true → b ≡ k + a → nat_lt f b ≡ true
-lt-more-by f a b k low next = grind (arith, nat_tests, low, next)
+pub or-true : (a : Bool) → (a || true) ≡ true
+or-true true = refl
+or-true false = refl
+
+pub map-replicate : {X Y : Type 0} (f : X → Y) (n : ℕ) (x : X) → map f (replicate n x) ≡ replicate n (f x)
+map-replicate f zero x = refl
+map-replicate f (suc n) x = ap (λ xs. f x ∷ xs) (map-replicate f n x)
+
+pub not-true : (b : Bool) → not b ≡ true → b ≡ false
+not-true true h = absurd (cc)
+not-true false h = refl
+
+pub own-number : (n : ℕ) → (n == n) ≡ true
+own-number n = grind (arith, nat_tests)
+
+pub or-first : (a b : Bool) → (a || b) ≡ false → a ≡ false
+or-first true b h = h
+or-first false b h = refl
+
+pub or-second : (a b : Bool) → (a || b) ≡ false → b ≡ false
+or-second true b h = absurd (false≢true (sym h))
+or-second false b h = h
+
+pub not-false : (b : Bool) → not b ≡ false → b ≡ true
+not-false true h = refl
+not-false false h = absurd (false≢true (sym h))
+
+pub or-neither : (a b : Bool) → a ≡ false → b ≡ false → (a || b) ≡ false
+or-neither a b h g = rw (h, g) refl
+
+pub equal-turned : (a b : ℕ) → (a == b) ≡ (b == a)
+equal-turned a b = grind (arith, nat_tests)
+
+pub or-right : (a b : Bool) → b ≡ true → (a || b) ≡ true
+or-right true b h = refl
+or-right false b h = h
+
+pub not-so : (b : Bool) → (b ≡ true → ⊥) → b ≡ false
+not-so true h = absurd (h refl)
+not-so false h = refl
+
+pub and-none : (a b : Bool) → (a && b) ≡ false → a ≡ true → b ≡ false
+and-none true b h k = h
+and-none false b h k = absurd (false≢true k)
+
+pub two-ways : (a b : Bool) → (a ≡ true → b ≡ true) → (b ≡ true → a ≡ true) → a ≡ b
+two-ways true b h k = sym (h refl)
+two-ways false true h k = k refl
+two-ways false false h k = refl
+
+pub and-parts : (a b : Bool) → (a && b) ≡ true → (a ≡ true) × (b ≡ true)
+and-parts true b h = (refl, h)
+and-parts false b h = absurd (false≢true h)
+
+pub done-not-open : (s d : Bool) → s ≡ true → (s && d) ≡ not (s && not d)
+done-not-open true true h = refl
+done-not-open true false h = refl
+done-not-open false d h = absurd (false≢true h)
+
+pub open-not-done : (s d : Bool) → (s && not d) ≡ true → (s && d) ≡ false
+open-not-done true true h = absurd (false≢true h)
+open-not-done true false h = refl
+open-not-done false d h = refl
+
+pub closed-done : (s d : Bool) → (s && not d) ≡ false → (s && d) ≡ s
+closed-done true true h = refl
+closed-done true false h = absurd (false≢true (sym h))
+closed-done false d h = refl
+
+pub no-end : (r d s : Bool) → (s ≡ true → d ≡ true) → (s ≡ false → d ≡ false) → (r && (d && not s)) ≡ false
+no-end true true true a b = refl
+no-end true true false a b = absurd (false≢true (sym (b refl)))
+no-end true false s a b = refl
+no-end false d s a b = refl
+
+pub one-below : (k d n : ℕ) → 1 ≤ k → k ≡ (if nat_lt d n then 1 else 0) → d < n
+one-below k d n some h = grind (arith, nat_tests, some, h)

@@ -17,7 +17,7 @@ use Rattle.cam_types.specs.declared.reply.Reply.{Reply}
 use Rattle.cam_types.specs.declared.stream.StreamSpec.{StreamSpec}
 use Rattle.trace_model.specs.Place.{Pool}
 use Rattle.trace_model.specs.Reply.{made_for}
-use Rattle.buffer_facts.specs.Homes.{count_in}
+use Rattle.state_facts.specs.Homes.{count_in}
 use Rattle.buffer_manager.specs.Managed.{Managed, has_room_for, opened, with_stream}
 use Rattle.buffer_manager.proofs.Opens.{size-few}
 

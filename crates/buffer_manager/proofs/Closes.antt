@@ -4,7 +4,7 @@ use Rattle.std.specs.Prelude.{slice_get, slice_index_or}
 use Rattle.std.specs.List.{list_all, list_any}
 use Rattle.std.proofs.lemmas.Bool.{and_parts, cases_Bool, cases_eq, eqb-true, false≢true}
 use Rattle.std.proofs.lemmas.Bool.Decides.{nat_tests}
-use Rattle.basic_lemmas.proofs.Lists.{all-where, any-mapped}
+use Rattle.basic_lemmas.proofs.Lists.{all-where, any-mapped, get-last}
 use Rattle.cam_types.specs.Picture.{is_size_of, length_in}
 use Rattle.cam_types.specs.Refusals.{is_raw, is_yuv}
 use Rattle.cam_types.specs.declared.stream.Format.{Format}
@@ -33,10 +33,6 @@ pub get-front : {X : Type 0} (xs ys : List X) (k : ℕ) (x : X) → slice_get xs
 get-front [] ys k x h = absurd (cc)
 get-front (z ∷ xs) ys zero x h = h
 get-front (z ∷ xs) ys (suc k) x h = get-front xs ys k x h
-
-pub get-last : {X : Type 0} (xs : List X) (x : X) → slice_get (xs ++ x ∷ []) (length xs) ≡ Some x
-get-last [] x = refl
-get-last (z ∷ xs) x = get-last xs x
 
 -- an element of a list with one more
 pub get-more : {X : Type 0} (xs : List X) (x : X) (k : ℕ) (y : X) → slice_get (xs ++ x ∷ []) k ≡ Some y → (slice_get xs k ≡ Some y) ⊎ (x ≡ y)

@@ -294,7 +294,3 @@ total-few profile end low (s ∷ streams) valid h sizes =
     let size = sizes 0 s refl in
     let few = size-few profile s.spec.format valid in
     omega (arith, rest, size, few)
-
-pub map-replicate : {X Y : Type 0} (f : X → Y) (n : ℕ) (x : X) → map f (replicate n x) ≡ replicate n (f x)
-map-replicate f zero x = refl
-map-replicate f (suc n) x = ap (λ xs. f x ∷ xs) (map-replicate f n x)

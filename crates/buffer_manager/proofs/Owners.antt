@@ -13,7 +13,7 @@ use Rattle.buffer_pool.specs.Parked.{number}
 use Rattle.buffer_pool.specs.declared.parked.Parked.{Parked}
 use Rattle.trace_model.specs.Configuration.{is_made}
 use Rattle.trace_model.specs.Place.{Pool, Device, is_at}
-use Rattle.buffer_facts.specs.Homes.{Homes, at_device_in, least_in, place_in}
+use Rattle.state_facts.specs.Homes.{Homes, at_device_in, least_in, place_in}
 use Rattle.buffer_manager.specs.declared.slot.Slot.{Slot}
 use Rattle.buffer_manager.specs.declared.slot.Slot.TheVariants.{Home}
 use Rattle.buffer_manager.specs.declared.stream.Stream.{Stream}

@@ -8,7 +8,7 @@ use Rattle.cam_types.specs.Shown.{Shown}
 use Rattle.cam_types.specs.declared.number.FenceNo.{FenceNo}
 use Rattle.cam_types.specs.declared.stream.StreamSpec.{StreamSpec}
 use Rattle.trace_model.specs.Place.{Client, is_at}
-use Rattle.buffer_facts.specs.Homes.{Homes, held_in, late_in, place_in, there_in}
+use Rattle.state_facts.specs.Homes.{Homes, held_in, late_in, place_in, there_in}
 use Rattle.buffer_pool.specs.Blocks.{block_length}
 use Rattle.cam_types.specs.Picture.{length_in}
 use Rattle.buffer_manager.specs.declared.slot.Slot.{Slot}

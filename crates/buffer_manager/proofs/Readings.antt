@@ -5,16 +5,11 @@ use Rattle.cam_types.specs.declared.number.BufferId.{BufferId}
 use Rattle.cam_types.specs.declared.number.FenceNo.{FenceNo}
 use Rattle.cam_types.specs.declared.number.FrameNo.{FrameNo}
 use Rattle.cam_types.specs.declared.number.StreamIx.{StreamIx}
-use Rattle.cam_types.specs.declared.stream.StreamSpec.{StreamSpec}
 use Rattle.trace_model.specs.declared.entry.Entry.TheVariants.{Early, Late}
 use Rattle.trace_model.specs.declared.entry.Sent.{Sent}
-use Rattle.trace_model.specs.Place.{Place, Client}
-use Rattle.trace_model.specs.Reply.{made_for}
-use Rattle.buffer_facts.specs.Homes.{configured, noted, put, sent_with}
-use Rattle.buffer_manager.specs.Managed.{Managed, homes_with, moved, reopened, sent_away, with_late, with_picture}
-
-pub moved-is : (signalled : List Bool) (b : ℕ) (p : Place) (f d : Option FenceNo) (picture : Option (List ℕ)) (m : Managed) → homes_with signalled (moved b p f d picture m) ≡ put b p f d (homes_with signalled m)
-moved-is signalled b p f d picture m = refl
+use Rattle.trace_model.specs.Place.{Client}
+use Rattle.state_facts.specs.Homes.{noted, sent_with}
+use Rattle.buffer_manager.specs.Managed.{Managed, homes_with, moved, sent_away, with_late, with_picture}
 
 pub early-is : (signalled : List Bool) (n : FrameNo) (s : StreamIx) (b : BufferId) (d : FenceNo) (m : Managed) → homes_with signalled (with_late (moved b.0 Client None (Some d) None m)) ≡ noted (Early n s b d) (homes_with signalled m)
 early-is signalled n s b d m = refl
@@ -24,6 +19,3 @@ late-is signalled d b picture digest m = refl
 
 pub sent-is : (signalled : List Bool) (targets : List Sent) (m : Managed) → homes_with signalled (sent_away targets m) ≡ sent_with targets (homes_with signalled m)
 sent-is signalled targets m = refl
-
-pub reopened-is : (signalled : List Bool) (specs : List StreamSpec) (m : Managed) → homes_with signalled (reopened specs m) ≡ configured (made_for m.profile (m.first + length m.places) specs) (homes_with signalled m)
-reopened-is signalled specs m = refl

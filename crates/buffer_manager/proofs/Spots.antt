@@ -10,6 +10,7 @@ use Rattle.buffer_manager.specs.declared.slot.Slot.{Slot}
 use Rattle.buffer_manager.specs.declared.slot.Slot.TheVariants.{Home, Away, Filled, Early, Late}
 use Rattle.buffer_manager.specs.Slots.{awaited_of, is_timely, place_of, slot_at}
 use Rattle.buffer_manager.specs.Kept.{AreTimely}
+use Rattle.state_facts.proofs.Own.{at-client}
 
 pub slot-here : (first : ℕ) (slots : List Slot) (b : ℕ) (v : Slot) → first ≤ b → b - first < length slots → slot_at first (slice_set slots (b - first) v) b ≡ v
 slot-here first slots b v low within =
@@ -55,11 +56,6 @@ is-device Pool h = absurd (false≢true h)
 is-device Device h = refl
 is-device Client h = absurd (false≢true h)
 
-pub is-client : (p : Place) → is_at p Client ≡ true → p ≡ Client
-is-client Pool h = absurd (false≢true h)
-is-client Device h = absurd (false≢true h)
-is-client Client h = refl
-
 -- the place of a buffer, as a state of a trace reads it
 abbrev pub place_at : ℕ → List Slot → ℕ → Place
 place_at first slots b = if nat_le first b then slice_index_or (map place_of slots) (b - first) Pool else Pool
@@ -95,7 +91,7 @@ pub client-at : (first : ℕ) (slots : List Slot) (b : ℕ) → is_at (place_at 
 client-at first slots b h = elim (cases_Bool (nat_le first b)) [
   | inl yes' ↦ (
       let h' : is_at (slice_index_or (map place_of slots) (b - first) Pool) Client ≡ true = rw yes' at h in
-      let at = placed-at slots (b - first) Client refl (is-client (slice_index_or (map place_of slots) (b - first) Pool) h') in record {
+      let at = placed-at slots (b - first) Client refl (at-client (slice_index_or (map place_of slots) (b - first) Pool) h') in record {
         low = grind (arith, nat_tests, yes');
         within = at.0;
         here = at.1;

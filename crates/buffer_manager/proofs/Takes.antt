@@ -15,7 +15,7 @@ use Rattle.buffer_pool.specs.Parked.{number}
 use Rattle.buffer_pool.specs.declared.parked.Parked.{Parked}
 use Rattle.trace_model.specs.declared.entry.Sent.{Sent}
 use Rattle.trace_model.specs.Place.{Place, Pool, is_at}
-use Rattle.buffer_facts.specs.Homes.{Homes, fence_in, least_in, place_in}
+use Rattle.state_facts.specs.Homes.{Homes, fence_in, least_in, place_in}
 use Rattle.buffer_manager.specs.Resting.{Resting, listed, resting}
 use Rattle.buffer_manager.proofs.Resting.{take_is}
 use Rattle.buffer_manager.specs.declared.slot.Slot.{Slot}

@@ -9,7 +9,7 @@ use Rattle.cam_types.specs.declared.stream.StreamSpec.{StreamSpec}
 use Rattle.buffer_pool.specs.declared.parked.Parked.{Parked}
 use Rattle.trace_model.specs.declared.entry.Sent.{Sent}
 use Rattle.trace_model.specs.Send.{with_target}
-use Rattle.buffer_facts.specs.Homes.{Homes}
+use Rattle.state_facts.specs.Homes.{Homes}
 use Rattle.buffer_manager.specs.Managed.{Managed, sent_away, sent_if}
 use Rattle.buffer_manager.specs.Taking.{IsTakenAt, has_one, least_target_in, least_targets_in, no_four, put_before, target_if}
 

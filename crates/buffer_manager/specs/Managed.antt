@@ -13,7 +13,7 @@ use Rattle.trace_model.specs.Configuration.{is_made}
 use Rattle.trace_model.specs.Place.{Place, Pool, Device, Client, is_at}
 use Rattle.trace_model.specs.Reply.{made_for}
 use Rattle.trace_model.specs.declared.entry.Sent.{Sent}
-use Rattle.buffer_facts.specs.Homes.{Homes, count_in, held_in, late_in, place_in, put_all, there_in}
+use Rattle.state_facts.specs.Homes.{Homes, count_in, held_in, late_in, place_in, put_all, there_in}
 
 -- Where the buffers of a configuration are, as the side keeps it that owns those which the device hasn't (camera3.h,
 -- process_capture_result: a buffer that was sent is the device's until it comes back).
@@ -69,7 +69,7 @@ abbrev pub IsBufferAt : Option StreamSpec → Shown → Type 0
 IsBufferAt (Some spec) pixels = IsBufferFor spec pixels.id pixels
 IsBufferAt None pixels = ⊥
 
--- buffer b goes to a place, with a fence and with a device fence (see `put` of buffer_facts), and shows the client these
+-- buffer b goes to a place, with a fence and with a device fence (see `put` of state_facts), and shows the client these
 -- bytes
 abbrev pub moved : ℕ → Place → Option FenceNo → Option FenceNo → Option (List ℕ) → Managed → Managed
 moved b place fence device picture m =
@@ -130,7 +130,7 @@ picture_in m b = if nat_le m.first b then slice_index_or m.pictures (b - m.first
 abbrev pub away_count : Homes → ℕ → ℕ → ℕ
 away_count homes a n = length (filter (λ b. is_at (place_in homes b) Device) (range_with_len a n))
 
--- the buffers of the targets go to the device, and their fences with them (see `sent_with` of buffer_facts)
+-- the buffers of the targets go to the device, and their fences with them (see `sent_with` of state_facts)
 abbrev pub sent_away : List Sent → Managed → Managed
 sent_away targets m =
     record m {

@@ -6,7 +6,7 @@ use Rattle.buffer_pool.specs.declared.parked.Parked.{Parked}
 use Rattle.fill_jobs.specs.Buffers.{IsBufferFor}
 use Rattle.trace_model.specs.declared.entry.Sent.{Sent}
 use Rattle.trace_model.specs.Send.{with_target}
-use Rattle.buffer_facts.specs.Homes.{Homes, fence_in, least_in}
+use Rattle.state_facts.specs.Homes.{Homes, fence_in, least_in}
 
 -- The buffers that go to the device with a frame (camera3.h, camera3_capture_request). That each stream's least goes
 -- first is our own choice.

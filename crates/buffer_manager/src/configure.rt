@@ -4,17 +4,16 @@ ghost use Rattle.std.specs.List.{list_all};
 ghost use Rattle.cam_types.specs.Picture.{is_offered};
 ghost use Rattle.cam_types.specs.Profile.{is_profile};
 ghost use Rattle.cam_types.specs.Refusals.{specs_refusal};
-ghost use Rattle.fence_tokens.specs.Fences.{made};
-ghost use Rattle.buffer_facts.specs.Homes.{all_home};
+ghost use Rattle.buffer_pool.specs.Fences.{made};
+ghost use Rattle.state_facts.specs.Homes.{all_home};
 ghost use Rattle.buffer_manager.specs.Closing.{AreClosable, AreCounted, SameTotal, homes_only};
 ghost use Rattle.buffer_manager.specs.Managed.{cleared, has_room_for, homes_with, is_given, reopened, with_stream};
 
 use crate::manager::BufferManager;
 use crate::slot::{Slot, take_home};
 use crate::stream::Stream;
-use buffer_pool::{Blocks, Pool};
+use buffer_pool::{Blocks, Fences, Pool};
 use cam_types::{BufferId, Made, SpecList, StreamSpec};
-use fence_tokens::Fences;
 
 impl BufferManager {
     /// Closes the pools, whose buffers are all at home, and opens fresh ones for the streams of an accepted

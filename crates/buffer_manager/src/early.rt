@@ -1,14 +1,14 @@
 //! Buffers go to the client before their pictures, with device fences that say when these are there.
 ghost use Rattle.std.specs.Prelude.{◌≡◌, ◌<◌, [], None, Some, IsTrue, is_some, length, slice_get};
 ghost use Rattle.trace_model.specs.Place.{Client, Device, is_at};
-ghost use Rattle.buffer_facts.specs.Homes.{held_in, place_in};
+ghost use Rattle.state_facts.specs.Homes.{held_in, place_in};
 ghost use Rattle.buffer_manager.specs.Managed.{IsAwaited, IsBufferAt, IsOf, homes_with, moved, with_late, with_picture};
 ghost use Rattle.buffer_manager.specs.Slots.{awaited_of};
 
 use crate::manager::BufferManager;
 use crate::slot::{Slot, end_away, swap_slot};
+use buffer_pool::{Signaller, Waiter};
 use cam_types::{BufferId, FenceNo, PixelBuf, StreamIx};
-use fence_tokens::{Signaller, Waiter};
 
 impl BufferManager {
     /// Lets a buffer of a stream go to the client early, and gives the device fence that says when its picture is

@@ -1,15 +1,14 @@
 //! Buffers come home, or go to the client.
 ghost use Rattle.std.specs.Prelude.{◌≡◌, ◌<◌, [], None, Some, IfSome, IsTrue, true, length, slice_get};
 ghost use Rattle.trace_model.specs.Place.{Client, Device, Pool, is_at};
-ghost use Rattle.buffer_facts.specs.Homes.{place_in};
+ghost use Rattle.state_facts.specs.Homes.{place_in};
 ghost use Rattle.buffer_manager.specs.Managed.{IsBufferAt, IsOf, fence_from, homes_with, moved};
 
 use crate::manager::BufferManager;
 use crate::slot::{Slot, end_away, swap_slot};
 use crate::stream::give_to;
-use buffer_pool::Parked;
+use buffer_pool::{Parked, Waiter};
 use cam_types::{FenceNo, PixelBuf, StreamIx};
-use fence_tokens::Waiter;
 
 impl BufferManager {
     /// Gives a filled buffer of a stream to the client.

@@ -5,9 +5,8 @@ ghost use Rattle.buffer_manager.specs.Managed.{no_buffers};
 
 use crate::slot::Slot;
 use crate::stream::Stream;
-use buffer_pool::Blocks;
+use buffer_pool::{Blocks, Fences};
 use cam_types::{Format, NoMemory, Profile, STREAM_LIMIT};
-use fence_tokens::Fences;
 use std::alloc::Global;
 use std::marker::Model;
 

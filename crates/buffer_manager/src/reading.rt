@@ -3,7 +3,7 @@ ghost use Rattle.std.specs.Prelude.{◌≡◌, ◌+◌, ◌≤◌, ◌^◌, [], 
 ghost use Rattle.std.specs.List.{list_all, range_with_len};
 ghost use Rattle.std.specs.Option.{option_map};
 ghost use Rattle.trace_model.specs.Place.{Device, Pool, is_at};
-ghost use Rattle.buffer_facts.specs.Homes.{all_home, at_device_in, place_in};
+ghost use Rattle.state_facts.specs.Homes.{all_home, at_device_in, place_in};
 ghost use Rattle.buffer_manager.specs.Managed.{away_count, homes_with, may_be_released, picture_in};
 ghost use Rattle.buffer_manager.specs.Slots.{has_picture, picture_of, place_of};
 

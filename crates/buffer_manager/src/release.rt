@@ -1,7 +1,7 @@
 //! Buffers come home from the client.
 ghost use Rattle.std.specs.Prelude.{◌≡◌, ◌<◌, None, Some, IsTrue};
 ghost use Rattle.std.specs.List.{position_from};
-ghost use Rattle.fence_tokens.specs.Fences.{is_signalled, made};
+ghost use Rattle.buffer_pool.specs.Fences.{is_signalled, made};
 ghost use Rattle.trace_model.specs.Configuration.{is_made};
 ghost use Rattle.trace_model.specs.Place.{Pool};
 ghost use Rattle.buffer_manager.specs.Managed.{fence_from, may_be_released, moved};
@@ -10,9 +10,8 @@ ghost use Rattle.buffer_manager.specs.Slots.{has_picture, is_timely, pixels_of};
 use crate::manager::BufferManager;
 use crate::slot::{Slot, swap_slot};
 use crate::stream::{Stream, give_to};
-use buffer_pool::Parked;
+use buffer_pool::{Fences, Parked, Waiter};
 use cam_types::{BufferId, FenceNo, PixelBuf};
-use fence_tokens::{Fences, Waiter};
 
 impl BufferManager {
     /// Takes a buffer back from the client, with the waiter of the fence that says when the client is done with it.

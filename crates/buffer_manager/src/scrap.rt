@@ -1,7 +1,7 @@
 //! The manager ends, and spends all that it owns.
 ghost use Rattle.std.specs.Prelude.{◌≡◌, ◌<◌, IsTrue, true};
 ghost use Rattle.std.specs.List.{list_all};
-ghost use Rattle.fence_tokens.specs.Fences.{made};
+ghost use Rattle.buffer_pool.specs.Fences.{made};
 ghost use Rattle.buffer_manager.specs.Managed.{is_given};
 ghost use Rattle.buffer_manager.specs.Slots.{is_made_slot};
 ghost use Rattle.buffer_manager.specs.Streams.{waits_for_made};
@@ -9,7 +9,7 @@ ghost use Rattle.buffer_manager.specs.Streams.{waits_for_made};
 use crate::manager::BufferManager;
 use crate::slot::Slot;
 use crate::stream::Stream;
-use fence_tokens::Fences;
+use buffer_pool::Fences;
 
 impl BufferManager {
     /// Spends the buffers at home and at the client, and their tokens. The fences of those at home were made by these.

@@ -3,8 +3,8 @@ ghost use Rattle.std.specs.Prelude.{◌≡◌, ◌<◌, IsTrue, Some, length, sl
 ghost use Rattle.trace_model.specs.Place.{Pool, is_at};
 ghost use Rattle.buffer_manager.specs.Slots.{place_of};
 
+use buffer_pool::{Signaller, Waiter};
 use cam_types::{FenceNo, PixelBuf};
-use fence_tokens::{Signaller, Waiter};
 use std::mem::replace;
 
 /// Where a buffer is. It can't be copied or let go.

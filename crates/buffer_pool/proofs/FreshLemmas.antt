@@ -62,9 +62,6 @@ fresh-away spec first n m home fresh e = below-away home m (numbers-below home f
 all-push : (test : Parked → Bool) (home : List Parked) (p : Parked) → list_all test home ≡ true → test p ≡ true → list_all test (home ++ p ∷ []) ≡ true
 all-push test home p h t = rw list_all-append (and_from _ _ h (rw t refl))
 
-pub fresh-none : (spec : StreamSpec) (first : ℕ) → AreFresh spec first 0 []
-fresh-none spec first = record { numbers = refl; unfenced = refl; whole = refl; shown = refl }
-
 fresh-push : (spec : StreamSpec) (first n : ℕ) (home : List Parked) (p : Parked) → AreFresh spec first n home → number p ≡ first + n → has_no_waiter p ≡ true → is_whole spec.format p ≡ true → shows_picture spec p ≡ true → AreFresh spec first (suc n) (home ++ p ∷ [])
 fresh-push spec first n home p fresh e w b s = record {
   numbers = map-append number home (p ∷ []) ∙ (rw (fresh.numbers, e) (sym (range-push first n)));

@@ -6,7 +6,7 @@ use Rattle.std.proofs.lemmas.Bool.{and_parts, and_from, cases_eq}
 use Rattle.std.proofs.lemmas.Bool.Decides.{nat_tests}
 use Rattle.std.proofs.lemmas.Grind.{common_steps}
 use Rattle.buffer_pool.specs.declared.parked.Parked.{Parked}
-use Rattle.buffer_pool.specs.Home.{Buffers, is_home, is_of, rises, with_parked}
+use Rattle.buffer_pool.specs.Home.{Buffers, is_home, is_of, rises}
 use Rattle.buffer_pool.specs.Parked.{number}
 
 -- the numbers are at least the lowest
@@ -44,14 +44,6 @@ is_of-from pool n g l = grind (arith, nat_tests)
 pub first-passes : (test : Parked → Bool) (home : List Parked) (p : Parked) → list_all test home ≡ true → Some p ≡ slice_get home 0 → test p ≡ true
 first-passes test [] p h e = absurd (cc)
 first-passes test (q ∷ home) p h e = let same : q ≡ p = cc in rw (← same) (and_parts (test q) (list_all test home) h).0
-
-pub others-pass : (test : Parked → Bool) (home : List Parked) → list_all test home ≡ true → list_all test (drop 1 home) ≡ true
-others-pass test [] h = refl
-others-pass test (q ∷ home) h = (and_parts (test q) (list_all test home) h).1
-
-pub length-others : (home : List Parked) (p : Parked) → Some p ≡ slice_get home 0 → length (drop 1 home) + 1 ≡ length home
-length-others [] p e = absurd (cc)
-length-others (q ∷ home) p e = omega arith
 
 not-home : (home : List Parked) (n low end : ℕ) → rises low end home ≡ true → n < low → is_home n home ≡ false
 not-home [] n low end h l = refl

@@ -2,7 +2,7 @@
 use Rattle.std.proofs.Common.{◌≡◌, ℕ, ◌+◌, ◌-◌, refl, ap, ◌∙◌, arith}
 use Rattle.cam_types.specs.declared.stream.Format.{Format}
 use Rattle.cam_types.specs.declared.stream.Format.TheVariants.{Raw16, Yuv, Other}
-use Rattle.buffer_pool.specs.Blocks.{Counts, Stock, free_of, lent_of, lent_out, taken_in, with_lent, with_returned}
+use Rattle.buffer_pool.specs.Blocks.{Counts, Stock, with_lent, with_returned}
 
 counts-same : (a b c d : ℕ) → a ≡ b → c ≡ d → (let k : Counts = record { free = a; lent = c } in k) ≡ record { free = b; lent = d }
 counts-same a b c d e f = rw (e, f) refl
@@ -13,21 +13,6 @@ with_raw b c = record b { raw = c }
 abbrev with_yuv : Stock → Counts → Stock
 with_yuv b c = record b { yuv = c }
 
-pub free_of-lent : (format : Format) (n : ℕ) (b : Stock) → free_of format (with_lent format n b) ≡ free_of format b - n
-free_of-lent Raw16 n b = refl
-free_of-lent Yuv n b = refl
-free_of-lent (Other k) n b = omega arith
-
-pub lent_of-returned : (format : Format) (n : ℕ) (b : Stock) → lent_of format (with_returned format n b) ≡ lent_of format b - n
-lent_of-returned Raw16 n b = refl
-lent_of-returned Yuv n b = refl
-lent_of-returned (Other k) n b = omega arith
-
-pub with_lent-none : (format : Format) (b : Stock) → b ≡ with_lent format 0 b
-with_lent-none Raw16 b = ap (λ (c : Counts). with_raw b c) (counts-same b.raw.free (b.raw.free - 0) b.raw.lent (b.raw.lent + 0) (omega arith) (omega arith))
-with_lent-none Yuv b = ap (λ (c : Counts). with_yuv b c) (counts-same b.yuv.free (b.yuv.free - 0) b.yuv.lent (b.yuv.lent + 0) (omega arith) (omega arith))
-with_lent-none (Other k) b = refl
-
 pub with_lent-more : (format : Format) (n : ℕ) (b : Stock) → with_lent format 1 (with_lent format n b) ≡ with_lent format (n + 1) b
 with_lent-more Raw16 n b = ap (λ (c : Counts). with_raw b c) (counts-same (b.raw.free - n - 1) (b.raw.free - (n + 1)) (b.raw.lent + n + 1) (b.raw.lent + (n + 1)) (omega arith) (omega arith))
 with_lent-more Yuv n b = ap (λ (c : Counts). with_yuv b c) (counts-same (b.yuv.free - n - 1) (b.yuv.free - (n + 1)) (b.yuv.lent + n + 1) (b.yuv.lent + (n + 1)) (omega arith) (omega arith))
@@ -37,8 +22,3 @@ pub with_returned-none : (format : Format) (b : Stock) → b ≡ with_returned f
 with_returned-none Raw16 b = ap (λ (c : Counts). with_raw b c) (counts-same b.raw.free (b.raw.free + 0) b.raw.lent (b.raw.lent - 0) (omega arith) (omega arith))
 with_returned-none Yuv b = ap (λ (c : Counts). with_yuv b c) (counts-same b.yuv.free (b.yuv.free + 0) b.yuv.lent (b.yuv.lent - 0) (omega arith) (omega arith))
 with_returned-none (Other k) b = refl
-
-pub with_returned-more : (format : Format) (n : ℕ) (b : Stock) → with_returned format 1 (with_returned format n b) ≡ with_returned format (n + 1) b
-with_returned-more Raw16 n b = ap (λ (c : Counts). with_raw b c) (counts-same (b.raw.free + n + 1) (b.raw.free + (n + 1)) (b.raw.lent - n - 1) (b.raw.lent - (n + 1)) (omega arith) (omega arith))
-with_returned-more Yuv n b = ap (λ (c : Counts). with_yuv b c) (counts-same (b.yuv.free + n + 1) (b.yuv.free + (n + 1)) (b.yuv.lent - n - 1) (b.yuv.lent - (n + 1)) (omega arith) (omega arith))
-with_returned-more (Other k) n b = refl

@@ -1,10 +1,10 @@
 //! A buffer at rest, with the waiter of its fence.
 ghost use Rattle.std.specs.Prelude.{◌≡◌, ◌<◌, length, IfSome, IsTrue};
-ghost use Rattle.fence_tokens.specs.Fences.{made};
+ghost use Rattle.buffer_pool.specs.Fences.{made};
 ghost use Rattle.buffer_pool.specs.Parked.{has_made_waiter};
 
+use crate::{Fences, Waiter};
 use cam_types::PixelBuf;
-use fence_tokens::{Fences, Waiter};
 
 /// A buffer that no one uses, with the waiter of the fence that must be signalled before it is written, if there is
 /// one. It can't be copied or let go.

@@ -3,17 +3,17 @@ ghost use Rattle.std.specs.Prelude.{◌≡◌, ◌↔◌, ◌+◌, ◌^◌, ◌<
 ghost use Rattle.std.specs.List.{list_all};
 ghost use Rattle.cam_types.specs.Picture.{is_offered, length_in};
 ghost use Rattle.cam_types.specs.Profile.{is_profile, pool_size};
-ghost use Rattle.fence_tokens.specs.Fences.{made};
+ghost use Rattle.buffer_pool.specs.Fences.{made};
 ghost use Rattle.buffer_pool.specs.Blocks.{block_length, free_of, lent_of, with_lent, with_returned};
 ghost use Rattle.buffer_pool.specs.Home.{AllHome, in_order, is_home, is_of, with_parked};
 ghost use Rattle.buffer_pool.specs.Opened.{IsOpened, is_whole};
 ghost use Rattle.buffer_pool.specs.Parked.{has_made_waiter, number};
 
+use crate::Fences;
 use crate::blocks::Blocks;
 use crate::parked::Parked;
 use crate::slots::{Slots, end_slots, make_slots, put, take_first};
 use cam_types::{BufferId, Format, NoMemory, PixelBuf, Profile, StreamSpec, frame_bytes};
-use fence_tokens::Fences;
 use std::alloc::Global;
 use std::marker::Model;
 

@@ -5,10 +5,6 @@ use Rattle.cam_types.specs.declared.number.BufferId.{BufferId}
 use Rattle.cam_types.specs.Over.{written_over}
 use Rattle.cam_types.specs.Shown.{Shown}
 
--- a whole list written over is the new one
-pub written_over-all : (old new : List ℕ) → length new ≡ length old → written_over old new ≡ new
-written_over-all old new h = grind (arith, common_steps)
-
 -- what a Vec holds after its front was written over
 abbrev pub refilled : ℕ → List ℕ → List ℕ → List ℕ
 refilled len items new = let ws = take 0 items ++ (new ++ drop (length new) (drop 0 items)) in take len (ws ++ drop (length ws) items)

@@ -15,11 +15,11 @@ use Rattle.camera_arbiter.specs.Answers.{added, after, answer_to, closed, ended,
 use Rattle.camera_arbiter.specs.Arbitration.{Arbitration}
 use Rattle.camera_arbiter.specs.Laws.{IsOver, KeepsLaws, begins, ends}
 use Rattle.camera_arbiter.specs.Log.{held, holder, session_of}
-use Rattle.camera_arbiter.specs.Ranges.{is_client, is_line, is_session}
+use Rattle.camera_arbiter.specs.Ranges.{is_client, is_line}
 use Rattle.camera_arbiter.specs.declared.answer.Answer.{Answer}
-use Rattle.camera_arbiter.specs.declared.answer.Answer.TheVariants.{Granted, GrantedAfter, Left, Refused}
+use Rattle.camera_arbiter.specs.declared.answer.Answer.TheVariants.{Left}
 use Rattle.camera_arbiter.specs.declared.answer.LogLine.{LogLine}
-use Rattle.camera_arbiter.specs.declared.answer.LogLine.TheVariants.{Evict, Leave}
+use Rattle.camera_arbiter.specs.declared.answer.LogLine.TheVariants.{Leave}
 use Rattle.camera_arbiter.specs.declared.line.ArbiterLine.{ArbiterLine}
 use Rattle.camera_arbiter.specs.declared.line.ArbiterLine.TheVariants as ask
 use Rattle.camera_arbiter.specs.declared.session.ClientId.{ClientId}
@@ -140,23 +140,6 @@ few-ended : (line : Session → LogLine) (session : Option Session) → length (
 few-ended line None = omega arith
 few-ended line (Some s) = omega arith
 
-added-few : (past : List LogLine) (line : ArbiterLine) (answer : Answer) → length (added past line answer) ≤ 2
-added-few past (ask.Connect s) Granted = omega arith
-added-few past (ask.Connect s) (GrantedAfter k) = let one = few-ended Evict (session_of s.camera.0 past) in omega (arith, one)
-added-few past (ask.Connect s) (Left c) = let one = few-ended Leave (session_of c.0 past) in omega (arith, one)
-added-few past (ask.Connect s) (Refused why) = omega arith
-added-few past (ask.Leave k) Granted = omega arith
-added-few past (ask.Leave k) (GrantedAfter j) = omega arith
-added-few past (ask.Leave k) (Left c) = let one = few-ended Leave (session_of c.0 past) in omega (arith, one)
-added-few past (ask.Leave k) (Refused why) = omega arith
-
--- a line adds two at most
-pub after-few : (cameras : ℕ) (past : List LogLine) (line : ArbiterLine) → length (after cameras past line) ≤ length past + 2
-after-few cameras past line =
-    let few = added-few past line (answer_to cameras past line) in
-    let both = length-append (added past line (answer_to cameras past line)) past in
-    omega (arith, few, both)
-
 -- and a camera that is left one
 pub left-few : (session : Option Session) (past : List LogLine) → length (ended Leave session ++ past) ≤ length past + 1
 left-few session past =
@@ -197,15 +180,3 @@ pub record IsAnswered (cameras : ℕ) (lines : List ArbiterLine) (place : ℕ) (
   pub count : arbiter.cameras ≡ cameras
   pub log : log_after cameras arbiter.past (drop place lines) ≡ log_after cameras [] lines
   pub few : length arbiter.past ≤ 2 * place
-
-pub answered-more : (cameras : ℕ) (lines : List ArbiterLine) (place : ℕ) (before now : Arbitration) (line : ArbiterLine) → drop place lines ≡ line ∷ drop (place + 1) lines → IsAnswered cameras lines place before → now ≡ record before { past = after before.cameras before.past line } → IsAnswered cameras lines (place + 1) now
-answered-more cameras lines place before now line cut was is =
-    let past : now.past ≡ after cameras before.past line = ap (λ (a : Arbitration). a.past) is ∙ ap (λ (n : ℕ). after n before.past line) was.count in
-    let few = after-few cameras before.past line in
-    let long = ap length past in
-    let few' = was.few in
-    record {
-      count = ap (λ (a : Arbitration). a.cameras) is ∙ was.count;
-      log = rw past (rw cut at was.log);
-      few = omega (arith, long, few, few');
-    }

@@ -7,12 +7,12 @@ use Rattle.std.proofs.lemmas.Bool.Decides.{nat_tests}
 use Rattle.basic_lemmas.proofs.Counts.{count-one, count-over}
 use Rattle.basic_lemmas.proofs.Lists.{all-append}
 use Rattle.camera_arbiter.proofs.Finding.{find-found, find-missed}
-use Rattle.camera_arbiter.proofs.Sessions.{at-its, at-its-camera, is-its, is-there, named, not-none, passed-over}
-use Rattle.camera_arbiter.specs.Answers.{added, after, answer_to, asked, log_after}
+use Rattle.camera_arbiter.proofs.Sessions.{at-its, at-its-camera, is-its, is-there, named, passed-over}
+use Rattle.camera_arbiter.specs.Answers.{added, after, asked, log_after}
 use Rattle.camera_arbiter.specs.Arbitration.{IsMade}
 use Rattle.camera_arbiter.specs.Laws.{InTurn, IsFair, KeepsLaws, begins, ends}
 use Rattle.camera_arbiter.specs.Log.{begun_by, held, is_of, names, session_of}
-use Rattle.camera_arbiter.specs.Ranges.{is_client, is_count, is_line, is_logged, is_session}
+use Rattle.camera_arbiter.specs.Ranges.{is_count, is_line, is_logged, is_session}
 use Rattle.camera_arbiter.specs.declared.answer.LogLine.{LogLine}
 use Rattle.camera_arbiter.specs.declared.answer.LogLine.TheVariants.{Grant, Evict, Leave, Refused}
 use Rattle.camera_arbiter.specs.declared.answer.Answer.{Answer}

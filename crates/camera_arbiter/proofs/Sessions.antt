@@ -6,7 +6,6 @@ use Rattle.std.proofs.lemmas.Bool.{cases_Bool, false≢true, both_ways}
 use Rattle.std.proofs.lemmas.Bool.Decides.{nat_tests}
 use Rattle.camera_arbiter.specs.Inside.{standing_of}
 use Rattle.camera_arbiter.specs.Log.{begun_by, held, is_of, names, session_of}
-use Rattle.camera_arbiter.specs.Ranges.{is_session}
 use Rattle.camera_arbiter.specs.declared.answer.LogLine.{LogLine}
 use Rattle.camera_arbiter.specs.declared.answer.LogLine.TheVariants.{Grant, Evict, Leave, Refused}
 use Rattle.camera_arbiter.specs.declared.session.Session.{Session}

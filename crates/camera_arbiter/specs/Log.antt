@@ -4,7 +4,6 @@ use Rattle.std.specs.List.{range_with_len}
 use Rattle.std.specs.Option.{option_map}
 use Rattle.camera_arbiter.specs.declared.answer.LogLine.{LogLine}
 use Rattle.camera_arbiter.specs.declared.answer.LogLine.TheVariants.{Grant, Evict, Leave, Refused}
-use Rattle.camera_arbiter.specs.declared.session.CameraId.{CameraId}
 use Rattle.camera_arbiter.specs.declared.session.ClientId.{ClientId}
 use Rattle.camera_arbiter.specs.declared.session.Session.{Session}
 

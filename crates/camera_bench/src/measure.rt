@@ -5,14 +5,15 @@ ghost use Rattle.cam_types.specs.Metadata.{range_fault};
 ghost use Rattle.cam_types.specs.Picture.{is_yuv_size};
 
 use cam_types::{BufferId, FrameNo, PixelBuf, Readout, Settings};
-use raw_stage::{fill_raw, fill_raw_bands};
-use sensor_sim::{ExposedJob, SensorJob, a_readout_lies_between_dark_and_full};
+use picture_stages::{
+    ExposedJob, SensorJob, a_readout_lies_between_dark_and_full, fill_raw, fill_raw_bands,
+    fill_yuv, fill_yuv_bands,
+};
 use sha2::{Digest, Sha256};
 use std::alloc::Global;
 use std::io;
 use std::thread::{Threads, join};
 use std::time::{Clock, Instant};
-use yuv_stage::{fill_yuv, fill_yuv_bands};
 
 /// How often each kind of work is timed, in turns with the digest of as many bytes.
 const TURNS: u32 = 3_200;

@@ -1,11 +1,11 @@
 -- Words of the same texts have the same form.
 use Rattle.std.proofs.Common.{◌≡◌, ℕ, false, List, [], ◌∷◌, Option, Some, None, IfSome, inr, is_some, refl, sym, ap, ◌∙◌, Bor}
 use Rattle.std.specs.Prelude.{map}
-use Rattle.call_status.specs.Ends.{ReadsBy}
-use Rattle.call_status.proofs.Sinks.{reads_nothing}
+use Rattle.call_parts.specs.Ends.{ReadsBy}
+use Rattle.call_parts.proofs.Sinks.{reads_nothing}
 use Rattle.camera_top.specs.Words.{limit_of}
-use Rattle.camera_words.specs.Forms.{alone, form_of, of_three}
-use Rattle.camera_words.specs.declared.form.Form.{Form}
+use Rattle.text_parts.specs.Forms.{alone, form_of, of_three}
+use Rattle.text_parts.specs.declared.form.Form.{Form}
 
 abbrev of-texts : List (List ℕ) → Option Form
 of-texts (word ∷ []) = alone word

@@ -3,13 +3,13 @@
 
 ghost use Rattle.std.specs.Prelude.{◌≡◌, ◌≢◌, ◌≤◌, ℕ, List, false, is_some, map, string_bytes, IfOk, IfSome};
 ghost use Rattle.std.specs.Borrow.{Bor};
-ghost use Rattle.call_status.specs.Ends.{CountsSink, CountsSource, ReadsBy};
-ghost use Rattle.call_status.specs.Program.{number_of};
+ghost use Rattle.call_parts.specs.Ends.{CountsSink, CountsSource, ReadsBy};
+ghost use Rattle.call_parts.specs.Program.{number_of};
 ghost use Rattle.camera_top.specs.Commands.{TellsOf};
 ghost use Rattle.camera_top.specs.Words.{limit_of};
-ghost use Rattle.camera_words.specs.Forms.{form_of};
+ghost use Rattle.text_parts.specs.Forms.{form_of};
 
-use call_status::{code_of, words_of};
+use call_parts::{code_of, words_of};
 use camera_top::{OpenGate, Status, camera_main};
 use io_edge::{NoMemory, Sink, Source, StdSink, StdSource};
 use std::alloc::Global;

@@ -1,11 +1,11 @@
 -- Words of the same texts ask for the same tool.
 use Rattle.std.proofs.Common.{◌≡◌, ℕ, false, List, [], ◌∷◌, Option, Some, None, IfSome, inr, is_some, refl, sym, ap, ◌∙◌, Bor}
 use Rattle.std.specs.Prelude.{map}
-use Rattle.call_status.specs.Ends.{ReadsBy}
-use Rattle.call_status.proofs.Sinks.{reads_nothing}
+use Rattle.call_parts.specs.Ends.{ReadsBy}
+use Rattle.call_parts.proofs.Sinks.{reads_nothing}
 use Rattle.tools_top.specs.Words.{limit_of}
-use Rattle.tools_words.specs.Tools.{alone, of_three, of_two, tool_of}
-use Rattle.tools_words.specs.declared.tool.Tool.{Tool}
+use Rattle.tools_top.specs.Tools.{alone, of_three, of_two, tool_of}
+use Rattle.tools_top.specs.declared.tool.Tool.{Tool}
 
 abbrev of-texts : List (List ℕ) → Option Tool
 of-texts (word ∷ []) = alone word

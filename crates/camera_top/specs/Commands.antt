@@ -1,12 +1,12 @@
 use Rattle.std.specs.Prelude.{ℕ, List, Option, Some, None}
 use Rattle.io_edge.specs.States.{SinkState}
-use Rattle.camera_words.specs.declared.form.Form.{Form}
-use Rattle.camera_words.specs.declared.form.Form.TheVariants.{Play, Run, Check, Convert, Gen, Arbiter, Auto, Logical, Reprocess, Help}
+use Rattle.text_parts.specs.declared.form.Form.{Form}
+use Rattle.text_parts.specs.declared.form.Form.TheVariants.{Play, Run, Check, Convert, Gen, Arbiter, Auto, Logical, Reprocess, Help}
 use Rattle.judge_text.specs.Meaning.{Judges}
-use Rattle.call_status.specs.Answers.{Answers, Tells, TellsBy}
+use Rattle.call_parts.specs.Answers.{Answers, Tells, TellsBy}
 use Rattle.arbiter_call.specs.Arbitrates.{Arbitrates}
 use Rattle.auto_call.specs.Auto.{Captures}
-use Rattle.trace_calls.specs.Converting.{ConvertsInput}
+use Rattle.play_calls.specs.Converting.{ConvertsInput}
 use Rattle.logical_call.specs.Logical.{TellsBoth}
 use Rattle.camera_top.specs.Help.{help_text, usage_line}
 use Rattle.reprocess_call.specs.Reprocess.{Reprocesses}

@@ -1,7 +1,7 @@
 -- Which forms read the source, and how much of it. (docs/FORMATS.md, Limits)
 use Rattle.std.specs.Prelude.{ℕ, Option, Some, None}
-use Rattle.camera_words.specs.declared.form.Form.{Form}
-use Rattle.camera_words.specs.declared.form.Form.TheVariants.{Play, Run, Check, Convert, Arbiter, Auto, Logical, Reprocess}
+use Rattle.text_parts.specs.declared.form.Form.{Form}
+use Rattle.text_parts.specs.declared.form.Form.TheVariants.{Play, Run, Check, Convert, Arbiter, Auto, Logical, Reprocess}
 
 -- the most bytes of an input that the form's command takes, where it reads one: a script's, and a trace's behind its script
 abbrev pub limit_of : Option Form → Option ℕ

@@ -2,16 +2,16 @@
 ghost use Rattle.std.specs.Prelude.{◌≡◌, ◌≢◌, ◌≤◌, ℕ, true, false, is_some, IfSome, Option};
 ghost use Rattle.std.specs.Io.KnownBytes.{IsAtEnd};
 ghost use Rattle.io_edge.specs.States.{Writes};
-ghost use Rattle.camera_words.specs.Forms.{form_of};
+ghost use Rattle.text_parts.specs.Forms.{form_of};
 ghost use Rattle.generated_scripts.specs.Generated.{generated};
-ghost use Rattle.call_status.specs.Answers.{Answers};
-ghost use Rattle.call_status.specs.Ends.{CountsSink, CountsSource, ReadsBy};
+ghost use Rattle.call_parts.specs.Answers.{Answers};
+ghost use Rattle.call_parts.specs.Ends.{CountsSink, CountsSource, ReadsBy};
 ghost use Rattle.arbiter_call.specs.Arbitrates.{IsArbitrated};
 ghost use Rattle.auto_call.specs.Auto.{IsCaptured};
 ghost use Rattle.camera_top.specs.Commands.{TellsOf};
-ghost use Rattle.trace_calls.specs.Converting.{IsConverted};
+ghost use Rattle.play_calls.specs.Converting.{IsConverted};
 ghost use Rattle.camera_top.specs.Help.{help_text, usage_line};
-ghost use Rattle.trace_calls.specs.Judging.{IsJudgedLegal};
+ghost use Rattle.play_calls.specs.Judging.{IsJudgedLegal};
 ghost use Rattle.logical_call.specs.Logical.{IsLogicalWhole};
 ghost use Rattle.reprocess_call.specs.Reprocess.{IsReprocessed};
 ghost use Rattle.run_calls.specs.Running.{IsRunWhole};
@@ -20,18 +20,17 @@ ghost use Rattle.camera_top.specs.Words.{limit_of};
 
 use arbiter_call::arbiter_call;
 use auto_call::auto_call;
-use call_status::{Status, answer};
-use camera_words::{Form, form_of};
+use call_parts::{Status, answer};
 use io_edge::{Sink, Source};
 use logical_call::logical_call;
-use play_calls::{Output, gen_call, play_call};
+use play_calls::{Output, check_call, convert_call, gen_call, play_call};
 use reprocess_call::reprocess_call;
 use run_calls::{Gate, run_call};
 use std::alloc::Global;
 use std::sync::Wait;
 use std::thread::Threads;
 use std::time::Clock;
-use trace_calls::{check_call, convert_call};
+use text_parts::{Form, form_of};
 
 /// The line of words that are no form.
 const USAGE_LINE: &[u8] =

@@ -5,10 +5,9 @@ mod commands;
 
 pub use arbiter_call::arbiter_call;
 pub use auto_call::auto_call;
-pub use call_status::Status;
+pub use call_parts::Status;
 pub use commands::{camera_main, help_call};
 pub use logical_call::logical_call;
-pub use play_calls::{gen_call, play_call};
+pub use play_calls::{check_call, convert_call, gen_call, play_call};
 pub use reprocess_call::reprocess_call;
 pub use run_calls::{Gate, OpenGate, finish_run, run_call};
-pub use trace_calls::{check_call, convert_call};

@@ -1,4 +1,3 @@
 pub mod Pieces
 pub mod Lists
 pub mod Moves
-pub mod Telling

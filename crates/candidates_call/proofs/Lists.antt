@@ -6,6 +6,7 @@ use Rattle.run_model.specs.History.{with_entry}
 use Rattle.run_model.specs.declared.step.StepName.{StepName}
 use Rattle.trace_model.specs.declared.entry.Entry.{Entry}
 use Rattle.candidates_call.specs.Listing.{candidate_text, listed}
+use Rattle.basic_lemmas.proofs.Lists.{get-last}
 
 -- one candidate more
 pub one_more : (pick place n p m : ℕ) (xs : List StepName) (x : StepName) → slice_get xs n ≡ Some x → p ≡ place + n → m ≡ suc n → listed pick place (take n xs) ++ candidate_text pick p x ≡ listed pick place (take m xs)
@@ -24,11 +25,7 @@ all_listed pick place xs n l = ap (listed pick place) (take_all n xs l)
 
 -- ---- entries
 
-seam : {X : Type 0} (xs : List X) (x : X) → slice_get (xs ++ x ∷ []) (length xs) ≡ Some x
-seam [] x = refl
-seam (y ∷ xs) x = seam xs x
-
 -- at the place behind the entries so far there is the entry of the move, if it adds one
 pub added : (o : Option Entry) (past : List Entry) → slice_get (reverse (with_entry o past)) (length (reverse past)) ≡ o
 added None past = slice_get_past (reverse past) (length (reverse past)) (omega arith)
-added (Some e) past = ap (λ (l : List Entry). slice_get l (length (reverse past))) (reverse-append (e ∷ []) past) ∙ seam (reverse past) e
+added (Some e) past = ap (λ (l : List Entry). slice_get l (length (reverse past))) (reverse-append (e ∷ []) past) ∙ get-last (reverse past) e

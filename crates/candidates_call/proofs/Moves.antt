@@ -2,14 +2,14 @@
 use Rattle.std.proofs.Common.{◌≡◌, ℕ, ◌%◌, true, List, [], ◌∷◌, ◌++◌, Option, Some, None, refl, sym, ap, ◌∙◌, append_assoc, append-nil, codes, length, option_to_list, reverse, slice_get, subst, IfSome, IsTrue}
 use Rattle.std.proofs.lemmas.Bool.{and_parts}
 use Rattle.std.specs.List.{flat_map, list_all}
-use Rattle.call_status.specs.Answers.{Answers}
+use Rattle.call_parts.specs.Answers.{Answers}
 use Rattle.cam_types.specs.declared.script.Script.{Script}
 use Rattle.io_edge.specs.States.{SinkState}
 use Rattle.run_model.specs.History.{trace_of, with_entry}
 use Rattle.run_model.specs.Played.{candidates, pick_at}
 use Rattle.run_model.specs.declared.step.Move.{Move}
 use Rattle.run_model.specs.declared.step.StepName.{StepName}
-use Rattle.room_log.specs.State.{State}
+use Rattle.run_model.specs.State.{State}
 use Rattle.service_core.specs.Answers.{after}
 use Rattle.text_parts.specs.Lines.{line_text}
 use Rattle.trace_model.specs.Printable.{is_printable}

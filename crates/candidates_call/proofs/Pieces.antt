@@ -3,9 +3,9 @@ use Rattle.std.proofs.Common.{◌≡◌, ℕ, Bool, true, false, List, [], ◌++
 use Rattle.std.proofs.KnownBytes.{Appends-nil}
 use Rattle.io_edge.specs.Faults.{Rose}
 use Rattle.io_edge.specs.States.{Breaks, SinkState}
-use Rattle.call_status.specs.Answers.{Answers, Broken}
-use Rattle.line_output.specs.Pieces.{Gathers}
-use Rattle.line_output.proofs.Gathering.{broken, put, put-broken}
+use Rattle.call_parts.specs.Answers.{Answers, Broken}
+use Rattle.io_edge.specs.Pieces.{Gathers}
+use Rattle.io_edge.proofs.Gathering.{broken, put, put-broken}
 use Rattle.candidates_call.specs.Told.{IsTold, IsToldWith, TellsMore}
 use Rattle.candidates_call.specs.declared.teller.Teller.{Teller}
 

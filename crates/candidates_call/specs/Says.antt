@@ -1,13 +1,10 @@
 -- The status and the whole text that belong to an input: what `candidates` writes. (docs/FORMATS.md)
-use Rattle.std.specs.Prelude.{◌≡◌, ℕ, List, Result, Ok, Err}
+use Rattle.std.specs.Prelude.{◌≡◌, ℕ, List, Ok}
 use Rattle.io_edge.specs.States.{SinkState, Writes}
-use Rattle.call_status.specs.Answers.{Answers}
+use Rattle.call_parts.specs.Answers.{Answers}
+use Rattle.call_parts.specs.Meanings.{OfScript}
 use Rattle.cam_types.specs.declared.script.Script.{Script}
-use Rattle.judge_text.specs.Lines.{refused_script_text}
-use Rattle.line_reading.specs.Causes.{number_of}
-use Rattle.line_reading.specs.declared.cause.TextRefused.{TextRefused}
-use Rattle.line_reading.specs.declared.cause.TextRefused.TheVariants.{Bad, NoMemory}
-use Rattle.run_laws.specs.Lawful.{KeepsLaws}
+use Rattle.run_model.specs.Lawful.{KeepsLaws}
 use Rattle.run_model.specs.History.{trace_of}
 use Rattle.run_model.specs.Played.{IsPlayedRun}
 use Rattle.run_model.specs.declared.step.Move.{Move}
@@ -31,14 +28,9 @@ pub record ListsRun (script : Script) (status : ℕ) (before after : SinkState) 
 abbrev pub SaysOfScript : Script → ℕ → List ℕ → Type 0
 SaysOfScript script status text = (status ≡ 0) × IsRunText script text
 
-abbrev pub SaysOf : Result Script TextRefused → ℕ → List ℕ → Type 0
-SaysOf (Ok script) status text = SaysOfScript script status text
-SaysOf (Err (Bad line cause)) status text = (status ≡ 1) × (text ≡ refused_script_text line (number_of cause))
-SaysOf (Err NoMemory) status text = ⊥
-
 -- of an input: what its meaning as a script says
 abbrev pub Says : List ℕ → ℕ → List ℕ → Type 0
-Says input status text = SaysOf (script_of input) status text
+Says input status text = OfScript SaysOfScript input status text
 
 -- the text of the script's played run was written, which is complete and keeps the laws
 pub record IsWholeRun (script : Script) (before after : SinkState) : Type 0 where

@@ -1,9 +1,9 @@
 -- A text that is told piece by piece while its sink may fail. (Our own choice.)
 use Rattle.std.specs.Prelude.{◌≡◌, ℕ, Bool, true, false, List, ◌++◌}
 use Rattle.io_edge.specs.States.{SinkState}
-use Rattle.call_status.specs.Answers.{Broken}
-use Rattle.room_log.specs.State.{State}
-use Rattle.line_output.specs.Pieces.{Gathers}
+use Rattle.call_parts.specs.Answers.{Broken}
+use Rattle.run_model.specs.State.{State}
+use Rattle.io_edge.specs.Pieces.{Gathers}
 use Rattle.candidates_call.specs.Listing.{told}
 use Rattle.candidates_call.specs.declared.teller.Teller.{Teller}
 

@@ -2,18 +2,32 @@
 ghost use Rattle.std.specs.Prelude.{◌≡◌, ◌≢◌, ◌≤◌, IfSome, IsTrue};
 ghost use Rattle.std.specs.Io.KnownBytes.{IsAtEnd};
 ghost use Rattle.cam_types.specs.Script.{is_valid};
-ghost use Rattle.call_status.specs.Answers.{Tells, TellsBy};
-ghost use Rattle.call_status.specs.Ends.{CountsSink, CountsSource, ReadsBy};
+ghost use Rattle.call_parts.specs.Answers.{Tells, TellsBy};
+ghost use Rattle.call_parts.specs.Ends.{CountsSink, CountsSource, ReadsBy};
 ghost use Rattle.candidates_call.specs.Says.{IsWhole, Says, SaysOfScript};
 
 use crate::opened::Opened;
-use call_status::Status;
+use call_parts::{ScriptWork, Status, answer_script};
 use cam_types::{SCRIPT_BYTES, Script};
-use input_refusals::refuse_script;
-use io_edge::{ReadBytes, ReadFault, Sink, Source, read_all};
-use line_reading::{Cause, TextRefused};
-use run_laws::a_complete_run_keeps_the_laws;
+use io_edge::{Sink, Source};
+use run_model::a_complete_run_keeps_the_laws;
 use std::alloc::Global;
+
+/// What `candidates` makes of a script.
+#[derive(Drop)]
+struct Candidates;
+
+impl ScriptWork for Candidates {
+    ghost use Rattle.candidates_call.specs.Says.{SaysOfScript};
+
+    ghost belongs = { λ _. SaysOfScript };
+
+    fn answer_script<K: Sink>(&self, alloc: Global, script: Script, sink: &mut K) -> Status {
+        list_script(alloc, script, sink)
+    }
+
+    fn keeps_the_law(&self) {}
+}
 
 /// Reads a script, plays it as `play` does, and writes for each move the candidates before it and the line that it adds
 /// to the trace. All memory is taken before the first write.
@@ -34,23 +48,7 @@ pub fn candidates_call<S: Source, K: Sink>(alloc: Global, source: &mut S, sink: 
     ensures no_usage { result.number ≢ 2 }
 {
     a_complete_run_keeps_the_laws();
-    match read_all(alloc, source, SCRIPT_BYTES) {
-        Err(ReadFault::Failed) => Status::SOURCE_FAILED,
-        Err(ReadFault::NoMemory) => Status::NO_MEMORY,
-        Ok(ReadBytes::TooLong) => refuse_script(alloc, 0, Cause::Limit.number(), sink),
-        Ok(ReadBytes::Whole(bytes)) => list_text(alloc, bytes.as_slice(), sink),
-    }
-}
-
-/// Reads a script from its text, and writes its run.
-fn list_text<K: Sink>(alloc: Global, input: &[u8], sink: &mut K) -> Status
-    ensures { TellsBy (Says input.now) result.number (K.state sink.old) (K.state sink.new) }
-{
-    match script_text::read(alloc, input) {
-        Err(TextRefused::NoMemory) => Status::NO_MEMORY,
-        Err(TextRefused::Bad { line, cause }) => refuse_script(alloc, line, cause.number(), sink),
-        Ok(script) => list_script(alloc, script, sink),
-    }
+    answer_script(alloc, source, sink, &Candidates)
 }
 
 /// Writes the run of a script.

@@ -1,7 +1,7 @@
 //! The line of the candidates before a move.
 ghost use Rattle.std.specs.Prelude.{◌≡◌, length, true};
 ghost use Rattle.run_model.specs.History.{trace_of};
-ghost use Rattle.service_choice.specs.Candidates.{candidates_by};
+ghost use Rattle.service_core.specs.Candidates.{candidates_by};
 ghost use Rattle.service_state.specs.Serving.{IsServing};
 ghost use Rattle.trace_model.specs.Complete.{IsComplete};
 ghost use Rattle.candidates_call.specs.Listing.{candidate_text, candidates_line, front_of, list_line, listed, named, shown};
@@ -10,10 +10,9 @@ ghost use Rattle.candidates_call.specs.Told.{TellsMore};
 use crate::names::put_step;
 use crate::teller::Teller;
 use io_edge::Sink;
-use never_stuck::a_run_is_never_stuck;
 use run_model::StepName;
-use service_choice::{candidate_at, candidate_count, candidates_are_read_from_the_parts};
-use service_core::Service;
+use run_rows::a_run_is_never_stuck;
+use service_core::{Service, candidate_at, candidate_count, candidates_are_read_from_the_parts};
 use service_state::ServiceState;
 
 /// Tells the candidates of a service whose run isn't complete, and which of them the script's next pick chooses.

@@ -5,14 +5,14 @@ ghost use Rattle.candidates_call.specs.Says.{ListsRun};
 
 use crate::playing::tell_moves;
 use crate::teller::Teller;
-use call_status::Status;
+use call_parts::Status;
 use cam_types::{NoMemory, Script};
 use digest_memory::DigestMemory;
+use fill_jobs::Hands;
 use io_edge::Sink;
-use job_hands::Hands;
-use job_moves::no_job_is_out_at_first;
-use script_bounds::early_bound;
+use run_model::early_bound;
 use service_core::Service;
+use service_parts::no_job_is_out_at_first;
 use settle::close;
 use std::alloc::Global;
 use std::marker::Model;

@@ -11,10 +11,10 @@ ghost use Rattle.candidates_call.specs.Told.{TellsMore, TellsMoves};
 
 use crate::listing::put_candidates;
 use crate::teller::Teller;
+use fill_jobs::Hands;
 use io_edge::Sink;
-use job_hands::Hands;
-use job_moves::no_job_is_out_at_rest;
 use service_core::Service;
+use service_parts::no_job_is_out_at_rest;
 use settle::{Stepped, pick_step};
 use trace_model::Entry;
 use trace_text::Printer;

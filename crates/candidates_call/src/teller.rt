@@ -1,14 +1,13 @@
 //! Text that is told to a sink in pieces. Once the sink has failed nothing more is written, and whoever tells goes on.
 ghost use Rattle.std.specs.Prelude.{◌≡◌, ℕ, IfOk, List, [], decimal, false};
-ghost use Rattle.call_status.specs.Answers.{Answers};
+ghost use Rattle.call_parts.specs.Answers.{Answers};
 ghost use Rattle.io_edge.specs.States.{SinkState};
 ghost use Rattle.candidates_call.specs.Told.{IsTold, TellsMore};
 
-use call_status::Status;
+use call_parts::Status;
 use cam_types::NoMemory;
-use io_edge::Sink;
+use io_edge::{Pieces, Sink};
 use itoa::Buffer;
-use line_output::Pieces;
 use std::alloc::Global;
 
 /// What is gathered of a piece, and whether the sink has failed. No call but `new` takes memory.

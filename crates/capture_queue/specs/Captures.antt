@@ -5,7 +5,7 @@ use Rattle.cam_types.specs.declared.reply.Reply.TheVariants.{Submitted, Refused}
 use Rattle.cam_types.specs.declared.script.Command.{Command}
 use Rattle.cam_types.specs.declared.script.Command.TheVariants.{Once, Burst, Repeat}
 use Rattle.trace_model.specs.Calls.{is_repeat}
-use Rattle.queue_facts.specs.Turns.{Turns, no_turns}
+use Rattle.state_facts.specs.Turns.{Turns, no_turns}
 
 -- What is to be captured next, with the numbers of frames and requests (the queue and the list that repeats are our own
 -- choice).

@@ -1,3 +1,5 @@
+pub mod Requests
+pub mod Inside
 pub mod Captures
 pub mod Room
 pub mod Views

@@ -1,7 +1,7 @@
 use Rattle.std.specs.Prelude.{ℕ, Option, Some, None}
 use Rattle.cam_types.specs.Requests.{Repeating}
-use Rattle.request_queue.specs.Requests.{Requests}
-use Rattle.queue_facts.specs.Turns.{Turn, Turns}
+use Rattle.capture_queue.specs.Requests.{Requests}
+use Rattle.state_facts.specs.Turns.{Turn, Turns}
 
 -- What a queue holds, as the state of a trace: the queue itself knows no numbers of frames and requests.
 

@@ -6,13 +6,13 @@ ghost use Rattle.cam_types.specs.declared.script.Script.{Script as SomeScript};
 ghost use Rattle.trace_model.specs.declared.entry.Entry.TheVariants.{Call};
 ghost use Rattle.trace_model.specs.Calls.{command_at, is_repeat, word_of};
 ghost use Rattle.trace_model.specs.Queue.{is_clearing_word};
-ghost use Rattle.request_queue.specs.Requests.{named};
-ghost use Rattle.queue_facts.specs.Turns.{noted};
+ghost use Rattle.capture_queue.specs.Requests.{named};
+ghost use Rattle.state_facts.specs.Turns.{noted};
 ghost use Rattle.capture_queue.specs.Views.{turns_of};
 ghost use Rattle.capture_queue.specs.Captures.{HasPlace};
 
+use crate::{Queue, QueueFull};
 use cam_types::{Command, Item, ItemList, RequestId};
-use request_queue::{Queue, QueueFull};
 
 /// Whether the command repeats its items.
 pub(crate) fn is_repeat(command: &Command) -> bool

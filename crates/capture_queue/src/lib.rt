@@ -1,4 +1,4 @@
-//! What is to be captured next: the queue with the numbers of frames and requests.
+//! What is to be captured next: the queue of items and the list that repeats, with the numbers of frames and requests.
 //!
 //! `CaptureQueue` is what the service keeps of its client's captures: the items that wait, the list that repeats, the
 //! number of the next frame, and of each accepted request whether its items repeat. A send takes the next item under
@@ -7,6 +7,11 @@
 #![tactic(auto)]
 
 mod call;
+mod captures;
+mod item;
 mod queue;
 
-pub use queue::CaptureQueue;
+pub use cam_types::Queued;
+pub use captures::CaptureQueue;
+pub use item::QueueFull;
+pub use queue::Queue;

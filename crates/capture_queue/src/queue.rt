@@ -1,165 +1,199 @@
-//! The queue of captures, with the numbers of frames and requests.
-ghost use Rattle.std.specs.Prelude.{◌≡◌, ℕ, ◌+◌, ◌<◌, ◌^◌, Bool, false, Option, length, is_some, slice_index_or, IfOk, IsSome};
-ghost use Rattle.cam_types.specs.declared.four.Four.{Four as SomeFour};
-ghost use Rattle.cam_types.specs.declared.number.FrameNo.{FrameNo as SomeFrame};
-ghost use Rattle.cam_types.specs.declared.number.RequestId.{RequestId as SomeRequest};
-ghost use Rattle.cam_types.specs.declared.script.Script.{Script as SomeScript};
-ghost use Rattle.trace_model.specs.declared.entry.Entry.TheVariants.{Call, Dropped, Send};
-ghost use Rattle.trace_model.specs.declared.entry.Sent.{Sent as SomeSent};
-ghost use Rattle.trace_model.specs.Calls.{command_at, word_of};
-ghost use Rattle.trace_model.specs.Queue.{first_in};
-ghost use Rattle.queue_facts.specs.Turns.{next_of, noted};
-ghost use Rattle.capture_queue.specs.Captures.{CanTake, kinds_called, no_captures, with_turns};
-ghost use Rattle.capture_queue.specs.Room.{IsSubmitted};
+//! The queue of captures and the list that repeats.
+ghost use Rattle.std.specs.Prelude.{◌≡◌, ◌↔◌, ◌+◌, ◌<◌, ◌≤◌, [], ◌∷◌, ◌++◌, length, drop, is_some, slice_get, IfOk, IsErr, IsNone, OnErr, OnOk};
+ghost use Rattle.circular_buffer.specs.Buffer.{buffer};
+ghost use Rattle.capture_queue.specs.Requests.{IsWithin, after_next, first_queued, named, next_item, no_requests, place_after, repeated_at};
 
-use crate::call::{clear, is_repeat, submit};
-use cam_types::{Command, FrameNo, NoMemory, Queued, Reply, RequestId, WaitingItem};
-use request_queue::Queue;
+use crate::item::{QueueFull, as_queued};
+use cam_types::{
+    Item, ItemList, NoMemory, QUEUE_LIMIT, Queued, REPEAT_LIMIT, RequestId, WaitingItem,
+};
+use circular_buffer::HeapCircularBuffer;
 use std::alloc::Global;
 use std::marker::Model;
+use std::slice;
 
-/// What is to be captured next, with the numbers of the next frame and of the next request. All its memory is taken by
-/// `new`.
+/// Which capture comes next: the items that wait, first in, first out, and where none waits the items of the list that
+/// repeats, in a cycle. All its memory is taken by `new`.
 #[derive(Drop)]
-pub struct CaptureQueue {
-    queue: Queue,
-    /// The number of the next frame.
-    frames: u32,
-    /// Of each accepted request whether its items repeat.
-    kinds: Vec<bool>,
-    /// For how many requests there is room in `kinds`.
-    room: usize,
+pub struct Queue {
+    waiting: HeapCircularBuffer<WaitingItem>,
+    /// The items of the list that repeats, where `repeating` names its request.
+    cycle: HeapCircularBuffer<Item>,
+    repeating: Option<RequestId>,
+    /// The place in `cycle` of the item whose turn it is.
+    place: u32,
 }
 
-impl Model for CaptureQueue {
-    ghost use Rattle.std.specs.Prelude.{length, vec_capacity};
-    ghost use Rattle.capture_queue.specs.Views.{turns_of};
-    ghost use Rattle.capture_queue.specs.Captures.{Captures};
-    ghost use Rattle.capture_queue.specs.Room.{IsKept};
+impl Model for Queue {
+    ghost use Rattle.capture_queue.specs.Inside.Fields.{IsKept, held};
+    ghost use Rattle.capture_queue.specs.Requests.{Requests};
 
-    ghost Value = { Captures };
+    ghost Value = { Requests };
 
-    ghost view = { λ q.
-        record {
-          turns = turns_of q.queue q.frames (length q.kinds.items);
-          kinds = q.kinds.items;
-          room = q.room;
-        } };
+    ghost view = { λ q. held q.waiting q.cycle q.repeating q.place };
 
-    ghost invariant = { λ q. IsKept (length q.kinds.items) q.room (vec_capacity q.kinds) };
+    ghost invariant = { λ q. IsKept q.waiting q.cycle q.repeating q.place };
 }
 
-impl CaptureQueue {
-    /// The empty queue, with room for so many requests.
-    pub fn new(alloc: Global, requests: u32) -> Result<CaptureQueue, NoMemory>
-        ensures { IfOk result (λ q. q ≡ no_captures requests) }
+impl Queue {
+    /// The empty queue, with the room for all that may wait and repeat.
+    pub fn new(alloc: Global) -> Result<Queue, NoMemory>
+        ensures { IfOk result (λ q. q ≡ no_requests) }
     {
-        let queue = Queue::new(alloc)?;
-        let kinds = Vec::with_capacity(alloc, requests as usize)?;
-        Ok(CaptureQueue {
-            queue,
-            frames: 0,
-            kinds,
-            room: requests as usize,
+        let waiting = HeapCircularBuffer::with_capacity(alloc, QUEUE_LIMIT as usize)?;
+        let cycle = HeapCircularBuffer::with_capacity(alloc, REPEAT_LIMIT as usize)?;
+        Ok(Queue {
+            waiting,
+            cycle,
+            repeating: None,
+            place: 0,
         })
     }
 
-    /// The item whose turn is next. None exactly where nothing waits and no list repeats.
-    pub fn peek(&self) -> Option<Queued>
-        ensures { result ≡ next_of self.now.turns }
+    /// Appends all items of a `once` or a `burst`, or none of them where more than 256 items would wait.
+    pub fn push_list(&mut self, request: RequestId, items: &ItemList) -> Result<(), QueueFull>
+        ensures full { IsErr result ↔ (QUEUE_LIMIT < length self.old.queued + length items.now) }
+        ensures ok { OnOk result
+            (self.new ≡ record self.old { queued = self.old.queued ++ named request 0 items.now }) }
+        ensures err { OnErr result (self.new ≡ self.old) }
     {
-        self.queue.peek()
+        let room = QUEUE_LIMIT as usize - self.waiting.len();
+        if items.len() as usize > room {
+            return Err(QueueFull);
+        }
+        append(&mut self.waiting, request, items.as_slice());
+        Ok(())
     }
 
-    /// The number of the next frame.
-    pub fn next_frame(&self) -> FrameNo
-        ensures { result.0 ≡ self.now.turns.numbers }
+    /// Appends the item of a `once`, or nothing where more than 256 items would wait.
+    pub fn push_one(&mut self, request: RequestId, item: Item) -> Result<(), QueueFull>
+        ensures full { IsErr result ↔ (QUEUE_LIMIT < length self.old.queued + 1) }
+        ensures ok { OnOk result
+            (self.new ≡ record self.old { queued = self.old.queued ++ named request 0 (item ∷ []) }) }
+        ensures err { OnErr result (self.new ≡ self.old) }
     {
-        FrameNo(self.frames)
+        if self.waiting.len() < QUEUE_LIMIT as usize {
+            append(&mut self.waiting, request, slice::from_ref(&item));
+            Ok(())
+        } else {
+            Err(QueueFull)
+        }
     }
 
-    /// How many requests were accepted, which is the number of the next.
-    pub fn requests(&self) -> u32
-        ensures { result ≡ self.now.turns.requests }
+    /// Replaces the list that repeats, and begins with its first item.
+    pub fn set_repeat(&mut self, request: RequestId, items: &ItemList)
+        requires some { 1 ≤ length items.now }
+        requires within { length items.now ≤ REPEAT_LIMIT }
+        ensures { self.new ≡
+            record self.old { repeating = Some (record { request = request; items = items.now }); place = 0 } }
     {
-        self.kinds.len() as u32
+        self.cycle.clear();
+        self.cycle.fill_from_slice(items.as_slice());
+        self.repeating = Some(request);
+        self.place = 0;
+    }
+
+    /// Takes the list that repeats away.
+    pub fn clear_repeat(&mut self)
+        ensures { self.new ≡ record self.old { repeating = None } }
+    {
+        self.repeating = None;
     }
 
     /// How many items wait.
-    pub fn waiting(&self) -> u32
-        ensures { result ≡ length self.now.turns.waiting }
+    pub fn waiting(&self) -> usize
+        ensures count { result ≡ length self.now.queued }
+        ensures few { result ≤ QUEUE_LIMIT }
     {
-        self.queue.waiting() as u32
+        self.waiting.len()
     }
 
     /// Whether there is a list that repeats.
     pub fn is_repeating(&self) -> bool
-        ensures { result ≡ is_some self.now.turns.turn }
+        ensures { result ≡ is_some self.now.repeating }
     {
-        self.queue.is_repeating()
+        self.repeating.is_some()
     }
 
-    /// Whether the items of a request repeat. False of one that wasn't accepted.
-    pub fn repeats(&self, request: RequestId) -> bool
-        ensures { result ≡ slice_index_or self.now.kinds request.0 false }
-    {
-        let place = request.0 as usize;
-        if place < self.kinds.len() {
-            self.kinds[place]
-        } else {
-            false
-        }
-    }
-
-    /// The first item that waits, without taking it. None exactly where nothing waits.
+    /// The first item that waits, without taking it.
     pub fn first_waiting(&self) -> Option<WaitingItem>
-        ensures { result ≡ first_in self.now.turns.waiting }
+        ensures { result ≡ slice_get self.now.queued 0 }
     {
-        self.queue.first_waiting()
+        self.waiting.front().copied()
     }
 
-    /// Takes the next item as a frame with the next number.
-    pub fn send(&mut self)
-        requires some { IsSome (next_of self.old.turns) }
-        requires numbered { self.old.turns.numbers + 1 < 2 ^ 32 }
-        ensures { (script : SomeScript) (r : SomeRequest) (i : ℕ) (same : Bool) (targets : SomeFour SomeSent)
-            (n : SomeFrame) → n.0 ≡ self.old.turns.numbers →
-            self.new ≡ with_turns (noted script (Send n r i same targets) self.old.turns) self.old }
+    /// What `next` would give.
+    pub fn peek(&self) -> Option<Queued>
+        ensures value { result ≡ next_item self.now }
+        ensures none { IsNone result ↔ ((self.now.queued ≡ []) × (self.now.repeating ≡ None)) }
+        ensures within { IsWithin self.now }
     {
-        let _sent = self.queue.next();
-        self.frames += 1;
-    }
-
-    /// Drops the first item that waits, under the next number.
-    pub fn drop_first(&mut self)
-        requires some { IsSome (first_in self.old.turns.waiting) }
-        requires numbered { self.old.turns.numbers + 1 < 2 ^ 32 }
-        ensures { (script : SomeScript) (r : SomeRequest) (i : ℕ) (n : SomeFrame) → n.0 ≡ self.old.turns.numbers →
-            self.new ≡ with_turns (noted script (Dropped n r i) self.old.turns) self.old }
-    {
-        let _dropped = self.queue.drop_next();
-        self.frames += 1;
-    }
-
-    /// Does what an answered call asks of the queue: an accepted `once` or `burst` waits, an accepted `repeat` is the
-    /// list that repeats, each under the next number; an accepted `stop`, `flush`, `configure`, `close` or `disconnect`
-    /// takes that list away. A refused call changes nothing.
-    pub fn call(&mut self, command: &Command, reply: &Reply)
-        requires place { CanTake self.old.turns command.now reply.now }
-        requires room { IsSubmitted reply.now → length self.old.kinds < self.old.room }
-        ensures turns { (script : SomeScript) (i : ℕ) → command_at script i ≡ Option.Some command.now →
-            self.new.turns ≡ noted script (Call i (word_of command.now) reply.now) self.old.turns }
-        ensures kinds { self.new.kinds ≡ kinds_called command.now reply.now self.old.kinds }
-        ensures room { self.new.room ≡ self.old.room }
-    {
-        match reply {
-            Reply::Submitted(request) => {
-                submit(&mut self.queue, *request, command);
-                self.kinds.push_reserved(is_repeat(command));
-            }
-            Reply::Ok => clear(&mut self.queue, command),
-            Reply::Configured(_) => clear(&mut self.queue, command),
-            Reply::Refused { .. } => {}
+        match self.waiting.front() {
+            Some(first) => Some(as_queued(*first)),
+            None => self.repeated(),
         }
+    }
+
+    /// Takes the first item that waits, or where none does gives the item of the list that repeats whose turn it is,
+    /// and moves on to the next one.
+    pub fn next(&mut self) -> Option<Queued>
+        ensures value { result ≡ next_item self.old }
+        ensures none { IsNone result ↔ ((self.old.queued ≡ []) × (self.old.repeating ≡ None)) }
+        ensures left { self.new ≡ after_next self.old.queued self.old.repeating self.old.place }
+    {
+        match self.drop_next() {
+            Some(first) => Some(first),
+            None => self.next_repeated(),
+        }
+    }
+
+    /// Takes the first item that waits. The list that repeats stays as it is.
+    pub fn drop_next(&mut self) -> Option<Queued>
+        ensures value { result ≡ first_queued self.old.queued }
+        ensures none { IsNone result ↔ (self.old.queued ≡ []) }
+        ensures left { self.new ≡ record self.old { queued = drop 1 self.old.queued } }
+    {
+        let first = self.waiting.pop_front()?;
+        Some(as_queued(first))
+    }
+
+    /// The item of the list that repeats whose turn it is.
+    fn repeated(&self) -> Option<Queued>
+        ensures value { result ≡ repeated_at self.now.place self.now.repeating }
+        ensures none { IsNone result ↔ (self.now.repeating ≡ None) }
+    {
+        let request = self.repeating?;
+        let item = self.cycle.get(self.place as usize)?;
+        Some(Queued {
+            request,
+            index: self.place,
+            item: *item,
+            repeating: true,
+        })
+    }
+
+    fn next_repeated(&mut self) -> Option<Queued>
+        ensures value { result ≡ repeated_at self.old.place self.old.repeating }
+        ensures none { IsNone result ↔ (self.old.repeating ≡ None) }
+        ensures left { self.new ≡ record self.old { place = place_after self.old.repeating self.old.place } }
+    {
+        let turn = self.repeated()?;
+        self.place = (self.place + 1) % self.cycle.len() as u32;
+        Some(turn)
+    }
+}
+
+/// Appends all items of a request to those that wait.
+fn append(waiting: &mut HeapCircularBuffer<WaitingItem>, request: RequestId, items: &[Item])
+    requires room { length waiting.old.items + length items.now ≤ waiting.old.capacity }
+    requires capacity { waiting.old.capacity ≡ QUEUE_LIMIT }
+    ensures { waiting.new ≡ buffer (waiting.old.items ++ named request 0 items.now) waiting.old.capacity }
+{
+    for (index, item) in items.iter().enumerate() {
+        waiting.push_back(WaitingItem {
+            request,
+            index: index as u32,
+            item: *item,
+        });
     }
 }

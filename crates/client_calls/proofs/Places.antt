@@ -2,24 +2,10 @@
 use Rattle.std.proofs.Common.{◌≡◌, ℕ, ◌+◌, ◌≤◌, true, List, [], ◌∷◌, Option, Some, None, refl, arith, zero, suc, length, slice_get, option_to_list, length-append}
 use Rattle.std.proofs.lemmas.Bool.{false≢true}
 use Rattle.std.specs.Prelude.{IsTrue}
-use Rattle.cam_types.specs.Four.{four_list, four_of}
+use Rattle.cam_types.specs.Four.{four_list}
 use Rattle.cam_types.specs.declared.four.Four.{Four}
 use Rattle.trace_model.specs.Printable.{is_filled}
-
-pub four_list_of : {T : Type 0} (xs : List T) → length xs ≤ 4 → four_list (four_of xs) ≡ xs
-four_list_of [] few = refl
-four_list_of (a ∷ []) few = refl
-four_list_of (a ∷ (b ∷ [])) few = refl
-four_list_of (a ∷ (b ∷ (c ∷ []))) few = refl
-four_list_of (a ∷ (b ∷ (c ∷ (d ∷ [])))) few = refl
-four_list_of (a ∷ (b ∷ (c ∷ (d ∷ (e ∷ xs))))) few = absurd (omega (arith, few))
-
-pub four_filled : {T : Type 0} (xs : List T) → is_filled (four_of xs) ≡ true
-four_filled [] = refl
-four_filled (a ∷ []) = refl
-four_filled (a ∷ (b ∷ [])) = refl
-four_filled (a ∷ (b ∷ (c ∷ []))) = refl
-four_filled (a ∷ (b ∷ (c ∷ (d ∷ xs)))) = refl
+use Rattle.basic_lemmas.proofs.Options.{option-few}
 
 -- ---- the value at each place
 
@@ -70,16 +56,12 @@ past_end [] i few = refl
 past_end (x ∷ xs) zero few = absurd (omega (arith, few))
 past_end (x ∷ xs) (suc i) few = past_end xs i (omega (arith, few))
 
-one_at_most : {T : Type 0} (o : Option T) → length (option_to_list o) ≤ 1
-one_at_most None = omega arith
-one_at_most (Some x) = omega arith
-
 four_at_most : {T : Type 0} (f : Four T) → length (four_list f) ≤ 4
 four_at_most f =
-    let a = one_at_most f.a in
-    let b = one_at_most f.b in
-    let c = one_at_most f.c in
-    let d = one_at_most f.d in
+    let a = option-few f.a in
+    let b = option-few f.b in
+    let c = option-few f.c in
+    let d = option-few f.d in
     rw (length-append (option_to_list f.a) _, length-append (option_to_list f.b) _, length-append (option_to_list f.c) _) (omega arith)
 
 pub first_place : {T : Type 0} (f : Four T) → IsTrue (is_filled f) → slice_get (four_list f) 0 ≡ f.a

@@ -1,7 +1,7 @@
 use Rattle.std.specs.Prelude.{◌≡◌, ◌+◌, ◌<◌, ◌≤◌, ◌^◌, length, is_some}
-use Rattle.queue_facts.specs.Turns.{Turns}
-use Rattle.buffer_facts.specs.Homes.{Homes, all_home}
-use Rattle.client_facts.specs.Clients.{Clients}
+use Rattle.state_facts.specs.Turns.{Turns}
+use Rattle.state_facts.specs.Homes.{Homes, all_home}
+use Rattle.state_facts.specs.Clients.{Clients}
 use Rattle.client_calls.specs.declared.around.Around.{Around}
 
 -- What the rest of a service says to the part that keeps its client's calls (our own choice).

@@ -4,9 +4,9 @@ ghost use Rattle.cam_types.specs.declared.stream.StreamSpec.{StreamSpec as SomeS
 ghost use Rattle.cam_types.specs.Four.{four_of};
 ghost use Rattle.cam_types.specs.Profile.{is_profile, pool_size};
 ghost use Rattle.trace_model.specs.Reply.{made_for};
-ghost use Rattle.queue_facts.specs.Turns.{Turns as SomeTurns};
-ghost use Rattle.buffer_facts.specs.Homes.{Homes as SomeHomes};
-ghost use Rattle.client_facts.specs.Replies.{acceptance_in};
+ghost use Rattle.state_facts.specs.Turns.{Turns as SomeTurns};
+ghost use Rattle.state_facts.specs.Homes.{Homes as SomeHomes};
+ghost use Rattle.state_facts.specs.Replies.{acceptance_in};
 ghost use Rattle.client_calls.specs.Around.{IsAround};
 
 use crate::around::Around;

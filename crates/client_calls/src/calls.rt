@@ -1,10 +1,10 @@
 //! The client's state, and what each entry does to it.
 ghost use Rattle.std.specs.Prelude.{◌≡◌, ◌==◌, ◌+◌, ◌<◌, ◌≤◌, ◌^◌, false, length, slice_get, IsTrue};
 ghost use Rattle.cam_types.specs.Profile.{is_profile};
-ghost use Rattle.queue_facts.specs.Turns.{Turns as SomeTurns};
-ghost use Rattle.buffer_facts.specs.Homes.{Homes as SomeHomes};
-ghost use Rattle.client_facts.specs.Clients.{no_clients, noted, one_if, streams_called};
-ghost use Rattle.client_facts.specs.Replies.{begin_in, call_in, may_repeat_in, stopping_in};
+ghost use Rattle.state_facts.specs.Turns.{Turns as SomeTurns};
+ghost use Rattle.state_facts.specs.Homes.{Homes as SomeHomes};
+ghost use Rattle.state_facts.specs.Clients.{no_clients, noted, one_if, streams_called};
+ghost use Rattle.state_facts.specs.Replies.{begin_in, call_in, may_repeat_in, stopping_in};
 ghost use Rattle.run_model.specs.Ready.{or_entry};
 ghost use Rattle.client_calls.specs.Around.{Fits, IsAround};
 
@@ -44,7 +44,7 @@ impl Model for ClientCalls {
     ghost use Rattle.std.specs.Prelude.{IsTrue};
     ghost use Rattle.cam_types.specs.Four.{four_list};
     ghost use Rattle.trace_model.specs.Printable.{is_filled};
-    ghost use Rattle.client_facts.specs.Clients.{Clients};
+    ghost use Rattle.state_facts.specs.Clients.{Clients};
 
     ghost Value = { Clients };
 

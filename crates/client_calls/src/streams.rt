@@ -4,7 +4,7 @@ ghost use Rattle.cam_types.specs.Four.{four_list};
 ghost use Rattle.trace_model.specs.Calls.{command_at};
 ghost use Rattle.trace_model.specs.Configuration.{streams_of};
 ghost use Rattle.trace_model.specs.Printable.{is_filled};
-ghost use Rattle.client_facts.specs.Clients.{streams_called};
+ghost use Rattle.state_facts.specs.Clients.{streams_called};
 
 use cam_types::{Command, Four, Reply, Script, StreamIx, StreamSpec};
 
@@ -17,7 +17,7 @@ pub(crate) const NO_STREAMS: Four<StreamSpec> = Four {
 };
 
 /// The streams of a list of four at most.
-#[tactic(auto, using(crate::proofs::Places::four_list_of, crate::proofs::Places::four_filled))]
+#[tactic(auto, using(trace_laws::proofs::Due::four_list_of, trace_laws::proofs::Due::four_filled))]
 fn in_places(specs: &[StreamSpec]) -> Four<StreamSpec>
     requires { length specs.now ≤ 4 }
     ensures same { four_list result ≡ specs.now }

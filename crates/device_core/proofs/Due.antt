@@ -11,18 +11,18 @@ use Rattle.cam_types.specs.declared.script.Fault.{Fault}
 use Rattle.device_rows.specs.Faults.{faults_of}
 use Rattle.device_rows.specs.Ready.{error_of, fails_device_at, may_end_metadata, next_error, next_exposure}
 use Rattle.device_rows.specs.Rows.{row_at}
-use Rattle.device_store.proofs.General.{found-is}
 use Rattle.device_store.proofs.Views.{found-own}
 use Rattle.device_store.specs.Steps.{is_dark, is_timely}
-use Rattle.error_notify.specs.Next.{least, lost_buffer, missing_streams, next_due}
-use Rattle.error_notify.specs.declared.entry.ErrorEntry.{ErrorEntry}
-use Rattle.error_notify.specs.declared.entry.ErrorEntry.TheVariants.{Request as LostRequest, Result as LostResult, Device}
-use Rattle.flush_path.specs.Due.{fails_in_part, fails_whole, is_some_true, misses_metadata, missing_buffers, verdict_of}
+use Rattle.device_rows.specs.Next.{least, lost_buffer, missing_streams, next_due}
+use Rattle.device_rows.specs.declared.entry.ErrorEntry.{ErrorEntry}
+use Rattle.device_rows.specs.declared.entry.ErrorEntry.TheVariants.{Request as LostRequest, Result as LostResult, Device}
+use Rattle.device_rows.specs.Due.{fails_in_part, fails_whole, is_some_true, misses_metadata, missing_buffers, verdict_of}
+use Rattle.basic_lemmas.proofs.Lists.{found-passes}
 
 -- ---- the next exposure
 
 pub dark_next : (rows : List RowView) (row : RowView) → next_exposure rows ≡ Some row → row_at row.frame.0 rows ≡ Some row → is_dark (row_at row.frame.0 rows) ≡ true
-dark_next rows row next found = rw found (found-is (λ v. not (is_some v.shutter) && not v.request_error) rows row next)
+dark_next rows row next found = rw found (found-passes (λ v. not (is_some v.shutter) && not v.request_error) rows row next)
 
 -- ---- the error that is due
 

@@ -12,7 +12,7 @@ use Rattle.device_rows.specs.Ready.{is_fill_ready, is_home, is_passed, is_sound,
 use Rattle.device_rows.specs.Rows.{row_at, target_at}
 use Rattle.device_store.specs.Steps.{has_made, is_fillable, is_open_to}
 use Rattle.device_store.proofs.General.{find-passes}
-use Rattle.fence_tokens.specs.Fences.{FencesMade, is_signalled, made}
+use Rattle.buffer_pool.specs.Fences.{FencesMade, is_signalled, made}
 
 passes_less : (p q : TargetView → Bool) (o : Option TargetView) → ((t : TargetView) → p t ≡ true → q t ≡ true) → passes_at p o ≡ true → passes_at q o ≡ true
 passes_less p q None less h = absurd (cc)

@@ -14,10 +14,10 @@ use buffer_pool::Parked;
 use cam_types::{FaultList, Four, FrameNo, NoMemory, RowView};
 use device_store::Store;
 use fill_jobs::FilledJob;
-use sensor_sim::ExposedJob;
+use picture_stages::ExposedJob;
+use request_checks::{Plan, PlanStream, is_offered};
 use std::alloc::Global;
 use std::marker::Model;
-use stream_config::{Plan, PlanStream, is_offered};
 
 /// The device: the rows of the open frames with all that it holds for them, and the faults that it shall have. It can't
 /// be let go: `scrap` ends it.

@@ -7,10 +7,8 @@ ghost use Rattle.device_core.specs.View.{with_rows};
 
 use crate::device::Device;
 use cam_types::{Fault, FrameNo, RowVerdict, RowView};
-use device_rows::{faults_of, has_device_fault};
+use device_rows::{ErrorEntry, faults_of, has_device_fault, next_error, verdict};
 use device_store::Store;
-use error_notify::{ErrorEntry, next_error};
-use flush_path::verdict;
 
 impl Device {
     /// The error that `fail_next` tells of a frame. None exactly where none is due.

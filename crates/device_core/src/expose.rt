@@ -10,7 +10,7 @@ ghost use Rattle.device_core.specs.View.{with_rows};
 use crate::device::Device;
 use cam_types::{FrameNo, RowView};
 use device_rows::{is_sensor_out, may_expose};
-use sensor_sim::SensorJob;
+use picture_stages::SensorJob;
 
 impl Device {
     /// The row whose exposure `shutter` begins. None exactly where it begins none.

@@ -7,13 +7,13 @@ ghost use Rattle.device_rows.specs.Ready.{is_fill_ready, is_passed, may_fill, ta
 ghost use Rattle.device_rows.specs.Rows.{fill_begun, row_at, with_row};
 ghost use Rattle.device_store.specs.Steps.{fill_job_for};
 ghost use Rattle.device_store.specs.Stored.{specs_of};
-ghost use Rattle.fence_tokens.specs.Fences.{is_signalled, made};
+ghost use Rattle.buffer_pool.specs.Fences.{is_signalled, made};
 ghost use Rattle.device_core.specs.View.{with_rows};
 
 use crate::device::Device;
+use buffer_pool::Fences;
 use cam_types::{Fault, FenceNo, FrameNo, RowView, StreamIx, TargetState, TargetView};
 use device_rows::{is_home, is_sound, is_state, target_at};
-use fence_tokens::Fences;
 use fill_jobs::FillJob;
 
 impl Device {

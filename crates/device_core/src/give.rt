@@ -6,14 +6,13 @@ ghost use Rattle.device_rows.specs.Ready.{is_failed_return_ready, is_finish_read
 ghost use Rattle.device_rows.specs.Rows.{delivered, returned_failed, row_at, with_row};
 ghost use Rattle.device_store.specs.Steps.{IsBackAt, ShowsAt};
 ghost use Rattle.device_store.specs.Stored.{specs_of};
-ghost use Rattle.fence_tokens.specs.Fences.{made};
+ghost use Rattle.buffer_pool.specs.Fences.{made};
 ghost use Rattle.device_core.specs.View.{with_rows};
 
 use crate::device::Device;
-use buffer_pool::Parked;
+use buffer_pool::{Fences, Parked};
 use cam_types::{FrameNo, PixelBuf, StreamIx, TargetState};
 use device_rows::{is_state, may_return_failed, target_at};
-use fence_tokens::Fences;
 
 impl Device {
     /// Whether `finish` gives the buffer of a target.

@@ -7,7 +7,7 @@ mod errors;
 mod expose;
 mod fill;
 mod give;
-mod metadata;
+mod results;
 mod retire;
 
 pub use device::Device;

@@ -1,7 +1,7 @@
 //! Rows that are done with go, and the device ends.
 ghost use Rattle.std.specs.Prelude.{◌≡◌, not, IsFalse, IsTrue};
 ghost use Rattle.std.specs.List.{list_all};
-ghost use Rattle.fence_tokens.specs.Fences.{made};
+ghost use Rattle.buffer_pool.specs.Fences.{made};
 ghost use Rattle.device_rows.specs.Jobs.{has_job_out};
 ghost use Rattle.device_rows.specs.Kept.{have_made_fences};
 ghost use Rattle.device_rows.specs.Ready.{is_retire_ready};
@@ -9,8 +9,8 @@ ghost use Rattle.device_rows.specs.Rows.{without};
 ghost use Rattle.device_core.specs.View.{with_rows};
 
 use crate::device::Device;
+use buffer_pool::Fences;
 use cam_types::FrameNo;
-use fence_tokens::Fences;
 
 impl Device {
     /// Takes out the row of a frame that isn't open any more. False exactly where no such row stands or the frame is

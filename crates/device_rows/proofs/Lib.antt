@@ -1,0 +1,9 @@
+pub mod General
+pub mod Reach
+pub mod TableRowsLemmas
+pub mod Places
+pub mod Marked
+pub mod Front
+pub mod Causes
+pub mod LeastLemmas
+pub mod NextLemmas

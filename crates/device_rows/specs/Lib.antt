@@ -1,3 +1,9 @@
+pub mod Marks
+pub mod TableRows
+pub mod Inside
+pub mod Order
+pub mod Due
+pub mod Next
 pub mod Rows
 pub mod Faults
 pub mod Ready

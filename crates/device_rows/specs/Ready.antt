@@ -10,11 +10,11 @@ use Rattle.cam_types.specs.declared.row.TargetState.{TargetState}
 use Rattle.cam_types.specs.declared.row.TargetState.TheVariants.{Waiting, Out, Filled, EarlyFilled}
 use Rattle.cam_types.specs.declared.row.TargetView.{TargetView}
 use Rattle.cam_types.specs.declared.script.Fault.{Fault}
-use Rattle.error_notify.specs.Next.{next_due}
-use Rattle.error_notify.specs.declared.entry.ErrorEntry.{ErrorEntry}
-use Rattle.error_notify.specs.declared.entry.ErrorEntry.TheVariants.{Device}
-use Rattle.flush_path.specs.Due.{verdict_of}
-use Rattle.notify_order.specs.Order.{each_below, holds_back}
+use Rattle.device_rows.specs.Next.{next_due}
+use Rattle.device_rows.specs.declared.entry.ErrorEntry.{ErrorEntry}
+use Rattle.device_rows.specs.declared.entry.ErrorEntry.TheVariants.{Device}
+use Rattle.device_rows.specs.Due.{verdict_of}
+use Rattle.device_rows.specs.Order.{each_below, holds_back}
 use Rattle.device_rows.specs.Faults.{fault_of_buffer, fault_of_device, fault_of_request, fault_of_result, faults_of}
 use Rattle.device_rows.specs.Rows.{row_at, target_at}
 

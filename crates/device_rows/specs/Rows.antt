@@ -7,10 +7,10 @@ use Rattle.cam_types.specs.declared.row.SensorPlace.TheVariants.{Out as SensorOu
 use Rattle.cam_types.specs.declared.row.TargetState.{TargetState}
 use Rattle.cam_types.specs.declared.row.TargetState.TheVariants.{Out, Filled, ReturnedEarly, EarlyFilled, ReturnedOk, ReturnedFailed}
 use Rattle.cam_types.specs.declared.row.TargetView.{TargetView}
-use Rattle.error_notify.specs.declared.entry.ErrorEntry.{ErrorEntry}
-use Rattle.error_notify.specs.declared.entry.ErrorEntry.TheVariants.{Request, Result, Buffer, Device}
-use Rattle.inflight_table.specs.declared.mark.Mark.TheVariants.{Shutter, Part, RequestError, ResultError, Announced, Target, Sensor, Stopped}
-use Rattle.inflight_table.specs.Marks.{marked}
+use Rattle.device_rows.specs.declared.entry.ErrorEntry.{ErrorEntry}
+use Rattle.device_rows.specs.declared.entry.ErrorEntry.TheVariants.{Request, Result, Buffer, Device}
+use Rattle.device_rows.specs.declared.mark.Mark.TheVariants.{Shutter, Part, RequestError, ResultError, Announced, Target, Sensor, Stopped}
+use Rattle.device_rows.specs.Marks.{marked}
 
 -- The rows of the open frames, the oldest first, and what each of the device's steps makes of them. Each step changes
 -- the row of one frame alone, but for a stop, which marks them all.

@@ -5,7 +5,7 @@ use Rattle.std.proofs.lemmas.Bool.{and_from, and_parts, false≢true, or_right}
 use Rattle.std.proofs.lemmas.Bool.Decides.{nat_tests}
 use Rattle.std.proofs.lemmas.List.{map-append}
 use Rattle.std.proofs.lemmas.Grind.{common_steps}
-use Rattle.basic_lemmas.proofs.Lists.{all-append, all-mapped, all-where}
+use Rattle.basic_lemmas.proofs.Lists.{all-append, all-mapped, all-where, append-none}
 use Rattle.buffer_pool.specs.declared.parked.Parked.{Parked}
 use Rattle.cam_types.specs.Four.{four_list}
 use Rattle.cam_types.specs.Metadata.{range_fault}
@@ -24,9 +24,9 @@ use Rattle.device_store.specs.declared.readouts.Slot.{Slot}
 use Rattle.device_store.specs.declared.readouts.Slot.TheVariants.{Spare}
 use Rattle.device_store.specs.Kept.{agree, full, held_at, held_by, held_in, is_kept, is_placed, is_unbegun, IsKept, slot_of, waiting_at, waiting_in, waiting_with, waits}
 use Rattle.device_store.specs.Stored.{AreParked, are_before, frame_number, is_some_target, IsParkedAt, IsParkedIn, specs_of, views}
-use Rattle.inflight_table.specs.declared.row.Row.{Row}
-use Rattle.inflight_table.specs.Rows.{are_apart, are_below, are_both, is_apart, is_for, is_one_each, view_of}
-use Rattle.stream_config.specs.declared.plan.Plan.{Plan}
+use Rattle.device_rows.specs.declared.table_row.Row.{Row}
+use Rattle.device_rows.specs.TableRows.{are_apart, are_below, are_both, is_apart, is_for, is_one_each, view_of}
+use Rattle.request_checks.specs.declared.plan.Plan.{Plan}
 use Rattle.device_store.proofs.General.{rises-push}
 
 -- ---- streams that rise are apart
@@ -49,10 +49,6 @@ after (Some t) rest low streams h =
 apart-by : (o p : Option TargetView) → ((t : TargetView) → o ≡ Some t → is_for t.stream.0 p ≡ false) → is_apart o p ≡ true
 apart-by None p h = refl
 apart-by (Some t) p h = rw (h t refl) refl
-
-append-none : {X : Type 0} (xs : List X) → xs ++ [] ≡ xs
-append-none [] = refl
-append-none {X} (x ∷ xs) = ap (λ (z : List X). x ∷ z) (append-none xs)
 
 rise-padded : (xs : List TargetView) (low streams : ℕ) → rise_from low streams xs ≡ true → rise_from low streams (xs ++ []) ≡ true
 rise-padded xs low streams h = rw (append-none xs) h

@@ -3,7 +3,7 @@ use Rattle.std.proofs.Common.{◌≡◌, ℕ, ◌+◌, ◌==◌, Bool, true, fal
 use Rattle.std.specs.List.{list_all, list_any}
 use Rattle.std.proofs.lemmas.Bool.{and_parts, both_ways, cases_Bool, false≢true}
 use Rattle.std.proofs.lemmas.Bool.Decides.{nat_tests}
-use Rattle.basic_lemmas.proofs.Lists.{all-agree, all-mapped, any-mapped}
+use Rattle.basic_lemmas.proofs.Lists.{all-agree, all-mapped, any-mapped, any-agree}
 use Rattle.cam_types.specs.Four.{four_list}
 use Rattle.cam_types.specs.Metadata.{range_fault}
 use Rattle.cam_types.specs.declared.number.StreamIx.{StreamIx}
@@ -19,10 +19,11 @@ use Rattle.device_rows.specs.Ready.{is_sensor_out}
 use Rattle.device_rows.specs.Rows.{target_at}
 use Rattle.device_store.specs.Kept.{agree, agree_at, fills_out, is_kept, is_kept_back, is_out, is_placed, is_unbegun, is_waiting, waits}
 use Rattle.device_store.specs.Stored.{is_some_target, rises}
-use Rattle.inflight_table.specs.Marks.{as_announced, in_state, marked, with_target}
-use Rattle.inflight_table.specs.declared.mark.Mark.TheVariants.{Announced, RequestError, Target}
-use Rattle.device_store.proofs.General.{all-at, count-at, find-passes}
+use Rattle.device_rows.specs.Marks.{as_announced, in_state, marked, with_target}
+use Rattle.device_rows.specs.declared.mark.Mark.TheVariants.{Announced, RequestError, Target}
+use Rattle.device_store.proofs.General.{kept-at, count-at, find-passes}
 use Rattle.device_store.proofs.Targets.{four-mapped, rise-mapped, stream_number, streams-rise}
+use Rattle.basic_lemmas.proofs.Options.{is-none}
 
 -- ---- changes that touch no test
 
@@ -37,10 +38,6 @@ filter-mapped p f [] same = refl
 filter-mapped p f (x ∷ xs) same =
     let ih = filter-mapped p f xs same in
     elim (cases_Bool (p x)) [ inl yes' ↦ rw (same x, yes', ih) refl | inr no' ↦ rw (same x, no', ih) refl ]
-
-any-agree : {X : Type 0} (p q : X → Bool) (xs : List X) → ((x : X) → p x ≡ q x) → list_any p xs ≡ list_any q xs
-any-agree p q [] h = refl
-any-agree p q (x ∷ xs) h = rw (h x, any-agree p q xs h) refl
 
 -- ---- the place of a row
 
@@ -148,7 +145,7 @@ agree-failed NotYet row s t order found in' cause here agrees =
     let own' = and_parts (is_kept_back t.state) (not t.announced) own in
     let failed = failed-back row.request_error t.announced cause own'.1 in
     let still : is_unbegun (in_state ReturnedFailed t) ≡ true = own'.1 in
-    let all = ap (λ (z : List TargetView). list_all is_unbegun z) (four-mapped s.0 (in_state ReturnedFailed) row.targets) ∙ all-at stream_number is_unbegun (in_state ReturnedFailed) s.0 (four_list row.targets) t order found later.0 still in
+    let all = ap (λ (z : List TargetView). list_all is_unbegun z) (four-mapped s.0 (in_state ReturnedFailed) row.targets) ∙ kept-at stream_number is_unbegun (in_state ReturnedFailed) s.0 (four_list row.targets) t order found later.0 still in
     rw (parts.0, all, failed) refl
 agree-failed SensorOut row s t order found in' cause here agrees = absurd (false≢true (sym here))
 agree-failed Home row s t order found in' cause here agrees =
@@ -234,10 +231,6 @@ agree-home row agrees =
     let parts = and_parts (is_some row.shutter) (list_any waits (four_list row.targets) && list_all waits (four_list row.targets)) agrees in
     let later = and_parts (list_any waits (four_list row.targets)) (list_all waits (four_list row.targets)) parts.1 in
     rw (parts.0, waits-none (four_list row.targets) later.1) refl
-
-is-none : (o : Option ℕ) → is_none o ≡ true → o ≡ None
-is-none None h = refl
-is-none (Some x) h = absurd (false≢true h)
 
 -- the settings are in range
 pub range-none : (streams : ℕ) (row : RowView) → is_kept streams row ≡ true → range_fault row.settings ≡ None

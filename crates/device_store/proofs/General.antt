@@ -6,7 +6,7 @@ use Rattle.std.proofs.lemmas.Bool.Decides.{nat_tests}
 use Rattle.std.proofs.lemmas.Grind.{common_steps}
 use Rattle.std.specs.Option.{option_map}
 use Rattle.device_store.specs.Stored.{rises}
-use Rattle.basic_lemmas.proofs.Lists.{all-agree, all-append, all-filtered, all-mapped, map-where}
+use Rattle.basic_lemmas.proofs.Lists.{all-agree, all-append, all-filtered, all-mapped, map-where, all-at}
 
 pub find-passes : {X : Type 0} (p : X → Bool) (t : X → Bool) (xs : List X) (x : X) → list_all t xs ≡ true → find p xs ≡ Some x → t x ≡ true
 find-passes p t [] x all h = absurd (cc)
@@ -16,19 +16,6 @@ find-passes p t (y ∷ xs) x all h =
       | inl here ↦ (let h' = rw here at h in let same : y ≡ x = cc in rw same at parts.0)
       | inr other ↦ (let h' = rw other at h in find-passes p t xs x parts.1 h')
     ]
-
-pub found-is : {X : Type 0} (p : X → Bool) (xs : List X) (x : X) → find p xs ≡ Some x → p x ≡ true
-found-is p [] x h = absurd (cc)
-found-is p (y ∷ xs) x h =
-    elim (cases_Bool (p y)) [
-      | inl here ↦ (let h' = rw here at h in let same : y ≡ x = cc in rw same at here)
-      | inr other ↦ (let h' = rw other at h in found-is p xs x h')
-    ]
-
-pub get-passes : {X : Type 0} (p : X → Bool) (xs : List X) (i : ℕ) (x : X) → list_all p xs ≡ true → slice_get xs i ≡ Some x → p x ≡ true
-get-passes p [] i x all h = absurd (cc)
-get-passes p (y ∷ xs) zero x all h = let parts = and_parts (p y) (list_all p xs) all in let same : y ≡ x = cc in rw same at parts.0
-get-passes p (y ∷ xs) (suc i) x all h = get-passes p xs i x (and_parts (p y) (list_all p xs) all).1 h
 
 -- what is left from a place on, by what stands there
 pub drop-here : {X : Type 0} (xs : List X) (i : ℕ) (x : X) → slice_get xs i ≡ Some x → drop i xs ≡ x ∷ drop (i + 1) xs
@@ -75,9 +62,9 @@ module _ {X : Type 0} (key : X → ℕ) where
       ]
 
   -- what all pass, the one of key n once it is changed too
-  pub all-at : (p : X → Bool) (change : X → X) (n : ℕ) (xs : List X) (x : X) → rises key xs ≡ true → find (λ y. key y == n) xs ≡ Some x → list_all p xs ≡ true → p (change x) ≡ true → list_all p (map (λ y. if key y == n then change y else y) xs) ≡ true
-  all-at p change n [] x order h all here = refl
-  all-at p change n (y ∷ xs) x order h all here =
+  pub kept-at : (p : X → Bool) (change : X → X) (n : ℕ) (xs : List X) (x : X) → rises key xs ≡ true → find (λ y. key y == n) xs ≡ Some x → list_all p xs ≡ true → p (change x) ≡ true → list_all p (map (λ y. if key y == n then change y else y) xs) ≡ true
+  kept-at p change n [] x order h all here = refl
+  kept-at p change n (y ∷ xs) x order h all here =
       let parts = and_parts (list_all (λ z. nat_lt (key y) (key z)) xs) (rises key xs) order in
       let each = and_parts (p y) (list_all p xs) all in
       elim (cases_Bool (key y == n)) [
@@ -91,7 +78,7 @@ module _ {X : Type 0} (key : X → ℕ) where
             )
         | inr no' ↦ (
             let h' = rw no' at h in
-            let ih = all-at p change n xs x parts.1 h' each.1 here in
+            let ih = kept-at p change n xs x parts.1 h' each.1 here in
             rw (no', each.0, ih) refl
             )
       ]
@@ -115,7 +102,7 @@ module _ {X : Type 0} (key : X → ℕ) where
       rw (at, rest, head) refl
   changed-at change n (suc i) (y ∷ xs) x order h is =
       let parts = and_parts (list_all (λ z. nat_lt (key y) (key z)) xs) (rises key xs) order in
-      let above = get-passes (λ z. nat_lt (key y) (key z)) xs i x parts.0 h in
+      let above = all-at (λ z. nat_lt (key y) (key z)) xs i x parts.0 h in
       let no' = other-below (key y) (key x) n is above in
       let ih = changed-at change n i xs x parts.1 h is in
       rw (no', ih) refl
@@ -137,7 +124,7 @@ module _ {X : Type 0} (key : X → ℕ) where
       rw (at, kept-above (key y) n xs at parts.0) refl
   removed-at n (suc i) (y ∷ xs) x order h is =
       let parts = and_parts (list_all (λ z. nat_lt (key y) (key z)) xs) (rises key xs) order in
-      let above = get-passes (λ z. nat_lt (key y) (key z)) xs i x parts.0 h in
+      let above = all-at (λ z. nat_lt (key y) (key z)) xs i x parts.0 h in
       let no' = other-below (key y) (key x) n is above in
       let ih = removed-at n i xs x parts.1 h is in
       rw (no', ih) refl
@@ -156,6 +143,11 @@ rises-mapped key f [] same = refl
 rises-mapped key f (x ∷ xs) same =
     let above = all-mapped (λ z. nat_lt (key x) (key z)) f xs ∙ all-agree (λ z. nat_lt (key x) (key (f z))) (λ z. nat_lt (key x) (key z)) xs (λ z. ap (λ k. nat_lt (key x) k) (same z)) in
     rw (same x, above, rises-mapped key f xs same) refl
+
+pub rises-drop : {X : Type 0} (key : X → ℕ) (xs : List X) (i : ℕ) → rises key xs ≡ true → rises key (drop i xs) ≡ true
+rises-drop key xs zero order = order
+rises-drop key [] (suc i) order = refl
+rises-drop key (x ∷ xs) (suc i) order = rises-drop key xs i (and_parts (list_all (λ y. nat_lt (key x) (key y)) xs) (rises key xs) order).1
 
 pub rises-filtered : {X : Type 0} (key : X → ℕ) (p : X → Bool) (xs : List X) → rises key xs ≡ true → rises key (filter p xs) ≡ true
 rises-filtered key p [] order = refl

@@ -8,6 +8,6 @@ pub mod Ops
 pub mod OneMark
 pub mod Moves
 pub mod Outs
-pub mod Books
+pub mod Turns
 pub mod Retired
 pub mod Scrapped

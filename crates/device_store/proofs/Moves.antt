@@ -22,11 +22,11 @@ use Rattle.device_store.specs.declared.readouts.Slot.TheVariants.{Home as SlotHo
 use Rattle.device_store.specs.Kept.{agree, agree_at, filled_for, fills_out, is_out, is_unbegun, is_waiting, waits, full, held_by, is_kept, is_kept_back, is_placed, IsKept, slot_of}
 use Rattle.device_store.specs.Steps.{is_dark, is_filled}
 use Rattle.device_store.specs.Stored.{specs_of, Stored, views}
-use Rattle.inflight_table.specs.declared.mark.Mark.TheVariants.{Sensor, Shutter, Target}
-use Rattle.inflight_table.specs.declared.row.Row.{Row}
-use Rattle.inflight_table.specs.Marks.{in_state, marked}
-use Rattle.inflight_table.specs.Rows.{has_place, passes, row_of, Rows, view_of, with_mark, with_parked, with_row, with_rows}
-use Rattle.stream_config.specs.declared.plan.Plan.{Plan}
+use Rattle.device_rows.specs.declared.mark.Mark.TheVariants.{Sensor, Shutter, Target}
+use Rattle.device_rows.specs.declared.table_row.Row.{Row}
+use Rattle.device_rows.specs.Marks.{in_state, marked}
+use Rattle.device_rows.specs.TableRows.{has_place, passes, row_of, Rows, view_of, with_mark, with_parked, with_row, with_rows}
+use Rattle.request_checks.specs.declared.plan.Plan.{Plan}
 use Rattle.device_store.proofs.Agree.{agree-begun, agree-ended, agree-exposed, agree-failed, agree-home, agree-moved, dark-sensor, placed-changed, placed-parts}
 use Rattle.device_store.proofs.Ops.{early-full, full-same, is-target, IsTarget, place-free, slot-same, store-same, table-1, table-2, table-3, target-full}
 use Rattle.device_store.proofs.Steps.{kept-stepped, slots-same, slots-set, Stands, stands, Stepped, stepped-1, stepped-2, stepped-3}
@@ -233,7 +233,7 @@ filled-from-held EarlyFilled row g spec = refl
 filled-from-held ReturnedOk row g spec = refl
 filled-from-held ReturnedFailed row g spec = refl
 
-filled-from-in : (st : TargetState) → is_fill_out (filled_from st) ≡ false
+pub filled-from-in : (st : TargetState) → is_fill_out (filled_from st) ≡ false
 filled-from-in Waiting = refl
 filled-from-in Out = refl
 filled-from-in Filled = refl

@@ -7,8 +7,8 @@ use Rattle.cam_types.specs.declared.number.StreamIx.{StreamIx}
 use Rattle.cam_types.specs.declared.row.SensorPlace.{SensorPlace}
 use Rattle.cam_types.specs.declared.row.SensorPlace.TheVariants.{NotYet, Out as SensorOut, Home, WithFill}
 use Rattle.cam_types.specs.declared.stream.StreamSpec.{StreamSpec}
-use Rattle.inflight_table.specs.declared.mark.Mark.TheVariants.{Announced, RequestError, Stopped}
-use Rattle.inflight_table.specs.Marks.{as_announced}
+use Rattle.device_rows.specs.declared.mark.Mark.TheVariants.{Announced, RequestError, Stopped}
+use Rattle.device_rows.specs.Marks.{as_announced}
 use Rattle.device_store.proofs.Agree.{agree-announced, agree-request, placed-changed}
 use Rattle.device_store.proofs.General.{rises-mapped}
 use Rattle.device_store.proofs.Views.{views-full}
@@ -21,11 +21,11 @@ use Rattle.device_store.specs.declared.readouts.Slot.{Slot}
 use Rattle.device_store.specs.Kept.{agree, agree_at, full, is_kept, is_placed, IsKept, slot_of}
 use Rattle.device_store.specs.Steps.{is_lit}
 use Rattle.device_store.specs.Stored.{frame_number, specs_of, Stored, views}
-use Rattle.inflight_table.specs.declared.mark.Mark.{Mark}
-use Rattle.inflight_table.specs.declared.row.Row.{Row}
-use Rattle.inflight_table.specs.Marks.{marked}
-use Rattle.inflight_table.specs.Rows.{Rows, with_mark, with_row, with_rows}
-use Rattle.stream_config.specs.declared.plan.Plan.{Plan}
+use Rattle.device_rows.specs.declared.mark.Mark.{Mark}
+use Rattle.device_rows.specs.declared.table_row.Row.{Row}
+use Rattle.device_rows.specs.Marks.{marked}
+use Rattle.device_rows.specs.TableRows.{Rows, with_mark, with_row, with_rows}
+use Rattle.request_checks.specs.declared.plan.Plan.{Plan}
 use Rattle.device_store.proofs.Ops.{full-same, slot-same, store-same, table-1}
 use Rattle.device_store.proofs.Steps.{kept-stepped, slots-same, Stands, stands, stepped-1}
 

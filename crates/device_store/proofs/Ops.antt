@@ -21,18 +21,18 @@ use Rattle.device_rows.specs.Rows.{target_at}
 use Rattle.device_store.specs.declared.buffers.Held.{Held}
 use Rattle.device_store.specs.Kept.{agree, full, held_at, held_by, held_for, held_in, is_placed, slot_by, slot_of}
 use Rattle.device_store.specs.Stored.{rises, specs_of, Stored, views}
-use Rattle.inflight_table.specs.declared.mark.Mark.{Mark}
-use Rattle.inflight_table.specs.declared.mark.Mark.TheVariants.{Announced, Target}
-use Rattle.inflight_table.specs.declared.row.Row.{Row}
-use Rattle.inflight_table.specs.Marks.{as_announced, in_state, marked, with_target}
-use Rattle.inflight_table.specs.Rows.{are_apart, has_place, parked_for, passes, placed_at, row_of, Rows, with_mark, with_parked, with_row, with_rows}
-use Rattle.stream_config.specs.declared.plan.Plan.{Plan}
+use Rattle.device_rows.specs.declared.mark.Mark.{Mark}
+use Rattle.device_rows.specs.declared.mark.Mark.TheVariants.{Announced, Target}
+use Rattle.device_rows.specs.declared.table_row.Row.{Row}
+use Rattle.device_rows.specs.Marks.{as_announced, in_state, marked, with_target}
+use Rattle.device_rows.specs.TableRows.{are_apart, has_place, parked_for, passes, placed_at, row_of, Rows, with_mark, with_parked, with_row, with_rows}
+use Rattle.request_checks.specs.declared.plan.Plan.{Plan}
 use Rattle.device_store.proofs.Admission.{rise-apart}
 use Rattle.device_store.proofs.Agree.{placed-parts}
-use Rattle.device_store.proofs.General.{found-is, get-passes}
 use Rattle.device_store.proofs.Steps.{Stands}
 use Rattle.device_store.proofs.Targets.{has-found, parked-found, placed, placed-same, stream_number}
 use Rattle.device_store.proofs.Views.{find-full}
+use Rattle.basic_lemmas.proofs.Lists.{found-passes, all-at}
 
 -- ---- what is held depends on the frame, the settings and the targets alone
 
@@ -111,7 +111,7 @@ is-target plan rows n s row t at offered found =
     let kept = and_parts (is_placed (length (specs_of plan)) row) (agree row) at.kept in
     let parts = placed-parts (length (specs_of plan)) row kept.0 in
     let within = stream-within 0 (length (specs_of plan)) (λ u. u.stream.0 == s) (four_list row.targets) t parts.rise found in
-    let own = found-is (λ u. u.stream.0 == s) (four_list row.targets) t found in
+    let own = found-passes (λ u. u.stream.0 == s) (four_list row.targets) t found in
     let (spec, is) = spec-within (specs_of plan) t.stream.0 within in (
       spec,
       record {
@@ -122,7 +122,7 @@ is-target plan rows n s row t at offered found =
         agrees = kept.1;
         stream = eqb-true t.stream.0 s own;
         spec_is = is;
-        offered = get-passes is_offered (specs_of plan) t.stream.0 spec offered is;
+        offered = all-at is_offered (specs_of plan) t.stream.0 spec offered is;
       },
     )
 

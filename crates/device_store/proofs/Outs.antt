@@ -19,7 +19,7 @@ use Rattle.cam_types.specs.declared.row.TargetState.{TargetState}
 use Rattle.cam_types.specs.declared.row.TargetState.TheVariants.{Waiting, Out, Filled, ReturnedEarly, EarlyFilled, ReturnedOk, ReturnedFailed}
 use Rattle.cam_types.specs.declared.row.TargetView.{TargetView}
 use Rattle.cam_types.specs.declared.stream.StreamSpec.{StreamSpec}
-use Rattle.fence_tokens.specs.Fences.{FencesMade, is_signalled}
+use Rattle.buffer_pool.specs.Fences.{FencesMade, is_signalled}
 use Rattle.fill_jobs.specs.Buffers.{IsBufferFor, IsPictureFor, IsPictureOf}
 use Rattle.device_rows.specs.Jobs.{fill_job, fill_job_in, fill_job_of, is_fill_out, IsFillJobOut, IsFillOutFor, sensor_job, sensor_job_of}
 use Rattle.device_rows.specs.Kept.{is_made}
@@ -35,8 +35,8 @@ use Rattle.device_store.specs.declared.readouts.Slot.TheVariants.{Spare, Home as
 use Rattle.device_store.specs.Kept.{fence_number, filled_for, held_by, IsKept, slot_by, slot_of, waiting_for}
 use Rattle.device_store.specs.Steps.{fill_job_for, IsBackAt, ShowsAt, waiter_kept}
 use Rattle.device_store.specs.Stored.{specs_of, views}
-use Rattle.inflight_table.specs.Rows.{parked_for, row_of, Rows}
-use Rattle.stream_config.specs.declared.plan.Plan.{Plan}
+use Rattle.device_rows.specs.TableRows.{parked_for, row_of, Rows}
+use Rattle.request_checks.specs.declared.plan.Plan.{Plan}
 use Rattle.device_store.proofs.Ops.{is-target, IsTarget, met, taken-is}
 use Rattle.device_store.proofs.Steps.{Stands, stands}
 

@@ -23,9 +23,9 @@ use Rattle.device_store.specs.declared.readouts.Slot.{Slot}
 use Rattle.device_store.specs.declared.readouts.Slot.TheVariants.{Away}
 use Rattle.device_store.specs.Kept.{agree, agree_at, fills_out, full, held_at, held_by, is_kept, is_out, is_placed, is_waiting, IsKept, slot_by, slot_of, waits}
 use Rattle.device_store.specs.Stored.{frame_number, specs_of, Stored, views}
-use Rattle.inflight_table.specs.declared.row.Row.{Row}
-use Rattle.inflight_table.specs.Rows.{is_cleared, is_of, passes, row_of, Rows, view_of, with_rows, without}
-use Rattle.stream_config.specs.declared.plan.Plan.{Plan}
+use Rattle.device_rows.specs.declared.table_row.Row.{Row}
+use Rattle.device_rows.specs.TableRows.{is_cleared, is_of, passes, row_of, Rows, view_of, with_rows, without}
+use Rattle.request_checks.specs.declared.plan.Plan.{Plan}
 use Rattle.device_store.proofs.General.{map-removed, removed-at, rises-filtered}
 use Rattle.device_store.proofs.Ops.{store-same}
 use Rattle.device_store.proofs.Steps.{stands}

@@ -15,7 +15,7 @@ use Rattle.device_store.specs.declared.buffers.Held.{Held}
 use Rattle.device_store.specs.Kept.{fence_number, full, held_at, held_by}
 use Rattle.device_store.specs.Stored.{views}
 use Rattle.device_store.specs.Unpacked.{is_made_at, is_made_number, is_made_row}
-use Rattle.inflight_table.specs.declared.row.Row.{Row}
+use Rattle.device_rows.specs.declared.table_row.Row.{Row}
 
 made-number : (k : ℕ) (fence : Option FenceNo) → is_made k fence ≡ true → is_made_number k (fence_number fence) ≡ true
 made-number k None h = refl

@@ -10,10 +10,10 @@ use Rattle.device_store.specs.declared.buffers.Held.{Held}
 use Rattle.device_store.specs.declared.readouts.Slot.{Slot}
 use Rattle.device_store.specs.Kept.{full, is_kept, IsKept, slot_of}
 use Rattle.device_store.specs.Stored.{frame_number, rises, specs_of, views}
-use Rattle.inflight_table.specs.declared.row.Row.{Row}
-use Rattle.inflight_table.specs.Rows.{if_of, is_of, view_of, with_row}
-use Rattle.stream_config.specs.declared.plan.Plan.{Plan}
-use Rattle.device_store.proofs.General.{all-at, changed-at, find-passes, map-at, rises-mapped}
+use Rattle.device_rows.specs.declared.table_row.Row.{Row}
+use Rattle.device_rows.specs.TableRows.{if_of, is_of, view_of, with_row}
+use Rattle.request_checks.specs.declared.plan.Plan.{Plan}
+use Rattle.device_store.proofs.General.{kept-at, changed-at, find-passes, map-at, rises-mapped}
 use Rattle.device_store.proofs.Views.{found-own, step-full, views-full}
 
 -- the row that a step changes, as it stands
@@ -114,6 +114,6 @@ kept-stepped plan rows after capacity capacity' slots slots' spares slot_room sl
       order = rw step.is (rises-mapped frame_number (λ v. if v.frame.0 == n then change v else v) (views rows) (λ v. keeps-if (v.frame.0 == n) change v (keeps v)) ∙ kept.order);
       enough = omega (arith, old, long);
       room = kept.room;
-      each = rw step.is (all-at frame_number (is_kept (length (specs_of plan))) change n (views rows) row at.order at.found kept.each each);
+      each = rw step.is (kept-at frame_number (is_kept (length (specs_of plan))) change n (views rows) row at.order at.found kept.each each);
       offered = kept.offered;
     })

@@ -7,8 +7,8 @@ use Rattle.std.proofs.lemmas.Bool.{and_parts, cases_Bool, eqb-true, false≢true
 use Rattle.cam_types.specs.Four.{four_list}
 use Rattle.cam_types.specs.declared.four.Four.{Four}
 use Rattle.cam_types.specs.declared.row.TargetView.{TargetView}
-use Rattle.inflight_table.specs.Marks.{if_of_stream, with_target}
-use Rattle.inflight_table.specs.Rows.{are_apart, has_target, is_apart, is_for, parked_at, placed_at}
+use Rattle.device_rows.specs.Marks.{if_of_stream, with_target}
+use Rattle.device_rows.specs.TableRows.{are_apart, has_target, is_apart, is_for, parked_at, placed_at}
 use Rattle.device_rows.specs.Kept.{rise_from}
 use Rattle.device_store.specs.Stored.{rises}
 

@@ -15,8 +15,8 @@ use Rattle.cam_types.specs.declared.row.TargetView.{TargetView}
 use Rattle.cam_types.specs.declared.stream.StreamSpec.{StreamSpec}
 use Rattle.device_rows.specs.Jobs.{fill_job, is_fill_out, sensor_job}
 use Rattle.device_rows.specs.Kept.{rise_from}
-use Rattle.inflight_table.specs.declared.row.Row.{Row}
-use Rattle.stream_config.specs.declared.plan.Plan.{Plan}
+use Rattle.device_rows.specs.declared.table_row.Row.{Row}
+use Rattle.request_checks.specs.declared.plan.Plan.{Plan}
 use Rattle.device_store.specs.declared.buffers.Held.{Held}
 use Rattle.device_store.specs.declared.buffers.Held.TheVariants.{Waiting as HeldWaiting, Filled as HeldFilled}
 use Rattle.device_store.specs.declared.readouts.Slot.{Slot}

@@ -7,9 +7,9 @@ use Rattle.cam_types.specs.declared.row.RowView.{RowView}
 use Rattle.cam_types.specs.declared.row.TargetState.TheVariants.{Waiting, Out, Filled, EarlyFilled}
 use Rattle.cam_types.specs.declared.row.TargetView.{TargetView}
 use Rattle.cam_types.specs.declared.stream.StreamSpec.{StreamSpec}
-use Rattle.error_notify.specs.declared.entry.ErrorEntry.{ErrorEntry}
-use Rattle.error_notify.specs.declared.entry.ErrorEntry.TheVariants.{Request, Result, Buffer, Device}
-use Rattle.fence_tokens.specs.Fences.{FencesMade, is_signalled, made}
+use Rattle.device_rows.specs.declared.entry.ErrorEntry.{ErrorEntry}
+use Rattle.device_rows.specs.declared.entry.ErrorEntry.TheVariants.{Request, Result, Buffer, Device}
+use Rattle.buffer_pool.specs.Fences.{FencesMade, is_signalled, made}
 use Rattle.fill_jobs.specs.Buffers.{IsBufferFor, IsPictureFor}
 use Rattle.cam_types.specs.declared.job.JobView.{JobView}
 use Rattle.device_rows.specs.Jobs.{fill_job}

@@ -8,10 +8,10 @@ use Rattle.cam_types.specs.declared.row.RowView.{RowView}
 use Rattle.cam_types.specs.declared.row.TargetView.{TargetView}
 use Rattle.cam_types.specs.declared.stream.StreamSpec.{StreamSpec}
 use Rattle.fill_jobs.specs.Buffers.{IsBufferFor}
-use Rattle.inflight_table.specs.declared.row.Row.{Row}
-use Rattle.inflight_table.specs.Rows.{row_of, view_of}
-use Rattle.stream_config.specs.declared.plan.Plan.{Plan}
-use Rattle.stream_config.specs.declared.plan.PlanStream.{PlanStream}
+use Rattle.device_rows.specs.declared.table_row.Row.{Row}
+use Rattle.device_rows.specs.TableRows.{row_of, view_of}
+use Rattle.request_checks.specs.declared.plan.Plan.{Plan}
+use Rattle.request_checks.specs.declared.plan.PlanStream.{PlanStream}
 
 -- The rows of the open frames with all that the device holds for them (our own choice).
 

@@ -5,9 +5,9 @@ use Rattle.cam_types.specs.declared.job.JobView.{JobView}
 use Rattle.device_store.specs.declared.buffers.Held.{Held}
 use Rattle.device_store.specs.declared.buffers.Held.TheVariants.{Waiting, Filled}
 use Rattle.device_store.specs.Steps.{waiter_kept}
-use Rattle.fence_tokens.specs.Fences.{FencesMade}
+use Rattle.buffer_pool.specs.Fences.{FencesMade}
 use Rattle.fill_jobs.specs.Buffers.{IsBufferFor, IsPictureOf}
-use Rattle.inflight_table.specs.declared.row.Row.{Row}
+use Rattle.device_rows.specs.declared.table_row.Row.{Row}
 
 -- A buffer that goes back without its picture being asked for (our own choice).
 

@@ -2,9 +2,8 @@
 ghost use Rattle.std.specs.Prelude.{◌≡◌, Some};
 ghost use Rattle.fill_jobs.specs.Buffers.{IsBufferFor, IsPictureFor, IsPictureOf};
 
-use buffer_pool::Parked;
+use buffer_pool::{Parked, Waiter};
 use cam_types::{FillTarget, FrameNo, PixelBuf, Settings, StreamSpec};
-use fence_tokens::Waiter;
 use std::marker::Model;
 
 /// A buffer that no stage has had yet, of a stream, with the waiter of its acquire fence. It can't be copied or let go.

@@ -10,8 +10,8 @@ use crate::place::{find_row, swap_slot};
 use crate::readouts::{HomeReadout, Slot};
 use crate::store::Store;
 use cam_types::{FrameNo, SensorPlace};
-use inflight_table::Mark;
-use sensor_sim::{ExposedJob, SensorJob};
+use device_rows::Mark;
+use picture_stages::{ExposedJob, SensorJob};
 
 impl Store {
     /// Begins the exposure of a frame that has no shutter and didn't fail whole, and gives the sensor's job.

@@ -2,7 +2,7 @@
 ghost use Rattle.std.specs.Prelude.{◌≡◌, ◌<◌, None, Some, true, IfSome, IsTrue};
 ghost use Rattle.cam_types.specs.Metadata.{range_fault};
 ghost use Rattle.cam_types.specs.Picture.{is_offered};
-ghost use Rattle.fence_tokens.specs.Fences.{is_signalled, made};
+ghost use Rattle.buffer_pool.specs.Fences.{is_signalled, made};
 ghost use Rattle.device_rows.specs.Jobs.{fill_job, IsFillJobOut, sensor_job};
 ghost use Rattle.device_rows.specs.Ready.{target_passes};
 ghost use Rattle.device_rows.specs.Rows.{fill_begun, fill_ended, filled_from, row_at, with_row};
@@ -14,12 +14,10 @@ use crate::buffers::{FilledBuf, Held, WaitingBuf};
 use crate::place::{find_row, swap_slot};
 use crate::readouts::{HomeReadout, Slot};
 use crate::store::Store;
-use buffer_pool::Parked;
+use buffer_pool::{Fences, Parked, Waiter};
 use cam_types::{FillTarget, FrameNo, RowView, SensorPlace, StreamIx, TargetState, TargetView};
-use device_rows::target_at;
-use fence_tokens::{Fences, Waiter};
+use device_rows::{Mark, target_at};
 use fill_jobs::{FillJob, FilledJob};
-use inflight_table::Mark;
 
 impl Store {
     /// Gives a stage the job of filling a target's buffer, which waits, with the readout, which is home. Its acquire

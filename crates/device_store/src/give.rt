@@ -1,7 +1,7 @@
 //! Buffers leave the store: filled, early or failed.
 ghost use Rattle.std.specs.Prelude.{◌≡◌, ◌<◌, None, Some, true, IfSome, IsTrue};
 ghost use Rattle.std.specs.Option.{option_and_then, option_map};
-ghost use Rattle.fence_tokens.specs.Fences.{is_signalled, made};
+ghost use Rattle.buffer_pool.specs.Fences.{is_signalled, made};
 ghost use Rattle.device_rows.specs.Kept.{has_made_fence};
 ghost use Rattle.device_rows.specs.Ready.{may_return_failed, target_passes};
 ghost use Rattle.device_rows.specs.Rows.{delivered, gone_early, returned_failed, row_at, target_in, with_row};
@@ -12,11 +12,9 @@ ghost use Rattle.device_store.specs.Unpacked.{IsMadeHeld, IsUnpacked};
 use crate::buffers::Held;
 use crate::fill::redeem;
 use crate::store::Store;
-use buffer_pool::Parked;
+use buffer_pool::{Fences, Parked};
 use cam_types::{BufferId, FrameNo, PixelBuf, StreamIx, TargetState};
-use device_rows::target_at;
-use fence_tokens::Fences;
-use inflight_table::Mark;
+use device_rows::{Mark, target_at};
 
 impl Store {
     /// Gives a buffer that shows its picture, with the digest.

@@ -7,7 +7,7 @@ use crate::buffers::{Held, WaitingBuf};
 use crate::plan::spec_at;
 use buffer_pool::Parked;
 use cam_types::{Four, TargetView};
-use stream_config::Plan;
+use request_checks::Plan;
 
 /// The buffers of a request's targets, as the device holds them.
 pub(crate) fn hold(plan: Plan, targets: Four<TargetView>, parked: Four<Parked>) -> Four<Held>

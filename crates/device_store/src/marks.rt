@@ -3,12 +3,11 @@ ghost use Rattle.std.specs.Prelude.{◌≡◌, is_some, IsTrue};
 ghost use Rattle.device_rows.specs.Rows.{all_stopped, row_at, with_error, with_part, with_row};
 ghost use Rattle.device_store.specs.Steps.{is_lit, is_timely};
 ghost use Rattle.device_store.specs.Stored.{with_rows};
-ghost use Rattle.inflight_table.specs.Marks.{marked};
+ghost use Rattle.device_rows.specs.Marks.{marked};
 
 use crate::store::Store;
 use cam_types::{FrameNo, StreamIx};
-use error_notify::ErrorEntry;
-use inflight_table::Mark;
+use device_rows::{ErrorEntry, Mark};
 
 impl Store {
     /// Notes how many metadata results of a frame were sent.

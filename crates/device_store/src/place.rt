@@ -3,12 +3,12 @@ ghost use Rattle.std.specs.Prelude.{◌≡◌, ◌<◌, IfSome, IsNone, IsTrue, 
 ghost use Rattle.std.specs.Option.{option_map};
 ghost use Rattle.device_rows.specs.Rows.{row_at};
 ghost use Rattle.device_store.specs.Stored.{find_view, views};
-ghost use Rattle.inflight_table.specs.Rows.{row_of, view_of};
+ghost use Rattle.device_rows.specs.TableRows.{row_of, view_of};
 
 use crate::buffers::Held;
 use crate::readouts::Slot;
 use cam_types::{FrameNo, RowView};
-use inflight_table::Table;
+use device_rows::Table;
 use std::mem::replace;
 
 /// The place of a frame's row, and the row.

@@ -1,10 +1,10 @@
 //! The specification of a stream of the plan.
 ghost use Rattle.std.specs.Prelude.{◌≡◌, ◌++◌, List, Some, IfErr, IfOk, map, option_to_list, slice_get};
 ghost use Rattle.device_store.specs.Stored.{spec_of, specs_of};
-ghost use Rattle.stream_config.specs.declared.plan.PlanStream.{PlanStream as AStream};
+ghost use Rattle.request_checks.specs.declared.plan.PlanStream.{PlanStream as AStream};
 
 use cam_types::{Four, StreamIx, StreamSpec};
-use stream_config::{Plan, PlanStream};
+use request_checks::{Plan, PlanStream};
 
 /// The specification at a place, where the stream has it; else the place counted from the next stream on.
 fn step(stream: Option<PlanStream>, place: u8) -> Result<StreamSpec, u8>

@@ -4,7 +4,7 @@ ghost use Rattle.cam_types.specs.Picture.{readout as readout_of};
 ghost use Rattle.device_store.specs.Held.{as_exposed};
 
 use cam_types::{FrameNo, Readout, Settings};
-use sensor_sim::ExposedJob;
+use picture_stages::ExposedJob;
 use std::marker::Model;
 
 /// A readout whose values don't matter.

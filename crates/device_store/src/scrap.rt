@@ -1,16 +1,16 @@
 //! The store ends, and spends all that it holds.
 ghost use Rattle.std.specs.Prelude.{◌≡◌, not, IsTrue};
 ghost use Rattle.std.specs.List.{list_all};
-ghost use Rattle.fence_tokens.specs.Fences.{made};
+ghost use Rattle.buffer_pool.specs.Fences.{made};
 ghost use Rattle.device_rows.specs.Jobs.{has_job_out};
 ghost use Rattle.device_rows.specs.Kept.{have_made_fences};
 ghost use Rattle.device_store.specs.Unpacked.{is_made_at, is_made_held, is_made_row};
 
 use crate::buffers::Held;
 use crate::store::Store;
+use buffer_pool::Fences;
 use cam_types::Four;
-use fence_tokens::Fences;
-use inflight_table::Row;
+use device_rows::Row;
 
 impl Store {
     /// Spends all that it holds. No job is out, and the fences of buffers that wait were made by these.

@@ -4,7 +4,6 @@ ghost use Rattle.std.specs.List.{list_all, list_any};
 ghost use Rattle.cam_types.specs.Four.{four_list};
 ghost use Rattle.cam_types.specs.Metadata.{range_fault};
 ghost use Rattle.cam_types.specs.Picture.{is_offered};
-ghost use Rattle.notify_order.specs.Order.{has_known_streams};
 ghost use Rattle.device_rows.specs.Kept.{is_fresh, rise_from};
 ghost use Rattle.device_rows.specs.Rows.{row_at};
 ghost use Rattle.device_store.specs.Stored.{AreParked, are_before, is_some_target, no_plan, specs_of, with_plan, with_rows};
@@ -14,10 +13,10 @@ use crate::hold::hold;
 use crate::readouts::{Scratch, Slot};
 use buffer_pool::Parked;
 use cam_types::{Four, FrameNo, NoMemory, Readout, RowView};
-use inflight_table::Table;
+use device_rows::Table;
+use request_checks::Plan;
 use std::alloc::Global;
 use std::marker::Model;
-use stream_config::Plan;
 
 /// The rows of the open frames, with the buffers that wait and those that are filled, and a readout for each row that
 /// may stand. A contract sees the plan, how many rows may stand, and those that stand. It can't be let go: `scrap` ends

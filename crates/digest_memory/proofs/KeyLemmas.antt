@@ -31,11 +31,6 @@ format-told Raw16 width height values h = refl
 format-told Yuv width height values h = refl
 format-told (Other k) width height values h = absurd (false≢true h)
 
-pub picture-turned : (spec : StreamSpec) (s : Settings) (n : ℕ) → picture spec s (turn_of s n) ≡ picture spec s n
-picture-turned spec s n =
-    picture-of-readout spec s (turn_of s n)
-    ∙ (ap (picture_of spec.format spec.width spec.height) (sym (readout-turned s n)) ∙ sym (picture-of-readout spec s n))
-
 pub by-key : (spec : StreamSpec) (s : Settings) (n : ℕ) → IsTrue (is_offered spec) → picture spec s n ≡ picture_by (key_of spec s n)
 by-key spec s n h =
     picture-of-readout spec s n

@@ -8,8 +8,7 @@ use std::alloc::Global;
 use std::sync::Wait;
 use std::thread::Threads;
 use std::time::Clock;
-use tools_top::tools_main;
-use tools_words::{Tool, tool_of};
+use tools_top::{Tool, tool_of, tools_main};
 
 /// The words of a command, and its input.
 #[derive(Clone, Copy)]

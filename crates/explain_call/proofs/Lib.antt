@@ -1,3 +1,4 @@
 pub mod Parts
 pub mod Told
 mod Telling
+pub mod Taken

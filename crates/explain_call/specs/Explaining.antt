@@ -1,9 +1,9 @@
 -- What `explain` answers and writes. (docs/FORMATS.md, What explain writes)
-use Rattle.std.specs.Prelude.{◌≡◌, ◌≢◌, ◌+◌, ℕ, List, [], Option, Some, None, Result, Ok, Err, length, nat_lt, true, false, ◌⊎◌, reverse, slice_get, take}
+use Rattle.std.specs.Prelude.{◌≡◌, ◌≢◌, ◌+◌, ℕ, List, [], Option, Some, None, Result, Ok, Err, ◌⊎◌, reverse, slice_get, take}
 use Rattle.io_edge.specs.States.{SinkState, Writes}
 use Rattle.cam_types.specs.declared.script.Script.{Script}
-use Rattle.line_reading.specs.declared.cause.TextRefused.{TextRefused}
-use Rattle.line_reading.specs.declared.cause.TextRefused.TheVariants.{Bad, NoMemory}
+use Rattle.text_parts.specs.declared.cause.TextRefused.{TextRefused}
+use Rattle.text_parts.specs.declared.cause.TextRefused.TheVariants.{Bad, NoMemory}
 use Rattle.script_text.specs.Grammar.{script_of}
 use Rattle.trace_check.specs.Verdict.{IsVerdict}
 use Rattle.trace_check.specs.declared.verdict.Verdict.{Verdict}
@@ -15,13 +15,13 @@ use Rattle.trace_reader.specs.Grammar.{trace_of}
 use Rattle.trace_reader.specs.declared.cause.TraceRefused.{TraceRefused}
 use Rattle.trace_reader.specs.declared.cause.TraceRefused.TheVariants.{Bad as BadTrace, NoMemory as NoTraceMemory}
 use Rattle.judge_text.specs.Lines.{verdict_status}
-use Rattle.judge_text.specs.Meaning.{input_limit}
 use Rattle.judge_text.specs.Parts.{first_line, script_part, trace_part}
 use Rattle.judge_text.specs.Profiles.{profile_of}
-use Rattle.explain_missing.specs.Missing.{incomplete_text}
+use Rattle.call_parts.specs.Meanings.{OfLimited}
+use Rattle.explain_text.specs.Missing.{incomplete_text}
 use Rattle.explain_refused.specs.Refused.{refused_input, refused_profile, refused_script, refused_trace}
 use Rattle.explain_text.specs.Explained.{illegal_text, legal_text}
-use Rattle.played_length.specs.Length.{IsPlayedLength}
+use Rattle.explain_call.specs.Length.{IsPlayedLength}
 use Rattle.rule_conditions.specs.Conditions.{first_failed}
 use Rattle.trace_check.specs.declared.verdict.RuleName.{RuleName}
 
@@ -91,9 +91,7 @@ ExplainsWhole input status text =
 
 -- the status and the whole text that belong to an input: it is too long, or has two parts
 abbrev pub Explains : List ℕ → ℕ → List ℕ → Type 0
-Explains input status text =
-    ((nat_lt input_limit (length input) ≡ true) × (status ≡ 1) × (text ≡ refused_input))
-    ⊎ ((nat_lt input_limit (length input) ≡ false) × ExplainsWhole input status text)
+Explains input status text = OfLimited refused_input ExplainsWhole input status text
 
 -- the input is a script and a trace of its profile, the trace is a complete legal run of the script, and `legal` was
 -- written with what of the script did nothing

@@ -9,22 +9,48 @@ ghost use Rattle.trace_model.specs.Printable.{is_printable};
 ghost use Rattle.script_text.specs.Grammar.{script_of};
 ghost use Rattle.trace_reader.specs.Grammar.{trace_of};
 ghost use Rattle.judge_text.specs.Lines.{verdict_status};
-ghost use Rattle.call_status.specs.Answers.{AnswersWithMemory, Tells, TellsBy};
-ghost use Rattle.call_status.specs.Ends.{CountsSink, CountsSource, ReadsBy};
+ghost use Rattle.call_parts.specs.Answers.{AnswersWithMemory, Tells, TellsBy};
+ghost use Rattle.call_parts.specs.Ends.{CountsSink, CountsSource, ReadsBy};
 ghost use Rattle.explain_call.specs.Explaining.{explained, Explains, ExplainsBoth, ExplainsTrace, ExplainsWhole, IsExplainedLegal};
 
 use crate::judged::{Judged, judge};
 use crate::refusals::{refuse_input, refuse_profile, refuse_script, refuse_trace};
 use crate::verdict::explain_verdict;
-use call_status::{Status, answer};
+use call_parts::{InputWork, Status, answer, answer_input};
 use cam_types::Script;
-use io_edge::{ReadBytes, ReadFault, Sink, Source, read_all};
+use io_edge::{Sink, Source};
 use judge_text::{parts_of, profiles_agree};
-use line_reading::TextRefused;
 use std::alloc::Global;
+use text_parts::TextRefused;
 use trace_check::Verdict;
 use trace_model::TraceList;
 use trace_reader::{TRACE_BYTES, TraceRefused, read_is_spelled};
+
+/// What `explain` makes of its input.
+#[derive(Drop)]
+struct Explain;
+
+impl InputWork for Explain {
+    ghost use Rattle.explain_call.specs.Explaining.{Explains};
+    ghost use Rattle.explain_refused.specs.Refused.{refused_input};
+
+    ghost limit = { 134217728 };
+
+    ghost belongs = { λ _. Explains };
+
+    ghost refusal = { λ _. refused_input };
+
+    fn refuse_long<K: Sink>(&self, alloc: Global, sink: &mut K) -> Status {
+        refuse_input(alloc, sink)
+    }
+
+    fn answer_whole<K: Sink>(&self, alloc: Global, input: &[u8], sink: &mut K) -> Status {
+        explain_input(alloc, input, sink)
+    }
+
+    #[tactic(auto, using(crate::proofs::Telling::are_explained, crate::proofs::Telling::long_refused))]
+    fn keeps_the_laws(&self) {}
+}
 
 /// Reads a script followed by a trace, as `check` does, judges the trace and writes its verdict in words. The statuses
 /// are those of `check`.
@@ -44,12 +70,7 @@ pub fn explain_call<S: Source, K: Sink>(alloc: Global, source: &mut S, sink: &mu
     ensures known { result.number ≤ 5 }
     ensures no_usage { result.number ≢ 2 }
 {
-    match read_all(alloc, source, TRACE_BYTES) {
-        Err(ReadFault::Failed) => Status::SOURCE_FAILED,
-        Err(ReadFault::NoMemory) => Status::NO_MEMORY,
-        Ok(ReadBytes::TooLong) => refuse_input(alloc, sink),
-        Ok(ReadBytes::Whole(bytes)) => explain_input(alloc, bytes.as_slice(), sink),
-    }
+    answer_input(alloc, source, sink, TRACE_BYTES, &Explain)
 }
 
 /// Reads a script followed by a trace, judges the trace and writes its verdict in words.

@@ -1,14 +1,14 @@
 //! A trace is judged, and the moves of its script's played run are counted where they are asked for.
 ghost use Rattle.std.specs.Prelude.{◌≡◌, IfOk, Ok};
 ghost use Rattle.explain_call.specs.Explaining.{CountsMoves};
-ghost use Rattle.played_length.specs.Length.{IsPlayedLength};
+ghost use Rattle.explain_call.specs.Length.{IsPlayedLength};
 ghost use Rattle.script_text.specs.Grammar.{script_of};
 ghost use Rattle.trace_check.specs.Verdict.{IsVerdict};
 
+use crate::played_length;
 use cam_types::{NoMemory, Script};
-use line_reading::TextRefused;
-use played_length::played_length;
 use std::alloc::{AllocError, Global};
+use text_parts::TextRefused;
 use trace_check::{Verdict, check};
 use trace_model::TraceList;
 

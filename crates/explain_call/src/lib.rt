@@ -3,7 +3,9 @@
 
 mod call;
 mod judged;
+mod length;
 mod refusals;
 mod verdict;
 
 pub use call::explain_call;
+pub use length::played_length;

@@ -1,13 +1,13 @@
 //! The refusal of an input in words.
-ghost use Rattle.call_status.specs.Answers.{AnswersWithMemory};
+ghost use Rattle.call_parts.specs.Answers.{AnswersWithMemory};
 ghost use Rattle.explain_refused.specs.Refused.{refused_input, refused_profile, refused_script, refused_trace};
 
-use call_status::{Status, answer};
+use call_parts::{Status, answer};
 use cam_types::Profile;
 use explain_refused::{refused_input, refused_profile, refused_script, refused_trace};
 use io_edge::Sink;
-use line_reading::Cause;
 use std::alloc::Global;
+use text_parts::Cause;
 use trace_reader::Cause as TraceCause;
 
 /// Refuses a script, of that text.

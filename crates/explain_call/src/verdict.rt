@@ -13,14 +13,13 @@ ghost use Rattle.trace_model.specs.Printable.{is_printable};
 use crate::judged::Judged;
 use allowed_entries::allowed_after;
 use cam_types::{NoMemory, Script};
-use explain_lines::LINE_LIMIT;
-use explain_missing::incomplete_text;
-use explain_text::{illegal_text, legal_text};
+use explain_text::{illegal_text, incomplete_text, legal_text};
 use judge_conditions::first_failed;
 use std::alloc::Global;
 use trace_check::{RuleName, Verdict};
 use trace_model::{Entry, TraceList};
 use trace_text::Printer;
+use wrong_words::LINE_LIMIT;
 
 /// The text of an entry that isn't allowed behind those before it, with the first condition that it doesn't meet and
 /// what is allowed in its place. The line of the first one before has the number.
@@ -64,7 +63,7 @@ fn illegal_entry(
 }
 
 /// The entries before the position.
-#[tactic(auto, using(explain_text::proofs::Lists::all_taken))]
+#[tactic(auto, using(crate::proofs::Taken::all_taken))]
 fn before_of(entries: &[Entry], position: u32) -> &[Entry]
     requires { IsTrue (list_all is_printable entries.now) }
     ensures value { result.now ≡ take position entries.now }

@@ -2,20 +2,20 @@
 use Rattle.std.specs.Prelude.{ℕ, ◌==◌, ◌+◌, ◌-◌, List, [], ◌∷◌, ◌++◌, Option, Some, None, bytes_eq, codes, decimal, if◌then◌else◌, length, nat_lt}
 use Rattle.std.specs.List.{slice_get}
 use Rattle.cam_types.specs.declared.profile.Profile.{Profile}
-use Rattle.line_reading.specs.Causes.{number_of}
-use Rattle.line_reading.specs.Lines.{is_printable}
-use Rattle.line_reading.specs.declared.cause.Cause.{Cause}
-use Rattle.line_reading.specs.declared.cause.Cause.TheVariants.{NotAscii, Version, UnknownWord, BadNumber, Missing, Extra, Limit, FaultAfterCommand}
+use Rattle.text_parts.specs.Causes.{number_of}
+use Rattle.text_parts.specs.LineReading.{is_printable}
+use Rattle.text_parts.specs.declared.cause.Cause.{Cause}
+use Rattle.text_parts.specs.declared.cause.Cause.TheVariants.{NotAscii, Version, UnknownWord, BadNumber, Missing, Extra, Limit, FaultAfterCommand}
 use Rattle.text_parts.specs.Cuts.{parts_at}
 use Rattle.text_parts.specs.Lines.{lines_of}
 use Rattle.text_parts.specs.Words.{loose_words, strict_words}
 use Rattle.trace_reader.specs.Causes.{number_of as trace_number_of}
 use Rattle.trace_reader.specs.declared.cause.Cause.{Cause as TraceCause}
 use Rattle.trace_reader.specs.declared.cause.Cause.TheVariants as trace
-use Rattle.wrong_words.specs.declared.kind.WordKind.{WordKind}
-use Rattle.wrong_words.specs.Places.{wrong_in_script, wrong_in_trace}
-use Rattle.refusal_sentences.specs.Sentences.{fault_words, kind_text, line_words, long_input, long_script, other_profile, packed_part, script_form, script_limits, script_sentence, trace_form, trace_sentence, trace_words, version_lines}
-use Rattle.explain_lines.specs.Shown.{shown}
+use Rattle.wrong_words.specs.declared.word_kind.WordKind.{WordKind}
+use Rattle.wrong_words.specs.WordPlaces.{wrong_in_script, wrong_in_trace}
+use Rattle.explain_refused.specs.Sentences.{fault_words, kind_text, line_words, long_input, long_script, other_profile, packed_part, script_form, script_limits, script_sentence, trace_form, trace_sentence, trace_words, version_lines}
+use Rattle.wrong_words.specs.Shown.{shown}
 
 -- ---- what every refusal has
 

@@ -2,13 +2,12 @@
 ghost use Rattle.std.specs.Prelude.{◌≡◌, ◌++◌, OnOk};
 ghost use Rattle.std.specs.Option.{option_map};
 ghost use Rattle.explain_refused.specs.Refused.{between, cause_place, line_place, refused_head, sentence_text, shown_at, told, word_and_place, wrong_part};
-ghost use Rattle.explain_lines.specs.Shown.{shown};
+ghost use Rattle.wrong_words.specs.Shown.{shown};
 
+use crate::kind_text;
 use cam_types::NoMemory;
-use explain_lines::{put_number, put_shown};
-use refusal_sentences::kind_text;
 use std::alloc::Global;
-use wrong_words::WordKind;
+use wrong_words::{WordKind, put_number, put_shown};
 
 /// Writes which line it is of.
 #[tactic(auto, unfolding(crate::specs::Refused::line_place))]

@@ -2,23 +2,21 @@
 ghost use Rattle.std.specs.Prelude.{◌≡◌, ◌++◌, ◌≤◌, IfOk, OnOk, length};
 ghost use Rattle.std.specs.Option.{option_map};
 ghost use Rattle.explain_refused.specs.Refused.{byte_part, byte_place, byte_value, fault_word_part, form_or, form_part, limit_part, refused_script, script_detail, script_detail_at, script_head, sentence_at, unknown_part};
-ghost use Rattle.refusal_sentences.specs.Sentences.{script_form};
+ghost use Rattle.explain_refused.specs.Sentences.{script_form};
 ghost use Rattle.text_parts.specs.Words.{loose_words};
 
 use crate::at::script_line;
 use crate::part::{
     put_between, put_head, put_sentence, put_shown_at, put_told, put_word_and_place, put_wrong,
 };
-use cam_types::NoMemory;
-use explain_lines::put_number;
-use line_reading::Cause;
-use refusal_sentences::{
+use crate::{
     fault_words, line_words, long_script, script_form, script_limits, script_sentence,
     version_lines,
 };
+use cam_types::NoMemory;
 use std::alloc::Global;
-use text_parts::next_loose_word;
-use wrong_words::wrong_in_script;
+use text_parts::{Cause, next_loose_word};
+use wrong_words::{put_number, wrong_in_script};
 
 /// Writes the place of a byte in the line.
 #[tactic(auto, unfolding(crate::specs::Refused::byte_place))]

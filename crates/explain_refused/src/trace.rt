@@ -2,20 +2,17 @@
 ghost use Rattle.std.specs.Prelude.{◌≡◌, ◌++◌, [], IfOk, MatchOption, OnOk};
 ghost use Rattle.std.specs.Option.{option_map};
 ghost use Rattle.explain_refused.specs.Refused.{metadata_part, profile_numbers, profile_part, refused_input, refused_profile, refused_trace, trace_detail, trace_detail_at, trace_form_part, word_and_place};
-ghost use Rattle.refusal_sentences.specs.Sentences.{packed_part};
+ghost use Rattle.explain_refused.specs.Sentences.{packed_part};
 ghost use Rattle.text_parts.specs.Words.{strict_words};
 
 use crate::at::trace_line;
 use crate::part::{put_head, put_sentence, put_shown_at, put_told, put_word_and_place, put_wrong};
+use crate::{long_input, other_profile, packed_part, trace_form, trace_sentence, trace_words};
 use cam_types::{NoMemory, Profile};
-use explain_lines::put_number;
-use refusal_sentences::{
-    long_input, other_profile, packed_part, trace_form, trace_sentence, trace_words,
-};
 use std::alloc::Global;
 use text_parts::{first_strict_word, next_strict_word};
 use trace_reader::Cause;
-use wrong_words::wrong_in_trace;
+use wrong_words::{put_number, wrong_in_trace};
 
 /// The cause of an input with more bytes than a trace may have.
 const TOO_LONG: u8 = 45;

@@ -2,7 +2,7 @@
 use Rattle.std.specs.Prelude.{ℕ, Bool, true, false, List, [], ◌∷◌, ◌++◌, length, nat_lt, take, codes, decimal, if◌then◌else◌}
 use Rattle.std.specs.List.{flat_map}
 use Rattle.trace_text.specs.Spelling.{line_of}
-use Rattle.explain_lines.specs.Lines.{most_lines}
+use Rattle.wrong_words.specs.Lines.{most_lines}
 use Rattle.allowed_entries.specs.declared.entry.AllowedEntry.{AllowedEntry}
 use Rattle.allowed_entries.specs.declared.entry.AllowedEntry.TheVariants as known
 

@@ -13,13 +13,13 @@ use Rattle.trace_model.specs.Numbers.{call_count}
 use Rattle.trace_text.specs.Spelling.{line_of}
 use Rattle.judge_text.specs.Lines.{verdict_text}
 use Rattle.rule_conditions.specs.declared.condition.Condition.{Condition}
-use Rattle.rule_mentions.specs.Mentions.{mentions}
+use Rattle.judge_conditions.specs.Mentions.{mentions}
 use Rattle.rule_sentences.specs.Sentences.{heading_of, section_of, sentence_of}
-use Rattle.script_places.specs.Places.{place_of}
-use Rattle.script_places.specs.declared.kind.LineKind.TheVariants as kind
-use Rattle.explain_lines.specs.Lines.{headed, last_lines_where, shown_line}
-use Rattle.explain_lines.specs.Shown.{numbered_line}
-use Rattle.explain_picks.specs.Picks.{picks_part}
+use Rattle.wrong_words.specs.Places.{place_of}
+use Rattle.wrong_words.specs.declared.kind.LineKind.TheVariants as kind
+use Rattle.wrong_words.specs.Lines.{headed, last_lines_where, shown_line}
+use Rattle.wrong_words.specs.Shown.{numbered_line}
+use Rattle.wrong_words.specs.Picks.{picks_part}
 use Rattle.allowed_entries.specs.Entries.{allowed_entries}
 use Rattle.explain_text.specs.Allowed.{allowed_part}
 

@@ -1,2 +1,3 @@
 pub mod Allowed
 pub mod Explained
+pub mod Missing

@@ -3,13 +3,13 @@ ghost use Rattle.std.specs.Prelude.{◌≡◌, ◌++◌, IsTrue, OnOk, take};
 ghost use Rattle.std.specs.List.{flat_map, list_all};
 ghost use Rattle.allowed_entries.specs.Known.{prints};
 ghost use Rattle.explain_text.specs.Allowed.{allowed_line, allowed_lines, allowed_part, allowed_text, filled_text, late_text, mark_text, more_mark, numbered, send_text};
-ghost use Rattle.explain_lines.specs.Lines.{most_lines};
+ghost use Rattle.wrong_words.specs.Lines.{most_lines};
 
 use allowed_entries::AllowedEntry;
 use cam_types::{BufferId, FenceNo, FrameNo, NoMemory, RequestId, StreamIx};
-use explain_lines::{MOST_LINES, put_number};
 use std::alloc::Global;
 use trace_text::Printer;
+use wrong_words::{MOST_LINES, put_number};
 
 /// The mark of a send, whose buffers are free.
 fn mark_text(same: bool) -> &'static str
@@ -137,7 +137,6 @@ fn put_lines(
 }
 
 /// The entries that are shown: the first eight.
-#[tactic(auto, using(crate::proofs::Lists::all_taken))]
 fn first_of(all: &[AllowedEntry]) -> &[AllowedEntry]
     requires { IsTrue (list_all prints all.now) }
     ensures value { result.now ≡ take most_lines all.now }

@@ -6,8 +6,6 @@ ghost use Rattle.trace_model.specs.Printable.{is_printable};
 
 use crate::script::{put_command, put_fault};
 use cam_types::{Fault, NoMemory, Script};
-use explain_lines::{LINE_LIMIT, put_headed, put_line};
-use explain_picks::put_picks_part;
 use judge_entries::entry::is_refusal;
 use judge_filters::frame::{has_target, is_sent};
 use judge_text::verdict_text;
@@ -15,6 +13,7 @@ use std::alloc::Global;
 use trace_check::Verdict;
 use trace_model::Entry;
 use trace_text::Printer;
+use wrong_words::{LINE_LIMIT, put_headed, put_line, put_picks_part};
 
 /// Whether the fault is of a frame that was never sent, or of a stream that wasn't a target of it.
 fn is_unmet(entries: &[Entry], fault: &Fault) -> bool

@@ -4,7 +4,7 @@ ghost use Rattle.std.specs.List.{list_all};
 ghost use Rattle.allowed_entries.specs.Entries.{allowed_entries};
 ghost use Rattle.allowed_entries.specs.Known.{prints};
 ghost use Rattle.explain_text.specs.Explained.{failed_text, illegal_head, illegal_text};
-ghost use Rattle.rule_mentions.specs.Mentions.{mentions};
+ghost use Rattle.judge_conditions.specs.Mentions.{mentions};
 ghost use Rattle.trace_model.specs.Printable.{is_printable};
 
 use crate::allowed::put_allowed_part;
@@ -12,13 +12,13 @@ use crate::reason::put_reason;
 use crate::script::put_command_part;
 use allowed_entries::AllowedEntry;
 use cam_types::{NoMemory, Script};
-use explain_lines::{Choice, LINE_LIMIT, put_headed, put_last_lines, put_number};
+use judge_conditions::mentions;
 use rule_conditions::Condition;
-use rule_mentions::mentions;
 use std::alloc::Global;
 use trace_check::RuleName;
 use trace_model::Entry;
 use trace_text::Printer;
+use wrong_words::{Choice, LINE_LIMIT, put_headed, put_last_lines, put_number};
 
 /// Which entries before the faulty one a condition speaks of.
 #[derive(Clone, Copy)]

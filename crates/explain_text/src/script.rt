@@ -2,15 +2,14 @@
 ghost use Rattle.std.specs.Prelude.{◌≡◌, ◌≤◌, ◌++◌, OnOk, length};
 ghost use Rattle.std.specs.Option.{option_map};
 ghost use Rattle.explain_text.specs.Explained.{command_part, next_command, next_command_text, next_heading, script_line};
-ghost use Rattle.script_places.specs.Places.{place_of};
-ghost use Rattle.script_places.specs.declared.kind.LineKind.TheVariants.{Command, Fault};
+ghost use Rattle.wrong_words.specs.Places.{place_of};
+ghost use Rattle.wrong_words.specs.declared.kind.LineKind.TheVariants.{Command, Fault};
 
 use cam_types::{NoMemory, Script};
-use explain_lines::put_numbered_line;
 use judge_entries::number::call_count;
-use script_places::{command_line, fault_line};
 use std::alloc::Global;
 use trace_model::Entry;
+use wrong_words::{command_line, fault_line, put_numbered_line};
 
 /// Writes the line of the command that has this place in the script, where it has one.
 pub fn put_command(

@@ -5,9 +5,8 @@ ghost use Rattle.cam_types.specs.Picture.{is_offered, length_in, picture_of};
 ghost use Rattle.sha2.specs.Sha256.{sha256};
 
 use cam_types::{Format, PixelBuf, Readout, StreamSpec};
-use raw_stage::{draw_raw, fill_raw, fill_raw_bands};
+use picture_stages::{draw_raw, draw_yuv, fill_raw, fill_raw_bands, fill_yuv, fill_yuv_bands};
 use std::thread::Threads;
-use yuv_stage::{draw_yuv, fill_yuv, fill_yuv_bands};
 
 /// Draws a stream's picture of the readout into a buffer of its length.
 pub(crate) fn draw_alone(readout: &Readout, spec: StreamSpec, pixels: &mut PixelBuf)

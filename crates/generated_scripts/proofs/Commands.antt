@@ -8,7 +8,7 @@ use Rattle.cam_types.specs.Script.{awaited_by, command_fits, item_fits, settings
 use Rattle.cam_types.specs.declared.item.Targets.{Targets}
 use Rattle.cam_types.specs.declared.script.Command.{Command}
 use Rattle.cam_types.specs.declared.script.Command.TheVariants.{Configure, Once, Burst, Repeat, Stop, Wait, Await, Flush}
-use Rattle.trace_bounds.specs.Typed.{are_bytes, command_typed, item_typed}
+use Rattle.trace_laws.specs.Typed.{are_bytes, command_typed, item_typed}
 use Rattle.trace_model.specs.Printable.{is_byte}
 use Rattle.generated_scripts.specs.Generated.{command_of, extra_of, item_of, kind_of, level_of, pattern_of, target_choice, targets_by, two_streams}
 

@@ -12,14 +12,11 @@ use Rattle.basic_lemmas.proofs.Lists.{all-always, all-append, all-mapped}
 use Rattle.cam_types.specs.Script.{awaited_by, command_fits, is_closing_command, is_valid}
 use Rattle.cam_types.specs.declared.script.Command.{Command}
 use Rattle.cam_types.specs.declared.script.Command.TheVariants.{Configure, Close}
-use Rattle.trace_bounds.specs.Typed.{command_typed, is_typed}
+use Rattle.trace_laws.specs.Typed.{command_typed, is_typed}
 use Rattle.generated_scripts.specs.Words.{word}
 use Rattle.generated_scripts.specs.Generated.{command_of, commands_of, fault_by, fault_choice, faults_of, generated, has_fault, numbers, two_streams}
 use Rattle.generated_scripts.proofs.Commands.{command-awaits, command-fits, command-typed}
-
-or-true : (a : Bool) → (a || true) ≡ true
-or-true true = refl
-or-true false = refl
+use Rattle.basic_lemmas.proofs.Tests.{or-true}
 
 sum-most : {X : Type 0} (f : X → ℕ) (g : ℕ → X) → ((j : ℕ) → f (g j) ≤ 4) → (js : List ℕ) → sum_by f (map g js) ≤ length js * 4
 sum-most f g each [] = omega arith

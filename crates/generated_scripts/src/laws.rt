@@ -2,7 +2,7 @@
 ghost use Rattle.std.specs.Prelude.{◌≡◌, ◌≤◌, ◌∷◌, [], ℕ, true};
 ghost use Rattle.cam_types.specs.Script.{is_valid};
 ghost use Rattle.cam_types.specs.Worked.{shot};
-ghost use Rattle.trace_bounds.specs.Typed.{is_typed};
+ghost use Rattle.trace_laws.specs.Typed.{is_typed};
 ghost use Rattle.generated_scripts.specs.Generated.{commands_of, faults_of, generated, targets_by, two_streams};
 ghost use Rattle.generated_scripts.specs.Words.{word};
 

@@ -1,1 +1,7 @@
 mod Telling
+mod Given
+mod Short
+mod Begun
+mod Prints
+mod Inputs
+mod TraceLogTelling

@@ -14,7 +14,7 @@ use Rattle.hal_lines.specs.declared.cause.Cause.{Cause}
 use Rattle.hal_text.specs.declared.refused.LogRefused.{LogRefused}
 use Rattle.hal_text.specs.declared.refused.LogRefused.TheVariants.{Bad, NoMemory}
 use Rattle.hal_text.specs.declared.log.HalLog.{HalLog}
-use Rattle.hal_report.specs.Plain.{plain_text}
+use Rattle.hal_text.specs.Plain.{plain_text}
 
 -- the breaches of a log, and the requests that are outstanding at its end
 abbrev pub breaches : Bool → HalLog → List Breach

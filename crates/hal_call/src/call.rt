@@ -2,22 +2,50 @@
 ghost use Rattle.std.specs.Prelude.{◌≡◌, ◌≢◌, ◌≤◌, [], true, IfOk, IfSome, IsTrue, Result, length};
 ghost use Rattle.std.specs.List.{list_all};
 ghost use Rattle.std.specs.Io.KnownBytes.{IsAtEnd};
-ghost use Rattle.call_status.specs.Answers.{AnswersWithMemory, Tells, TellsBy};
-ghost use Rattle.call_status.specs.Ends.{CountsSink, CountsSource, ReadsBy};
+ghost use Rattle.call_parts.specs.Answers.{AnswersWithMemory, Tells, TellsBy};
+ghost use Rattle.call_parts.specs.Ends.{CountsSink, CountsSource, ReadsBy};
 ghost use Rattle.hal_text.specs.Meaning.{log_of};
 ghost use Rattle.hal_spelling.specs.Fits.{is_valid, is_well_made};
-ghost use Rattle.hal_report.specs.Plain.{has_line};
+ghost use Rattle.hal_text.specs.Plain.{has_line};
 ghost use Rattle.hal_call.specs.Judging.{IsUnbroken, Judges, JudgesLog, refusal_text, report_status, told_text};
 
 use crate::form::Form;
-use call_status::{Status, answer};
+use call_parts::{InputWork, Status, answer, answer_input};
 use hal_judge::{Report, report_of};
 use hal_model::Breach;
 use hal_person::person_text;
-use hal_report::{each_breach_has_its_line, plain_text};
-use hal_text::{Cause, HAL_BYTES, HalLog, LogRefused, read};
-use io_edge::{NoMemory, ReadBytes, ReadFault, Sink, Source, read_all};
+use hal_text::{Cause, HAL_BYTES, HalLog, LogRefused, each_breach_has_its_line, plain_text, read};
+use io_edge::{NoMemory, Sink, Source};
 use std::alloc::Global;
+
+/// What `hal` makes of its input.
+#[derive(Drop)]
+struct Hal {
+    form: Form,
+    strict: bool,
+}
+
+impl InputWork for Hal {
+    ghost use Rattle.hal_lines.specs.declared.cause.Cause.TheVariants.{TooLong};
+    ghost use Rattle.hal_call.specs.Judging.{Judges, refusal_text};
+
+    ghost limit = { 134217728 };
+
+    ghost belongs = { λ hal. Judges hal.form hal.strict };
+
+    ghost refusal = { λ hal. refusal_text hal.form 0 TooLong };
+
+    fn refuse_long<K: Sink>(&self, alloc: Global, sink: &mut K) -> Status {
+        refuse_log(alloc, self.form, 0, Cause::TooLong, sink)
+    }
+
+    fn answer_whole<K: Sink>(&self, alloc: Global, input: &[u8], sink: &mut K) -> Status {
+        judge_text(alloc, input, self.form, self.strict, sink)
+    }
+
+    #[tactic(auto, using(crate::proofs::Telling::are_judged, crate::proofs::Telling::long_refused))]
+    fn keeps_the_laws(&self) {}
+}
 
 /// Reads a hal log, judges it, strictly where that is asked for, and writes its report in the form.
 pub fn hal_call<S: Source, K: Sink>(
@@ -42,12 +70,7 @@ pub fn hal_call<S: Source, K: Sink>(
     ensures known { result.number ≤ 5 }
     ensures no_usage { result.number ≢ 2 }
 {
-    match read_all(alloc, source, HAL_BYTES) {
-        Err(ReadFault::Failed) => Status::SOURCE_FAILED,
-        Err(ReadFault::NoMemory) => Status::NO_MEMORY,
-        Ok(ReadBytes::TooLong) => refuse_log(alloc, form, 0, Cause::TooLong, sink),
-        Ok(ReadBytes::Whole(bytes)) => judge_text(alloc, bytes.as_slice(), form, strict, sink),
-    }
+    answer_input(alloc, source, sink, HAL_BYTES, &Hal { form, strict })
 }
 
 /// The line that refuses a text.

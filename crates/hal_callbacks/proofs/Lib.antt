@@ -1,3 +1,2 @@
 pub mod Astray
 pub mod LaterRows
-pub mod Packed

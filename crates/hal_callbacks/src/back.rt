@@ -8,11 +8,11 @@ ghost use Rattle.hal_table.specs.State.{state_of};
 
 use crate::later::is_later;
 use hal_model::{HalEvent, HalFence, HalTarget, Returned};
+use hal_row::buffer::{is_absent, is_failed_buffer, is_filled, is_orderly};
 use hal_row::has_number;
+use hal_row::word::{is_number, is_same_number};
 use hal_rows::{Order, Row, TargetRow};
 use hal_table::HalTable;
-use hal_words::buffer::{is_absent, is_failed_buffer, is_filled, is_orderly};
-use hal_words::word::{is_number, is_same_number};
 
 // ---- status and acquire fence
 

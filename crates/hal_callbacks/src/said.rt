@@ -45,7 +45,7 @@ fn is_last_result(pack: Pack, buffers: &[Returned]) -> bool
 }
 
 /// Whether there is no buffer.
-#[tactic(auto, using(crate::proofs::Packed::empty_reads))]
+#[tactic(auto, using(hal_table::proofs::Entries::empty_reads))]
 fn is_without_buffer(buffers: &[Returned]) -> bool
     ensures { result ≡ is_empty buffers.now }
 {

@@ -4,11 +4,6 @@ use Rattle.std.specs.List.{list_any}
 use Rattle.std.specs.Map.{values_of}
 use Rattle.basic_lemmas.proofs.Lists.{any-mapped}
 use Rattle.hal_rows.specs.declared.row.Row.{Row}
-use Rattle.hal_model.specs.Framework.{is_empty}
-
-pub empty_reads : {X : Type 0} (xs : List X) → is_empty xs ≡ (length xs == 0)
-empty_reads [] = refl
-empty_reads (x ∷ xs) = grind arith
 
 -- a row that passes a test, beside its number
 pub any_rows : (p : Row → Bool) (es : List (ℕ × Row)) → list_any (λ e. p e.1) es ≡ list_any p (values_of es)

@@ -9,9 +9,9 @@ ghost use Rattle.hal_table.specs.State.{state_of};
 
 use hal_model::HalEvent;
 use hal_row::row::{is_complete, is_done, is_in_time, is_outstanding, is_unannounced};
+use hal_row::word::is_point;
 use hal_rows::Row;
 use hal_table::HalTable;
-use hal_words::word::is_point;
 use lru::Iter;
 
 /// Whether the request was accepted before the flush, and is outstanding.

@@ -13,9 +13,9 @@ use crate::stream::{
 };
 use hal_model::{HalError, HalEvent, HalStream, StreamMax};
 use hal_row::row::is_in_call;
+use hal_row::word::is_no_device;
 use hal_rows::{Device, Row, TargetRow};
 use hal_table::HalTable;
-use hal_words::word::is_no_device;
 
 // ---- calls that are accepted
 

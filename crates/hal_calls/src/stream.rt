@@ -66,7 +66,7 @@ pub fn has_stream(number: u32, streams: &[HalStream]) -> bool
 }
 
 /// Whether there is no target.
-#[tactic(auto, using(crate::proofs::Lists::empty_reads))]
+#[tactic(auto, using(hal_table::proofs::Entries::empty_reads))]
 pub fn is_without_target(targets: &[HalTarget]) -> bool
     ensures { result ≡ is_empty targets.now }
 {
@@ -74,7 +74,7 @@ pub fn is_without_target(targets: &[HalTarget]) -> bool
 }
 
 /// The same of a row's.
-#[tactic(auto, using(crate::proofs::Lists::empty_reads))]
+#[tactic(auto, using(hal_table::proofs::Entries::empty_reads))]
 pub(crate) fn is_row_without_target(targets: &[TargetRow]) -> bool
     ensures { result ≡ is_empty targets.now }
 {

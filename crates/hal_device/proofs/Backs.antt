@@ -15,7 +15,7 @@ use Rattle.device_rows.specs.Ready.{is_sensor_out, is_state}
 use Rattle.device_rows.specs.Rows.{row_at, target_at}
 use Rattle.device_store.proofs.General.{find-passes}
 use Rattle.device_store.specs.Steps.{IsBackAt, IsBackRow, IsBackTarget, waiter_left}
-use Rattle.fence_tokens.specs.Fences.{FencesMade}
+use Rattle.buffer_pool.specs.Fences.{FencesMade}
 use Rattle.hal_device.specs.Kept.{IsBlockAt, rests, rests_at}
 use Rattle.hal_device.proofs.Resting.{all_places}
 

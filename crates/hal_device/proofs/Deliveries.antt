@@ -11,7 +11,6 @@ use Rattle.cam_types.specs.declared.row.TargetView.{TargetView}
 use Rattle.cam_types.specs.declared.stream.StreamSpec.{StreamSpec}
 use Rattle.device_core.specs.View.{DeviceView}
 use Rattle.device_rows.specs.Rows.{row_at, target_at, target_in}
-use Rattle.device_store.proofs.General.{get-passes}
 use Rattle.device_store.proofs.Outs.{picture-buffer}
 use Rattle.device_store.specs.Steps.{ShowsAt, ShowsRow, ShowsTarget}
 use Rattle.device_store.specs.Stored.{specs_of}
@@ -22,7 +21,8 @@ use Rattle.hal_device.specs.Kept.{IsKept, IsShown, IsSizedAt}
 use Rattle.hal_device.specs.declared.steps.Delivered.{Delivered}
 use Rattle.hal_device_model.specs.Calls.{has_length}
 use Rattle.hal_device_model.specs.State.{Spares}
-use Rattle.stream_config.specs.declared.plan.Plan.{Plan}
+use Rattle.request_checks.specs.declared.plan.Plan.{Plan}
+use Rattle.basic_lemmas.proofs.Lists.{all-at}
 
 -- the row, target and stream whose picture it is
 pub record Shows (specs : List StreamSpec) (n s : ℕ) (rows : List RowView) (pixels : Shown) (digest : List ℕ) : Type 0 where
@@ -54,7 +54,7 @@ pub picture_long : (d : DeviceView) (plan : Plan) (profile : Profile) (spares : 
 picture_long d plan profile spares next n s room pixels digest k long h =
     let w = shows (specs_of d.plan) n s d.rows pixels digest h in
     let all : list_all is_offered (specs_of d.plan) ≡ true = ap (λ (p : Plan). list_all is_offered (specs_of p)) k.plan ∙ offered_all plan k.offered in
-    let offered = get-passes is_offered (specs_of d.plan) s w.spec all w.stream in
+    let offered = all-at is_offered (specs_of d.plan) s w.spec all w.stream in
     let whole = picture-buffer w.spec w.row.settings w.row.frame.0 w.target.buffer pixels digest offered w.shown in
     let long' : (length_in w.spec.format w.spec.width w.spec.height == room) ≡ true = ap (has_length room) (sym w.stream) ∙ long in
     whole.bytes ∙ eqb-true (length_in w.spec.format w.spec.width w.spec.height) room long'

@@ -5,6 +5,7 @@ use Rattle.std.specs.List.{find, list_all, list_any}
 use Rattle.std.specs.Option.{option_map}
 use Rattle.std.proofs.lemmas.Bool.{and_parts, cases_Bool, eqb-true, false≢true}
 use Rattle.std.proofs.lemmas.Bool.Decides.{nat_tests}
+use Rattle.std.proofs.lemmas.List.{length-map}
 use Rattle.basic_lemmas.proofs.Lists.{all-append, all-where}
 use Rattle.buffer_pool.specs.Blocks.{block_length}
 use Rattle.cam_types.specs.Four.{four_list}
@@ -17,7 +18,6 @@ use Rattle.cam_types.specs.declared.row.TargetView.{TargetView}
 use Rattle.cam_types.specs.declared.stream.StreamSpec.{StreamSpec}
 use Rattle.device_core.specs.View.{DeviceView, with_rows}
 use Rattle.device_rows.specs.Kept.{is_fresh, is_fresh_target, rise_from}
-use Rattle.device_store.proofs.Books.{few-specs}
 use Rattle.device_store.specs.Stored.{are_before, is_some_target, spec_of, specs_of}
 use Rattle.hal_device_model.specs.Calls.{are_bad_settings, are_bad_targets, fresh_row, fresh_target, has_to_wait, is_early, is_malformed, is_over, lacks_blocks, lent_for, lent_to, names_twice, placed, placed_at, request_error, settings_of}
 use Rattle.hal_device_model.specs.State.{HalDeviceState, Spare, Spares, streams_in}
@@ -25,8 +25,10 @@ use Rattle.hal_device_model.specs.declared.error.CallError.TheVariants.{InvalidA
 use Rattle.hal_device.specs.Kept.{AreFit, Fits, IsKept, are_offered, are_packed, are_sized, is_offered_at, is_sized, rests, rests_at}
 use Rattle.hal_device.proofs.Plans.{spec_0, spec_1, spec_2, spec_3}
 use Rattle.hal_model.specs.declared.event.HalTarget.{HalTarget}
-use Rattle.stream_config.specs.declared.plan.Plan.{Plan}
-use Rattle.stream_config.specs.declared.plan.PlanStream.{PlanStream}
+use Rattle.request_checks.specs.declared.plan.Plan.{Plan}
+use Rattle.request_checks.specs.declared.plan.PlanStream.{PlanStream}
+use Rattle.basic_lemmas.proofs.Tests.{or-first, or-second, not-false}
+use Rattle.basic_lemmas.proofs.Options.{not-some, option-few}
 
 -- ---- what is known where no error is due
 
@@ -47,14 +49,6 @@ formed n settings x targets s h at =
     let d = none-due (is_over s) (is_early s) (is_malformed n settings targets s) (has_to_wait targets s) h in
     record { well = rw at at d.0; room = d.1 }
 
-off-left : (a b : Bool) → (a || b) ≡ false → a ≡ false
-off-left true b h = h
-off-left false b h = refl
-
-off-right : (a b : Bool) → (a || b) ≡ false → b ≡ false
-off-right true b h = absurd (false≢true (sym h))
-off-right false b h = h
-
 -- what is known of a request that is well formed
 pub record Asked (n : ℕ) (x : Settings) (targets : List HalTarget) (s : HalDeviceState) : Type 0 where
   pub new : nat_lt n s.next ≡ false
@@ -62,22 +56,18 @@ pub record Asked (n : ℕ) (x : Settings) (targets : List HalTarget) (s : HalDev
   pub known : list_any (λ (t : HalTarget). not (nat_lt t.stream (length (streams_in s)))) targets ≡ false
   pub range : range_fault x ≡ None
 
-no-fault : (o : Option ℕ) → is_some o ≡ false → o ≡ None
-no-fault None h = refl
-no-fault (Some k) h = absurd (false≢true (sym h))
-
 pub asked : (n : ℕ) (x : Settings) (targets : List HalTarget) (s : HalDeviceState) → is_malformed n (Some x) targets s ≡ false → Asked n x targets s
 asked n x targets s h =
     let k = length (streams_in s) in
     let unknown = list_any (λ (t : HalTarget). not (nat_lt t.stream k)) targets in
-    let rest = off-right (nat_lt n s.next) (are_bad_targets k targets || are_bad_settings (Some x)) h in
-    let good = off-left (are_bad_targets k targets) (are_bad_settings (Some x)) rest in
-    let more = off-right (length targets == 0) (unknown || names_twice targets) good in
+    let rest = or-second (nat_lt n s.next) (are_bad_targets k targets || are_bad_settings (Some x)) h in
+    let good = or-first (are_bad_targets k targets) (are_bad_settings (Some x)) rest in
+    let more = or-second (length targets == 0) (unknown || names_twice targets) good in
     record {
-      new = off-left (nat_lt n s.next) (are_bad_targets k targets || are_bad_settings (Some x)) h;
-      some = off-left (length targets == 0) (unknown || names_twice targets) good;
-      known = off-left unknown (names_twice targets) more;
-      range = no-fault (range_fault x) (off-right (are_bad_targets k targets) (are_bad_settings (Some x)) rest);
+      new = or-first (nat_lt n s.next) (are_bad_targets k targets || are_bad_settings (Some x)) h;
+      some = or-first (length targets == 0) (unknown || names_twice targets) good;
+      known = or-first unknown (names_twice targets) more;
+      range = not-some (range_fault x) (or-second (are_bad_targets k targets) (are_bad_settings (Some x)) rest);
     }
 
 -- ---- the four places
@@ -116,17 +106,13 @@ fresh_rests n x targets =
 
 -- ---- their streams are configured
 
-not-off : (b : Bool) → not b ≡ false → b ≡ true
-not-off true h = refl
-not-off false h = absurd (false≢true (sym h))
-
 known-find : (j k : ℕ) (targets : List HalTarget) (h : HalTarget) → list_any (λ (t : HalTarget). not (nat_lt t.stream k)) targets ≡ false → find (λ t. t.stream == j) targets ≡ Some h → nat_lt j k ≡ true
 known-find j k [] h none at = absurd (cc)
 known-find j k (t ∷ targets) h none at =
-    let first = off-left (not (nat_lt t.stream k)) (list_any (λ (u : HalTarget). not (nat_lt u.stream k)) targets) none in
-    let rest = off-right (not (nat_lt t.stream k)) (list_any (λ (u : HalTarget). not (nat_lt u.stream k)) targets) none in
+    let first = or-first (not (nat_lt t.stream k)) (list_any (λ (u : HalTarget). not (nat_lt u.stream k)) targets) none in
+    let rest = or-second (not (nat_lt t.stream k)) (list_any (λ (u : HalTarget). not (nat_lt u.stream k)) targets) none in
     elim (cases_Bool (t.stream == j)) [
-      | inl here ↦ ap (λ (i : ℕ). nat_lt i k) (sym (eqb-true t.stream j here)) ∙ not-off (nat_lt t.stream k) first
+      | inl here ↦ ap (λ (i : ℕ). nat_lt i k) (sym (eqb-true t.stream j here)) ∙ not-false (nat_lt t.stream k) first
       | inr other ↦ known-find j k targets h rest (rw other at at)
     ]
 
@@ -179,7 +165,7 @@ last-of-four i k h l a b c = grind (arith, nat_tests, h, l, a, b, c)
 pub fresh_some : (k : ℕ) (targets : List HalTarget) → k ≤ 4 → (length targets == 0) ≡ false → list_any (λ (t : HalTarget). not (nat_lt t.stream k)) targets ≡ false → is_some_target (four_list (placed targets)) ≡ true
 fresh_some k [] few some known = absurd (false≢true (sym some))
 fresh_some k (t ∷ targets) few some known =
-    let first = not-off (nat_lt t.stream k) (off-left (not (nat_lt t.stream k)) (list_any (λ (u : HalTarget). not (nat_lt u.stream k)) targets) known) in
+    let first = not-false (nat_lt t.stream k) (or-first (not (nat_lt t.stream k)) (list_any (λ (u : HalTarget). not (nat_lt u.stream k)) targets) known) in
     let ts = t ∷ targets in
     let a = placed_at 0 ts in
     let b = placed_at 1 ts in
@@ -195,6 +181,16 @@ fresh_some k (t ∷ targets) few some known =
         ]
       ]
     ]
+
+few-next : {T : Type 0} (o : Option T) (rest : List T) (n : ℕ) → length rest ≤ n → length (option_to_list o ++ rest) ≤ n + 1
+few-next None rest n l = omega (arith, l)
+few-next (Some t) rest n l = omega (arith, l)
+
+few-four : {T : Type 0} (f : Four T) → length (four_list f) ≤ 4
+few-four f = few-next f.a _ 3 (few-next f.b _ 2 (few-next f.c _ 1 (option-few f.d)))
+
+few-specs : (plan : Plan) → length (specs_of plan) ≤ 4
+few-specs plan = rw (length-map (four_list plan.streams) spec_of) (few-four plan.streams)
 
 pub fresh_some_in : (plan : Plan) (targets : List HalTarget) → (length targets == 0) ≡ false → list_any (λ (t : HalTarget). not (nat_lt t.stream (length (specs_of plan)))) targets ≡ false → is_some_target (four_list (placed targets)) ≡ true
 fresh_some_in plan targets some known = fresh_some (length (specs_of plan)) targets (few-specs plan) some known
@@ -297,10 +293,10 @@ pub admitted : (s : HalDeviceState) (plan : Plan) (n : ℕ) (x : Settings) (targ
 admitted s plan n x targets row k well room is =
     let a = asked n x targets s well in
     let known : list_any (λ (t : HalTarget). not (nat_lt t.stream (length (specs_of plan)))) targets ≡ false = ap (λ (p : Plan). list_any (λ (t : HalTarget). not (nat_lt t.stream (length (specs_of p)))) targets) (sym k.plan) ∙ a.known in
-    let rest = off-right s.flushing ((length s.device.rows == s.device.capacity) || lacks_blocks (placed targets) s.spares) room in
+    let rest = or-second s.flushing ((length s.device.rows == s.device.capacity) || lacks_blocks (placed targets) s.spares) room in
     rw is (record {
       fit = fresh_fits plan s.spares targets k.packed k.offered k.sized known;
-      room = off-left (length s.device.rows == s.device.capacity) (lacks_blocks (placed targets) s.spares) rest;
+      room = or-first (length s.device.rows == s.device.capacity) (lacks_blocks (placed targets) s.spares) rest;
       later = later n s.next s.device.rows k.before a.new;
       fresh = fresh_is_fresh n x targets;
       rest = fresh_rests n x targets;

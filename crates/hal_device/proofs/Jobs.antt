@@ -16,30 +16,20 @@ use Rattle.device_core.specs.View.{DeviceView, with_rows}
 use Rattle.device_rows.specs.Jobs.{IsFillJobOut, fill_job, fill_job_at, fill_job_in, sensor_job, sensor_job_at, sensor_job_of}
 use Rattle.device_rows.specs.Ready.{shutter_row}
 use Rattle.device_rows.specs.Rows.{exposed, fill_begun, fill_ended, row_at, target_at, with_row}
-use Rattle.device_store.proofs.General.{found-is}
 use Rattle.device_store.proofs.Targets.{four-mapped}
 use Rattle.device_store.proofs.Views.{found-own}
 use Rattle.device_store.specs.Steps.{fill_job_for, fill_job_with}
 use Rattle.device_store.specs.Stored.{specs_of}
-use Rattle.inflight_table.specs.Marks.{in_state}
+use Rattle.device_rows.specs.Marks.{in_state}
 use Rattle.hal_device_model.specs.Calls.{filled_rows}
-
--- the one of key n, once it is changed
-pub found_changed : {X : Type 0} (key : X → ℕ) (change : X → X) (n : ℕ) (xs : List X) → ((x : X) → key (change x) ≡ key x) → find (λ x. key x == n) (map (λ x. if key x == n then change x else x) xs) ≡ option_map change (find (λ x. key x == n) xs)
-found_changed key change n [] same = refl
-found_changed key change n (x ∷ xs) same =
-    let ih = found_changed key change n xs same in
-    elim (cases_Bool (key x == n)) [
-      | inl here ↦ (let here' : (key (change x) == n) ≡ true = ap (λ k. k == n) (same x) ∙ here in rw (here, here') refl)
-      | inr other ↦ rw (other, other) ih
-    ]
+use Rattle.basic_lemmas.proofs.Lists.{found-passes, found-changed}
 
 pub row_changed : (n : ℕ) (change : RowView → RowView) (rows : List RowView) → ((row : RowView) → (change row).frame.0 ≡ row.frame.0) → row_at n (with_row n change rows) ≡ option_map change (row_at n rows)
-row_changed n change rows same = found_changed (λ (row : RowView). row.frame.0) change n rows same
+row_changed n change rows same = found-changed (λ (row : RowView). row.frame.0) change n rows same
 
 pub target_changed : (s : ℕ) (change : TargetView → TargetView) (row new : RowView) → ((t : TargetView) → (change t).stream.0 ≡ t.stream.0) → four_list new.targets ≡ map (λ (t : TargetView). if t.stream.0 == s then change t else t) (four_list row.targets) → target_at s new ≡ option_map change (target_at s row)
 target_changed s change row new same are =
-    ap (λ (ts : List TargetView). find (λ (t : TargetView). t.stream.0 == s) ts) are ∙ found_changed (λ (t : TargetView). t.stream.0) change s (four_list row.targets) same
+    ap (λ (ts : List TargetView). find (λ (t : TargetView). t.stream.0 == s) ts) are ∙ found-changed (λ (t : TargetView). t.stream.0) change s (four_list row.targets) same
 
 -- ---- the sensor's job
 
@@ -87,7 +77,7 @@ pub fill_out : (specs : List StreamSpec) (n : ℕ) (s : StreamIx) (rows : List R
 fill_out specs n s rows job h =
     let k = taken specs n s rows job h in
     let frame : k.row.frame.0 ≡ n = eqb-true k.row.frame.0 n (found-own n rows k.row k.found) in
-    let stream : k.target.stream.0 ≡ s.0 = eqb-true k.target.stream.0 s.0 (found-is (λ (t : TargetView). t.stream.0 == s.0) (four_list k.row.targets) k.target k.at) in
+    let stream : k.target.stream.0 ≡ s.0 = eqb-true k.target.stream.0 s.0 (found-passes (λ (t : TargetView). t.stream.0 == s.0) (four_list k.row.targets) k.target k.at) in
     let row : row_at n (with_row n (fill_begun s) rows) ≡ Some (fill_begun s k.row) = row_changed n (fill_begun s) rows (λ r. refl) ∙ ap (option_map (fill_begun s)) k.found in
     let out : fill_job_at specs n s.0 (with_row n (fill_begun s) rows) ≡ Some (fill_job k.row k.target k.spec) = ap (fill_job_in specs s.0) row ∙ rw (begun-target s k.row k.target k.at, k.stream) refl in
     let here : fill_job_at specs k.row.frame.0 k.target.stream.0 (with_row n (fill_begun s) rows) ≡ Some (fill_job k.row k.target k.spec) = rw (frame, stream) out in
@@ -102,7 +92,7 @@ pub filled_as : (specs : List StreamSpec) (n : ℕ) (s : StreamIx) (old begun ne
 filled_as specs n s old begun new job given h same is ended =
     let k = taken specs n s old.rows job h in
     let frame : k.row.frame.0 ≡ n = eqb-true k.row.frame.0 n (found-own n old.rows k.row k.found) in
-    let stream : k.target.stream.0 ≡ s.0 = eqb-true k.target.stream.0 s.0 (found-is (λ (t : TargetView). t.stream.0 == s.0) (four_list k.row.targets) k.target k.at) in
+    let stream : k.target.stream.0 ≡ s.0 = eqb-true k.target.stream.0 s.0 (found-passes (λ (t : TargetView). t.stream.0 == s.0) (four_list k.row.targets) k.target k.at) in
     let stream' : k.target.stream ≡ s = (let e : record { 0 = k.target.stream.0 } ≡ record { 0 = s.0 } = rw stream refl in e) in
     let ended' = rw (same, ← k.is) at ended in
     let last : new ≡ with_rows (with_row k.row.frame.0 (fill_ended k.target.stream) begun.rows) begun = ended' in

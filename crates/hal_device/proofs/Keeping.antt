@@ -3,7 +3,7 @@ use Rattle.std.proofs.Common.{◌≡◌, ℕ, ◌==◌, Bool, true, false, ◌&&
 use Rattle.std.specs.Prelude.{slice_get}
 use Rattle.std.specs.Option.{option_map}
 use Rattle.std.proofs.lemmas.Bool.{and_parts, eqb-true}
-use Rattle.basic_lemmas.proofs.Lists.{all-agree, all-filtered, all-mapped}
+use Rattle.basic_lemmas.proofs.Lists.{all-filtered, all-mapped}
 use Rattle.buffer_pool.specs.Blocks.{block_length}
 use Rattle.cam_types.specs.declared.number.BufferId.{BufferId}
 use Rattle.cam_types.specs.declared.number.StreamIx.{StreamIx}
@@ -16,17 +16,18 @@ use Rattle.device_core.specs.View.{DeviceView, with_rows}
 use Rattle.device_rows.specs.Ready.{is_retire_ready}
 use Rattle.device_rows.specs.Rows.{all_stopped, delivered, exposed, fill_begun, fill_ended, returned_failed, sensor_home, with_error, with_part, with_row, without}
 use Rattle.device_store.specs.Stored.{are_before, spec_of, specs_of}
-use Rattle.error_notify.specs.declared.entry.ErrorEntry.{ErrorEntry}
-use Rattle.error_notify.specs.declared.entry.ErrorEntry.TheVariants.{Request as LostRequest, Result as LostResult, Buffer as LostBuffer, Device as LostDevice}
+use Rattle.device_rows.specs.declared.entry.ErrorEntry.{ErrorEntry}
+use Rattle.device_rows.specs.declared.entry.ErrorEntry.TheVariants.{Request as LostRequest, Result as LostResult, Buffer as LostBuffer, Device as LostDevice}
 use Rattle.hal_device_model.specs.Calls.{delivered_rows, error_rows, exposed_rows, failed_rows, filled_rows, sent_rows, settled}
 use Rattle.hal_device_model.specs.State.{Spare, Spares, back, back_at}
 use Rattle.hal_device.specs.Kept.{IsBlockAt, IsBlockFor, IsKept, IsNumberOf, IsSizedAt, are_packed, are_sized, is_sized}
 use Rattle.hal_device.proofs.Plans.{spec_0, spec_1, spec_2, spec_3}
-use Rattle.inflight_table.specs.Marks.{marked}
-use Rattle.inflight_table.specs.declared.mark.Mark.TheVariants.{Announced, RequestError, ResultError, Stopped}
-use Rattle.stream_config.specs.declared.plan.Plan.{Plan}
-use Rattle.stream_config.specs.declared.plan.PlanStream.{PlanStream}
+use Rattle.device_rows.specs.Marks.{marked}
+use Rattle.device_rows.specs.declared.mark.Mark.TheVariants.{Announced, RequestError, ResultError, Stopped}
+use Rattle.request_checks.specs.declared.plan.Plan.{Plan}
+use Rattle.request_checks.specs.declared.plan.PlanStream.{PlanStream}
 use Rattle.device_rows.specs.Rows.{target_in}
+use Rattle.hal_device_model.proofs.Steps.{before-changed}
 
 -- ---- the frames that stand stay below the next number
 
@@ -36,11 +37,6 @@ same-frame n change same row = by (row.frame.0 == n)
     by : (b : Bool) → (if b then change row else row).frame.0 ≡ row.frame.0
     by true = same row
     by false = refl
-
-changed : (next n : ℕ) (change : RowView → RowView) (rows : List RowView) → ((row : RowView) → (change row).frame.0 ≡ row.frame.0) → are_before next rows ≡ true → are_before next (with_row n change rows) ≡ true
-changed next n change rows same h =
-    all-mapped (λ row. nat_lt row.frame.0 next) (λ row. if row.frame.0 == n then change row else row) rows
-    ∙ (all-agree (λ row. nat_lt (if row.frame.0 == n then change row else row).frame.0 next) (λ row. nat_lt row.frame.0 next) rows (λ row. ap (λ k. nat_lt k next) (same-frame n change same row)) ∙ h)
 
 gone : (next n : ℕ) (rows : List RowView) → are_before next rows ≡ true → are_before next (settled n rows) ≡ true
 gone next n rows h = by (is_retire_ready rows n)
@@ -55,29 +51,29 @@ before_if false next xs ys h g = g
 
 pub before_exposed : (next time : ℕ) (o : Option RowView) (rows : List RowView) → are_before next rows ≡ true → are_before next (exposed_rows time o rows) ≡ true
 before_exposed next time (Some row) rows h =
-    changed next row.frame.0 sensor_home (with_row row.frame.0 (exposed time) rows) (λ r. refl) (changed next row.frame.0 (exposed time) rows (λ r. refl) h)
+    before-changed next row.frame.0 sensor_home (with_row row.frame.0 (exposed time) rows) (λ r. refl) (before-changed next row.frame.0 (exposed time) rows (λ r. refl) h)
 before_exposed next time None rows h = h
 
 pub before_sent : (next n : ℕ) (o : Option (ℕ × Part)) (rows : List RowView) → are_before next rows ≡ true → are_before next (sent_rows n o rows) ≡ true
-before_sent next n (Some sent) rows h = gone next n (with_row n (with_part sent.0) rows) (changed next n (with_part sent.0) rows (λ r. refl) h)
+before_sent next n (Some sent) rows h = gone next n (with_row n (with_part sent.0) rows) (before-changed next n (with_part sent.0) rows (λ r. refl) h)
 before_sent next n None rows h = h
 
 pub before_filled : (next n : ℕ) (s : StreamIx) (rows : List RowView) → are_before next rows ≡ true → are_before next (filled_rows n s rows) ≡ true
-before_filled next n s rows h = changed next n (fill_ended s) (with_row n (fill_begun s) rows) (λ r. refl) (changed next n (fill_begun s) rows (λ r. refl) h)
+before_filled next n s rows h = before-changed next n (fill_ended s) (with_row n (fill_begun s) rows) (λ r. refl) (before-changed next n (fill_begun s) rows (λ r. refl) h)
 
 pub before_delivered : (next n : ℕ) (s : StreamIx) (rows : List RowView) → are_before next rows ≡ true → are_before next (delivered_rows n s rows) ≡ true
-before_delivered next n s rows h = gone next n (with_row n (delivered s) rows) (changed next n (delivered s) rows (λ r. refl) h)
+before_delivered next n s rows h = gone next n (with_row n (delivered s) rows) (before-changed next n (delivered s) rows (λ r. refl) h)
 
 pub before_failed : (next n : ℕ) (s : StreamIx) (rows : List RowView) → are_before next rows ≡ true → are_before next (failed_rows n s rows) ≡ true
-before_failed next n s rows h = gone next n (with_row n (returned_failed s) rows) (changed next n (returned_failed s) rows (λ r. refl) h)
+before_failed next n s rows h = gone next n (with_row n (returned_failed s) rows) (before-changed next n (returned_failed s) rows (λ r. refl) h)
 
 pub before_stopped : (next : ℕ) (rows : List RowView) → are_before next rows ≡ true → are_before next (all_stopped rows) ≡ true
 before_stopped next rows h = all-mapped (λ row. nat_lt row.frame.0 next) (marked Stopped) rows ∙ h
 
 with-error : (next : ℕ) (error : ErrorEntry) (rows : List RowView) → are_before next rows ≡ true → are_before next (with_error error rows) ≡ true
-with-error next (LostRequest m) rows h = changed next m.0 (marked RequestError) rows (λ r. refl) h
-with-error next (LostResult m) rows h = changed next m.0 (marked ResultError) rows (λ r. refl) h
-with-error next (LostBuffer m s) rows h = changed next m.0 (marked (Announced s)) rows (λ r. refl) h
+with-error next (LostRequest m) rows h = before-changed next m.0 (marked RequestError) rows (λ r. refl) h
+with-error next (LostResult m) rows h = before-changed next m.0 (marked ResultError) rows (λ r. refl) h
+with-error next (LostBuffer m s) rows h = before-changed next m.0 (marked (Announced s)) rows (λ r. refl) h
 with-error next LostDevice rows h = before_stopped next rows h
 
 pub before_error : (next n : ℕ) (o : Option ErrorEntry) (rows : List RowView) → are_before next rows ≡ true → are_before next (error_rows n o rows) ≡ true

@@ -9,14 +9,15 @@ use Rattle.buffer_pool.specs.Blocks.{block_length}
 use Rattle.cam_types.specs.Picture.{is_offered}
 use Rattle.cam_types.specs.declared.profile.Profile.{Profile}
 use Rattle.cam_types.specs.declared.stream.StreamSpec.{StreamSpec}
-use Rattle.device_store.proofs.General.{get-passes}
 use Rattle.device_store.specs.Stored.{spec_of, specs_of}
 use Rattle.hal_device_model.specs.Calls.{configured}
 use Rattle.hal_device_model.specs.State.{HalDeviceState, spare_for, spares_for}
-use Rattle.hal_device.specs.Kept.{are_offered, are_packed, are_sized, is_offered_at, is_sized, place_at, spare_by, spares_by, with_plan_and}
-use Rattle.stream_config.specs.Plan.{plan_of, plan_stream}
-use Rattle.stream_config.specs.declared.plan.Plan.{Plan}
-use Rattle.stream_config.specs.declared.plan.PlanStream.{PlanStream}
+use Rattle.hal_device.specs.Kept.{are_offered, are_packed, is_offered_at, is_sized, place_at, spare_by, spares_by, with_plan_and}
+use Rattle.request_checks.specs.Plan.{plan_of, plan_stream}
+use Rattle.request_checks.specs.declared.plan.Plan.{Plan}
+use Rattle.request_checks.specs.declared.plan.PlanStream.{PlanStream}
+use Rattle.basic_lemmas.proofs.Lists.{all-at}
+use Rattle.basic_lemmas.proofs.Tests.{own-number}
 
 all-specs : (a b c d : Option PlanStream) → ((is_offered_at a && is_offered_at b) && (is_offered_at c && is_offered_at d)) ≡ true → list_all is_offered (map spec_of (option_to_list a ++ (option_to_list b ++ (option_to_list c ++ option_to_list d)))) ≡ true
 all-specs a b c d h =
@@ -40,7 +41,7 @@ offered_all plan h = all-specs plan.streams.a plan.streams.b plan.streams.c plan
 
 offered-one : (profile : Profile) (specs : List StreamSpec) (k : ℕ) → list_all is_offered specs ≡ true → (o : Option StreamSpec) → slice_get specs k ≡ o → is_offered_at (option_map (plan_stream profile) o) ≡ true
 offered-one profile specs k all None at = refl
-offered-one profile specs k all (Some spec) at = get-passes is_offered specs k spec all at
+offered-one profile specs k all (Some spec) at = all-at is_offered specs k spec all at
 
 pub plan_offered : (profile : Profile) (specs : List StreamSpec) → list_all is_offered specs ≡ true → are_offered (plan_of profile specs) ≡ true
 plan_offered profile specs all =
@@ -53,15 +54,9 @@ plan_packed profile (w ∷ x ∷ []) = refl
 plan_packed profile (w ∷ x ∷ y ∷ []) = refl
 plan_packed profile (w ∷ x ∷ y ∷ z ∷ specs) = refl
 
-same : (n : ℕ) → (n == n) ≡ true
-same n = grind (arith, nat_tests)
-
 sized-one : (o : Option PlanStream) → is_sized o (spare_by o) ≡ true
-sized-one (Some s) = same (block_length s.spec.format)
+sized-one (Some s) = own-number (block_length s.spec.format)
 sized-one None = refl
-
-pub plan_sized : (plan : Plan) → are_sized plan (spares_by plan) ≡ true
-plan_sized plan = rw (sized-one plan.streams.a, sized-one plan.streams.b, sized-one plan.streams.c, sized-one plan.streams.d) refl
 
 spare-one : (profile : Profile) (o : Option StreamSpec) → spare_by (option_map (plan_stream profile) o) ≡ spare_for profile o
 spare-one profile (Some spec) = refl

@@ -5,7 +5,7 @@ use Rattle.std.specs.Option.{option_map}
 use Rattle.std.proofs.lemmas.Bool.{false≢true}
 use Rattle.cam_types.specs.declared.stream.StreamSpec.{StreamSpec}
 use Rattle.device_store.specs.Stored.{spec_of}
-use Rattle.stream_config.specs.declared.plan.PlanStream.{PlanStream}
+use Rattle.request_checks.specs.declared.plan.PlanStream.{PlanStream}
 
 abbrev pub packed : Option PlanStream → Option PlanStream → Option PlanStream → Option PlanStream → Bool
 packed a b c d = ((is_some a || is_none b) && (is_some b || is_none c)) && (is_some c || is_none d)

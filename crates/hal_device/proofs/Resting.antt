@@ -6,18 +6,20 @@ use Rattle.basic_lemmas.proofs.Lists.{all-filtered, all-mapped, all-where}
 use Rattle.cam_types.specs.declared.number.StreamIx.{StreamIx}
 use Rattle.cam_types.specs.declared.row.RowView.{RowView}
 use Rattle.cam_types.specs.declared.row.TargetState.{TargetState}
-use Rattle.cam_types.specs.declared.row.TargetState.TheVariants.{Waiting, Out, Filled, ReturnedEarly, EarlyFilled, ReturnedOk, ReturnedFailed}
+use Rattle.cam_types.specs.declared.row.TargetState.TheVariants.{Out, ReturnedOk, ReturnedFailed}
 use Rattle.cam_types.specs.declared.row.TargetView.{TargetView}
 use Rattle.device_rows.specs.Jobs.{has_job_out, is_fill_out}
 use Rattle.device_rows.specs.Kept.{has_made_fence, have_made_fences}
 use Rattle.device_rows.specs.Ready.{is_sensor_out}
 use Rattle.device_core.specs.View.{DeviceView, with_rows}
-use Rattle.device_rows.specs.Rows.{all_stopped, delivered, exposed, fill_begun, fill_ended, filled_after, filled_from, returned_failed, sensor_home, target_at, with_error, with_part, with_row, without}
-use Rattle.error_notify.specs.declared.entry.ErrorEntry.{ErrorEntry}
-use Rattle.error_notify.specs.declared.entry.ErrorEntry.TheVariants.{Request as LostRequest, Result as LostResult, Buffer as LostBuffer, Device as LostDevice}
-use Rattle.inflight_table.specs.declared.mark.Mark.TheVariants.{Announced, RequestError, ResultError, Stopped, Target}
-use Rattle.inflight_table.specs.Marks.{if_of_stream, in_state, as_announced, marked}
+use Rattle.device_rows.specs.Rows.{all_stopped, delivered, exposed, fill_begun, fill_ended, filled_after, returned_failed, sensor_home, target_at, with_error, with_part, with_row, without}
+use Rattle.device_rows.specs.declared.entry.ErrorEntry.{ErrorEntry}
+use Rattle.device_rows.specs.declared.entry.ErrorEntry.TheVariants.{Request as LostRequest, Result as LostResult, Buffer as LostBuffer, Device as LostDevice}
+use Rattle.device_rows.specs.declared.mark.Mark.TheVariants.{Announced, RequestError, ResultError, Stopped, Target}
+use Rattle.device_rows.specs.Marks.{if_of_stream, in_state, as_announced, marked}
 use Rattle.hal_device.specs.Kept.{rests, rests_at}
+use Rattle.device_store.proofs.Moves.{filled-from-in}
+use Rattle.hal_device_model.proofs.Whole.{changed_twice}
 
 -- ---- what a row that rests meets
 
@@ -123,16 +125,6 @@ changed_rests n change (row ∷ rows) keeps h =
       | inr other ↦ rw (other, parts.0) ih
     ]
 
--- two changes of one row are one
-pub changed_twice : (n : ℕ) (f g : RowView → RowView) (rows : List RowView) → ((row : RowView) → (g row).frame.0 ≡ row.frame.0) → with_row n f (with_row n g rows) ≡ with_row n (λ row. f (g row)) rows
-changed_twice n f g [] same = refl
-changed_twice n f g (row ∷ rows) same =
-    let ih = changed_twice n f g rows same in
-    elim (cases_Bool (row.frame.0 == n)) [
-      | inl here ↦ (let here' : ((g row).frame.0 == n) ≡ true = ap (λ k. k == n) (same row) ∙ here in rw (here, here', ih) refl)
-      | inr other ↦ rw (other, other, ih) refl
-    ]
-
 -- ---- each step
 
 in-state : (st : TargetState) → is_fill_out st ≡ false → (t : TargetView) → rests_at (Some t) ≡ true → rests_at (Some (in_state st t)) ≡ true
@@ -169,17 +161,8 @@ exposed_rests n time rows h =
     home : (row : RowView) → rests row ≡ true → rests (sensor_home (exposed time row)) ≡ true
     home row r = (and_parts (not (is_sensor_out row.sensor)) ((rests_at row.targets.a && rests_at row.targets.b) && (rests_at row.targets.c && rests_at row.targets.d)) r).1
 
-not-out-from : (st : TargetState) → is_fill_out (filled_from st) ≡ false
-not-out-from ReturnedEarly = refl
-not-out-from Waiting = refl
-not-out-from Out = refl
-not-out-from Filled = refl
-not-out-from EarlyFilled = refl
-not-out-from ReturnedOk = refl
-not-out-from ReturnedFailed = refl
-
 not-out-after : (o : Option TargetView) → is_fill_out (filled_after o) ≡ false
-not-out-after (Some t) = not-out-from t.state
+not-out-after (Some t) = filled-from-in t.state
 not-out-after None = refl
 
 filled-at : (s : ℕ) (st : TargetState) (o : Option TargetView) → is_fill_out st ≡ false → rests_at o ≡ true → rests_at (if_of_stream s (in_state st) (if_of_stream s (in_state Out) o)) ≡ true

@@ -18,8 +18,8 @@ use Rattle.device_store.specs.Stored.{IsParkedWith, are_before}
 use Rattle.hal_device_model.specs.State.{HalDeviceState, Spare, Spares, no_spare, streams_in}
 use Rattle.hal_device.specs.declared.steps.Delivered.{Delivered}
 use Rattle.sha2.specs.Sha256.{sha256}
-use Rattle.stream_config.specs.declared.plan.Plan.{Plan}
-use Rattle.stream_config.specs.declared.plan.PlanStream.{PlanStream}
+use Rattle.request_checks.specs.declared.plan.Plan.{Plan}
+use Rattle.request_checks.specs.declared.plan.PlanStream.{PlanStream}
 
 -- ---- no job is out, and no buffer waits for a fence of the device's own
 

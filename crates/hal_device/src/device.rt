@@ -8,9 +8,9 @@ use crate::quiet::QuietDevice;
 use crate::shelves::Shelves;
 use cam_types::{FaultList, Four, Profile, RowView, Settings};
 use hal_device_model::CallError;
+use request_checks::Plan;
 use std::alloc::Global;
 use std::marker::Model;
-use stream_config::Plan;
 
 /// The device behind `camera3_device_t`. Any call may be made at any time: each tests what it asks, and answers an
 /// error of the header's, or None, where it can't be done. It can't be let go: `close` ends it.

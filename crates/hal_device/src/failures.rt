@@ -7,7 +7,7 @@ ghost use Rattle.device_rows.specs.Rows.{target_in};
 
 use crate::device::HalDevice;
 use cam_types::{BufferId, FrameNo, StreamIx};
-use error_notify::ErrorEntry;
+use device_rows::ErrorEntry;
 
 impl HalDevice {
     /// Tells the error that is due at a frame: the device's failure where it shall fail there, else the next of the

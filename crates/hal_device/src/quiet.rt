@@ -11,19 +11,18 @@ ghost use Rattle.device_rows.specs.Ready.{is_delivery_ready, is_failed_return_re
 ghost use Rattle.device_rows.specs.Rows.{all_stopped};
 ghost use Rattle.device_store.specs.Steps.{ShowsAt};
 ghost use Rattle.device_store.specs.Stored.{AreParked, are_before, is_some_target, no_plan, specs_of};
-ghost use Rattle.fence_tokens.specs.Fences.{is_signalled, no_fences};
+ghost use Rattle.buffer_pool.specs.Fences.{is_signalled, no_fences};
 ghost use Rattle.hal_device.specs.Kept.{IsBlockAt, rests};
 ghost use Rattle.hal_device.specs.Ready.{is_of};
 ghost use Rattle.hal_device_model.specs.Calls.{delivered_rows, error_rows, exposed_rows, failed_rows, filled_rows, sent_rows, settled};
 
-use buffer_pool::Parked;
+use buffer_pool::{Fences, Parked};
 use cam_types::{BufferId, FaultList, Four, FrameNo, NoMemory, Part, PixelBuf, RowView, StreamIx};
 use device_core::Device;
-use error_notify::ErrorEntry;
-use fence_tokens::Fences;
+use device_rows::ErrorEntry;
+use request_checks::Plan;
 use std::alloc::Global;
 use std::marker::Model;
-use stream_config::Plan;
 
 /// A device none of whose jobs is out, and none of whose buffers waits for a fence of the device's own. It can't be
 /// let go: `scrap` ends it.
@@ -36,7 +35,7 @@ impl Model for QuietDevice {
     ghost use Rattle.std.specs.Prelude.{◌≡◌, true};
     ghost use Rattle.std.specs.List.{list_all};
     ghost use Rattle.device_core.specs.View.{DeviceView};
-    ghost use Rattle.fence_tokens.specs.Fences.{no_fences};
+    ghost use Rattle.buffer_pool.specs.Fences.{no_fences};
     ghost use Rattle.hal_device.specs.Kept.{rests};
 
     ghost Value = { DeviceView };

@@ -10,9 +10,9 @@ ghost use Rattle.hal_device_model.specs.State.{back_at, no_spares};
 use crate::shelf::Shelf;
 use buffer_pool::Parked;
 use cam_types::{Format, Four, NoMemory, PixelBuf, StreamIx, StreamSpec, TargetView, frame_bytes};
+use request_checks::{Plan, PlanStream};
 use std::alloc::{AllocError, Global};
 use std::marker::Model;
-use stream_config::{Plan, PlanStream};
 
 /// The spare blocks of the streams 0 to 3.
 #[derive(Drop)]

@@ -9,7 +9,7 @@ ghost use Rattle.hal_device.specs.Kept.{IsDelivered, place_at};
 use crate::device::HalDevice;
 use crate::shelves::picture_length;
 use cam_types::{BufferId, FrameNo, Part, StreamIx};
-use stream_config::{Plan, PlanStream};
+use request_checks::{Plan, PlanStream};
 
 /// A good buffer that comes back: its number, and the SHA-256 of its picture.
 #[derive(Clone, Copy, Debug, PartialEq, Eq)]

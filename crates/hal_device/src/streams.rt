@@ -5,14 +5,14 @@ ghost use Rattle.device_store.specs.Stored.{specs_of};
 ghost use Rattle.hal_device.specs.Kept.{are_offered, are_packed, spares_by, with_plan_and};
 ghost use Rattle.hal_device_model.specs.Calls.{IsRefusal, configure_error, configured, initialize_error, is_over, sequence_error};
 ghost use Rattle.hal_device_model.specs.Log.{Initialize, after_call};
-ghost use Rattle.stream_config.specs.Plan.{plan_of};
+ghost use Rattle.request_checks.specs.Plan.{plan_of};
 
 use crate::device::HalDevice;
 use crate::shelves::Shelves;
 use cam_types::SpecList;
 use hal_device_model::CallError;
+use request_checks::{Plan, check};
 use std::alloc::Global;
-use stream_config::{Plan, check};
 
 impl HalDevice {
     /// `initialize`: ENODEV where the device failed or is closed, ENOSYS where it was initialized before.

@@ -4,6 +4,7 @@ use Rattle.std.specs.List.{list_any}
 use Rattle.std.proofs.lemmas.Bool.{eqb-true, ltb-true}
 use Rattle.hal_device_model.specs.Calls.{are_bad_targets, is_again, names_twice}
 use Rattle.hal_model.specs.declared.event.HalTarget.{HalTarget}
+use Rattle.basic_lemmas.proofs.Tests.{or-first, or-second, not-false}
 
 abbrev one_if : Bool → ℕ
 one_if true = 1
@@ -14,29 +15,20 @@ abbrev count : ℕ → List HalTarget → ℕ
 count s [] = 0
 count s (t ∷ ts) = one_if (t.stream == s) + count s ts
 
--- the parts of a disjunction that is false
-first-false : (a b : Bool) → (a || b) ≡ false → a ≡ false
-first-false false b h = refl
-first-false true b h = absurd (cc)
-
-second-false : (a b : Bool) → (a || b) ≡ false → b ≡ false
-second-false false b h = h
-second-false true b h = absurd (cc)
-
 -- ---- a target whose stream no later one has
 
 none-again : (t : HalTarget) (ts : List HalTarget) → list_any (is_again t) ts ≡ false → count t.stream ts ≡ 0
 none-again t [] h = refl
 none-again t (u ∷ ts) h =
-    let no : (u.stream == t.stream) ≡ false = first-false (u.stream == t.stream) (u.buffer == t.buffer) (first-false (is_again t u) (list_any (is_again t) ts) h) in
-    let rest : count t.stream ts ≡ 0 = none-again t ts (second-false (is_again t u) (list_any (is_again t) ts) h) in
+    let no : (u.stream == t.stream) ≡ false = or-first (u.stream == t.stream) (u.buffer == t.buffer) (or-first (is_again t u) (list_any (is_again t) ts) h) in
+    let rest : count t.stream ts ≡ 0 = none-again t ts (or-second (is_again t u) (list_any (is_again t) ts) h) in
     rw (no, rest) refl
 
 at_most_one : (s : ℕ) (ts : List HalTarget) → names_twice ts ≡ false → count s ts ≤ 1
 at_most_one s [] h = omega arith
 at_most_one s (t ∷ ts) h =
-    by (t.stream == s) refl (at_most_one s ts (second-false (list_any (is_again t) ts) (names_twice ts) h))
-    (none-again t ts (first-false (list_any (is_again t) ts) (names_twice ts) h))
+    by (t.stream == s) refl (at_most_one s ts (or-second (list_any (is_again t) ts) (names_twice ts) h))
+    (none-again t ts (or-first (list_any (is_again t) ts) (names_twice ts) h))
   where
     by : (b : Bool) → (t.stream == s) ≡ b → count s ts ≤ 1 → count t.stream ts ≡ 0
         → one_if (t.stream == s) + count s ts ≤ 1
@@ -55,19 +47,15 @@ in_four (suc (suc zero)) h = omega arith
 in_four (suc (suc (suc zero))) h = omega arith
 in_four (suc (suc (suc (suc n)))) h = absurd (omega arith)
 
-not-false : (b : Bool) → not b ≡ false → b ≡ true
-not-false true h = refl
-not-false false h = absurd (cc)
-
 all_counted : (n : ℕ) (ts : List HalTarget) → n ≤ 4 → list_any (λ (t : HalTarget). not (nat_lt t.stream n)) ts ≡ false
     → length ts ≤ count 0 ts + (count 1 ts + (count 2 ts + count 3 ts))
 all_counted n [] low h = omega arith
 all_counted n (t ∷ ts) low h =
     let p = λ (u : HalTarget). not (nat_lt u.stream n) in
-    let below : t.stream < n = ltb-true t.stream n (not-false (nat_lt t.stream n) (first-false (p t) (list_any p ts) h)) in
+    let below : t.stream < n = ltb-true t.stream n (not-false (nat_lt t.stream n) (or-first (p t) (list_any p ts) h)) in
     let four : t.stream < 4 = omega arith in
     let head = in_four t.stream four in
-    let rest = all_counted n ts low (second-false (p t) (list_any p ts) h) in
+    let rest = all_counted n ts low (or-second (p t) (list_any p ts) h) in
     omega arith
 
 few : (n : ℕ) (ts : List HalTarget) → n ≤ 4 → list_any (λ (t : HalTarget). not (nat_lt t.stream n)) ts ≡ false

@@ -15,10 +15,7 @@ use Rattle.hal_device_model.specs.State.{HalDeviceState, streams_in}
 use Rattle.hal_device_model.specs.declared.error.CallError.{CallError}
 use Rattle.hal_device_model.specs.declared.error.CallError.TheVariants.{InvalidArgument, NoDevice, WrongSequence}
 use Rattle.hal_model.specs.declared.event.HalTarget.{HalTarget}
-
-one-each : {X : Type 0} (o : Option X) → length (option_to_list o) ≤ 1
-one-each None = omega arith
-one-each (Some x) = omega arith
+use Rattle.basic_lemmas.proofs.Options.{one-each}
 
 four-few : {X : Type 0} (f : Four X) → length (four_list f) ≤ 4
 four-few f =

@@ -9,8 +9,8 @@ use Rattle.cam_types.specs.declared.script.Fault.TheVariants.{Request, Result, B
 use Rattle.cam_types.specs.declared.stream.Format.{Format}
 use Rattle.cam_types.specs.declared.stream.Format.TheVariants.{Raw16, Yuv, Other}
 use Rattle.cam_types.specs.declared.stream.StreamSpec.{StreamSpec}
-use Rattle.error_notify.specs.declared.entry.ErrorEntry.{ErrorEntry}
-use Rattle.error_notify.specs.declared.entry.ErrorEntry.TheVariants.{Request as LostRequest, Result as LostResult, Buffer as LostBuffer, Device as LostDevice}
+use Rattle.device_rows.specs.declared.entry.ErrorEntry.{ErrorEntry}
+use Rattle.device_rows.specs.declared.entry.ErrorEntry.TheVariants.{Request as LostRequest, Result as LostResult, Buffer as LostBuffer, Device as LostDevice}
 use Rattle.hal_device.specs.declared.ready.ReadyRow.{ReadyRow}
 use Rattle.hal_device.specs.declared.ready.ReadyTarget.{ReadyTarget}
 use Rattle.hal_device_c.specs.declared.records.ErrorRecord.{ErrorRecord}
@@ -24,8 +24,8 @@ use Rattle.hal_device_c.specs.declared.records.SettingsRecord.{SettingsRecord}
 use Rattle.hal_device_c.specs.declared.records.StreamRecord.{StreamRecord}
 use Rattle.hal_device_c.specs.declared.records.TargetRecord.{TargetRecord}
 use Rattle.hal_model.specs.declared.event.HalTarget.{HalTarget}
-use Rattle.stream_config.specs.declared.plan.Plan.{Plan}
-use Rattle.stream_config.specs.declared.plan.PlanStream.{PlanStream}
+use Rattle.request_checks.specs.declared.plan.Plan.{Plan}
+use Rattle.request_checks.specs.declared.plan.PlanStream.{PlanStream}
 
 -- ---- what C passes
 

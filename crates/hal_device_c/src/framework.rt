@@ -8,7 +8,7 @@ ghost use Rattle.hal_device_c.specs.Records.{max_buffers_record, settings_of, sp
 ghost use Rattle.hal_device_model.specs.Calls.{configure_error, configured, end_error, flush_error, initialize_error, request_error};
 ghost use Rattle.hal_device_model.specs.Log.{BeginClose, BeginFlush, EndFlush, Initialize, Request, after_call};
 ghost use Rattle.hal_device_c.specs.Configuring.{configure_list};
-ghost use Rattle.stream_config.specs.Plan.{plan_of};
+ghost use Rattle.request_checks.specs.Plan.{plan_of};
 
 use crate::answer::{DONE, NO_MEMORY, NOT_OPEN, answer_of, number_of};
 use crate::handle::{Handle, Held};

@@ -3,10 +3,10 @@ ghost use Rattle.std.specs.Prelude.{◌≡◌};
 ghost use Rattle.hal_device_c.specs.Records.{error_record, fault_of, format_of, has_kind, max_buffers_record, most_of, part_record, profile_of, row_record, row_target, settings_of, settings_record, spec_of, target_of};
 
 use cam_types::{Fault, Format, FrameNo, Part, Profile, Settings, StreamIx, StreamSpec};
-use error_notify::ErrorEntry;
+use device_rows::ErrorEntry;
 use hal_device::{ReadyRow, ReadyTarget};
 use hal_model::HalTarget;
-use stream_config::{Plan, PlanStream};
+use request_checks::{Plan, PlanStream};
 
 /// `struct pauvigre_profile`.
 #[repr(C)]

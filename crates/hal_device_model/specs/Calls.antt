@@ -19,14 +19,14 @@ use Rattle.cam_types.specs.declared.stream.StreamSpec.{StreamSpec}
 use Rattle.device_core.specs.View.{with_plan}
 use Rattle.device_rows.specs.Ready.{is_delivery_ready, is_failed_return_ready, is_fill_ready, is_retire_ready, next_error, next_part, shutter_row}
 use Rattle.device_rows.specs.Rows.{all_stopped, delivered, exposed, fill_begun, fill_ended, returned_failed, sensor_home, with_error, with_part, with_row, without}
-use Rattle.error_notify.specs.declared.entry.ErrorEntry.{ErrorEntry}
-use Rattle.error_notify.specs.declared.entry.ErrorEntry.TheVariants.{Device}
-use Rattle.fence_tokens.specs.Fences.{is_signalled, no_fences}
+use Rattle.device_rows.specs.declared.entry.ErrorEntry.{ErrorEntry}
+use Rattle.device_rows.specs.declared.entry.ErrorEntry.TheVariants.{Device}
+use Rattle.buffer_pool.specs.Fences.{is_signalled, no_fences}
 use Rattle.hal_device_model.specs.State.{HalDeviceState, Spare, Spares, back_at, in_rows, in_rows_with, lent, spares_for, streams_in}
 use Rattle.hal_device_model.specs.declared.error.CallError.{CallError}
 use Rattle.hal_device_model.specs.declared.error.CallError.TheVariants.{InvalidArgument, NoDevice, WrongSequence, NoMemory, Busy}
 use Rattle.hal_model.specs.declared.event.HalTarget.{HalTarget}
-use Rattle.stream_config.specs.Plan.{plan_of}
+use Rattle.request_checks.specs.Plan.{plan_of}
 
 -- a call ends with the error that is due; where none is, only want of memory may end it
 abbrev pub IsRefusal : Option CallError → CallError → Type 0

@@ -10,8 +10,8 @@ use Rattle.cam_types.specs.declared.row.TargetState.TheVariants.{Waiting}
 use Rattle.cam_types.specs.declared.stream.StreamSpec.{StreamSpec}
 use Rattle.device_rows.specs.Ready.{is_state}
 use Rattle.device_rows.specs.Rows.{target_in}
-use Rattle.error_notify.specs.declared.entry.ErrorEntry.{ErrorEntry}
-use Rattle.error_notify.specs.declared.entry.ErrorEntry.TheVariants.{Request as LostRequest, Result as LostResult, Buffer as LostBuffer, Device as LostDevice}
+use Rattle.device_rows.specs.declared.entry.ErrorEntry.{ErrorEntry}
+use Rattle.device_rows.specs.declared.entry.ErrorEntry.TheVariants.{Request as LostRequest, Result as LostResult, Buffer as LostBuffer, Device as LostDevice}
 use Rattle.hal_device_model.specs.Calls.{after_delivery, after_error, after_exposure, after_failed_return, after_part, configure_error, configured, end_error, ended, error_in, exposure_in, after_fill, flush_error, initialize_error, initialized, may_deliver, may_fill, may_return_failed, part_in, request_error, requested_with, settings_of, close_begun, flush_begun}
 use Rattle.hal_device_model.specs.State.{HalDeviceState}
 use Rattle.hal_device_model.specs.declared.error.CallError.{CallError}
@@ -27,7 +27,7 @@ use Rattle.hal_model.specs.declared.event.HalFence.TheVariants.{Absent as NoFenc
 use Rattle.hal_model.specs.declared.event.HalTarget.{HalTarget}
 use Rattle.hal_model.specs.declared.event.Pack.TheVariants.{Entries}
 use Rattle.hal_model.specs.declared.event.Status.TheVariants.{Filled as Okay, Failed as Faulty}
-use Rattle.trace_hal.specs.Hal.{gives_back, most_from, streams_from}
+use Rattle.hal_model.specs.Hal.{gives_back, most_from, streams_from}
 
 -- the calls of the device: those of the framework, and the steps that whoever runs the device asks for
 pub data HalCall : Type 0 where

@@ -2,7 +2,7 @@
 
 use crate::session::Session;
 use cam_types::{FrameNo, StreamIx};
-use error_notify::ErrorEntry;
+use device_rows::ErrorEntry;
 use hal_device::HalDevice;
 use std::io;
 

@@ -2,7 +2,7 @@
 use Rattle.std.proofs.Common.{◌≡◌, ◌∙◌, ℕ, suc, ◌+◌, ◌<◌, Bool, true, false, List, [], ◌∷◌, ◌++◌, None, refl, sym, ap, arith, filter, get_or, length, map, take, if◌then◌else◌}
 use Rattle.std.specs.Map.{values_of}
 use Rattle.std.proofs.Math.Seq.{take-suc}
-use Rattle.basic_lemmas.proofs.Lists.{map-map}
+use Rattle.basic_lemmas.proofs.Lists.{map-map, append-none}
 use Rattle.hal_model.specs.declared.event.HalStream.{HalStream}
 use Rattle.hal_model.specs.declared.event.StreamMax.{StreamMax}
 use Rattle.hal_model.specs.declared.event.HalEvent.{HalEvent}
@@ -32,11 +32,7 @@ filter-append {X} p (x ∷ xs) ys = by (p x) (filter-append p xs ys)
     by true h = ap (λ (z : List X). x ∷ z) h
     by false h = h
 
-append-nil : {X : Type 0} (xs : List X) → xs ++ [] ≡ xs
-append-nil [] = refl
-append-nil {X} (x ∷ xs) = ap (λ (z : List X). x ∷ z) (append-nil xs)
-
-append-turned : {X : Type 0} (xs ys zs : List X) → (xs ++ ys) ++ zs ≡ xs ++ (ys ++ zs)
+pub append-turned : {X : Type 0} (xs ys zs : List X) → (xs ++ ys) ++ zs ≡ xs ++ (ys ++ zs)
 append-turned [] ys zs = refl
 append-turned {X} (x ∷ xs) ys zs = ap (λ (r : List X). x ∷ r) (append-turned xs ys zs)
 
@@ -59,7 +55,7 @@ silences_next e k r t u old new all is now' so =
 
 pub silences_end : (e : HalEvent) (t : List (ℕ × Row)) (old all : List Fault) → t ≡ [] → old ++ row_silences (filter (is_row_silent e) (values_of t)) ≡ all → old ≡ all
 silences_end e t old all is so =
-    sym (append-nil old) ∙ (ap (λ z. old ++ row_silences (filter (is_row_silent e) (values_of z))) (sym is) ∙ so)
+    sym (append-none old) ∙ (ap (λ z. old ++ row_silences (filter (is_row_silent e) (values_of z))) (sym is) ∙ so)
 
 -- ---- one more element
 

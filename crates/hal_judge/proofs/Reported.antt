@@ -12,19 +12,13 @@ use Rattle.hal_rows.specs.Noting.{next_state}
 use Rattle.hal_rows.specs.Row.{is_row_outstanding}
 use Rattle.hal_rows.specs.State.{HalState, hal_state}
 use Rattle.hal_rows.proofs.Whole.{breaches-read, log_noted, open_reads, report_reads}
-
-append-nil : {X : Type 0} (xs : List X) → xs ++ [] ≡ xs
-append-nil [] = refl
-append-nil {X} (x ∷ xs) = ap (λ (z : List X). x ∷ z) (append-nil xs)
-
-append-turned : {X : Type 0} (xs ys zs : List X) → (xs ++ ys) ++ zs ≡ xs ++ (ys ++ zs)
-append-turned [] ys zs = refl
-append-turned {X} (x ∷ xs) ys zs = ap (λ (r : List X). x ∷ r) (append-turned xs ys zs)
+use Rattle.hal_judge.proofs.Faults.{append-turned}
+use Rattle.basic_lemmas.proofs.Lists.{append-none}
 
 -- ---- one more rule
 
 breaches-append : (k line : ℕ) (e : HalEvent) (s : HalState) (some : List Rule) (rule : Rule) → all_breaches_at k line e s (some ++ rule ∷ []) ≡ all_breaches_at k line e s some ++ breaches_at k line e s rule
-breaches-append k line e s [] rule = append-nil (breaches_at k line e s rule)
+breaches-append k line e s [] rule = append-none (breaches_at k line e s rule)
 breaches-append k line e s (first ∷ some) rule =
     ap (λ z. breaches_at k line e s first ++ z) (breaches-append k line e s some rule)
     ∙ sym (append-turned (breaches_at k line e s first) (all_breaches_at k line e s some) (breaches_at k line e s rule))
@@ -47,7 +41,7 @@ pub state_more : (k : ℕ) (es : List HalEvent) (i : ℕ) (d : HalEvent) (s s' :
 state_more k es i d s s' l before' now' =
     now' ∙ (ap (next_state k (get_or es i d)) before' ∙ (sym (log_noted k (get_or es i d) (reverse (take i es))) ∙ ap (λ log. hal_state k (known k log)) (sym (turned-more es i d l))))
 
-long-turned : (es : List HalEvent) (i : ℕ) → i < length es → length (reverse (take i es)) ≡ i
+pub long-turned : (es : List HalEvent) (i : ℕ) → i < length es → length (reverse (take i es)) ≡ i
 long-turned es i l = grind (arith, common_steps)
 
 pub report_more : (k : ℕ) (some : List Rule) (es : List HalEvent) (i : ℕ) (d : HalEvent) (s : HalState) (old new : List Breach) → i < length es → s ≡ hal_state k (known k (reverse (take i es))) → old ≡ report_by some k (reverse (take i es)) → new ≡ old ++ all_breaches_at k i (get_or es i d) s some → new ≡ report_by some k (reverse (take (i + 1) es))

@@ -4,7 +4,7 @@ use Rattle.std.specs.List.{list_any}
 use Rattle.std.proofs.lemmas.Bool.{and_parts, both_ways, cases_Bool, eq-eqb, eqb-true, false≢true, not-true, or_parts}
 use Rattle.std.proofs.lemmas.Bool.Decides.{nat_tests}
 use Rattle.basic_lemmas.proofs.Lists.{any-behind, any-never, any-or, any-where}
-use Rattle.basic_lemmas.proofs.Tests.{and-false, passed-where}
+use Rattle.basic_lemmas.proofs.Tests.{and-false, passed-where, or-neither, not-so}
 use Rattle.cam_types.specs.declared.number.FrameNo.{FrameNo}
 use Rattle.cam_types.specs.declared.number.StreamIx.{StreamIx}
 use Rattle.cam_types.specs.declared.part.Part.{Part}
@@ -20,27 +20,22 @@ use Rattle.trace_model.specs.Laws.{ends_metadata, ends_result_of}
 use Rattle.trace_model.specs.Legal.{IsLegal}
 use Rattle.trace_model.specs.Open.{has_error_buffer, has_error_result, has_part, has_something, is_open, is_returned}
 use Rattle.trace_model.specs.Stopping.{is_stopped}
-use Rattle.frame_laws.proofs.Metadata.{ends-open, result-fails}
-use Rattle.frame_laws.proofs.MetadataOrder.{result-below}
-use Rattle.frame_laws.proofs.Parts.{part-first, part-is}
-use Rattle.frame_laws.proofs.Shutters.{exposed, no-request, shutter-sent}
-use Rattle.hal_model.specs.declared.event.HalEvent.TheVariants.{Shutter as HalShutter, ErrorRequest as HalErrorRequest, ErrorResult as HalErrorResult, ErrorBuffer as HalErrorBuffer, Results}
-use Rattle.hal_model.specs.declared.event.Pack.TheVariants.{Entries, Absent}
+use Rattle.trace_laws.proofs.Metadata.{ends-open, result-fails}
+use Rattle.trace_laws.proofs.MetadataOrder.{result-below}
+use Rattle.trace_laws.proofs.Parts.{part-first, part-is}
+use Rattle.trace_laws.proofs.Shutters.{exposed, no-request, shutter-sent}
+use Rattle.hal_model.specs.declared.event.HalEvent.TheVariants.{ErrorResult as HalErrorResult, ErrorBuffer as HalErrorBuffer, Results}
 use Rattle.hal_model.specs.declared.rule.Rule.TheVariants.{ShutterTwice, ShutterAfterRequestError, EmptyResult, PartialNumber, PartialTwice, MetadataAfterRequestError, MetadataOrder, AcquireFence, ErrorBesideRequestError, RequestErrorLate}
 use Rattle.hal_model.specs.Callbacks.{acquire_fence, empty_result, has_sound_part, is_end_error, is_sound_part_in, error_beside_request_error, metadata_after_request_error, metadata_order, partial_number, partial_twice, request_error_late, shutter_after_request_error, shutter_twice}
 use Rattle.hal_model.specs.Rules.{keeps_in_session}
-use Rattle.buffer_laws.proofs.Sends.{send-number}
-use Rattle.frame_laws.proofs.Sends.{sent-below as number-below}
+use Rattle.trace_laws.proofs.BufferSends.{send-number}
+use Rattle.trace_laws.proofs.Sends.{sent-below as number-below}
 use Rattle.hal_model.specs.declared.event.HalEvent.{HalEvent}
 use Rattle.hal_model.specs.declared.event.HalEvent.TheVariants.{RequestBegin}
 use Rattle.hal_model.specs.Words.{begins, gives_something, had_later, is_error_in, is_later, is_later_with, is_live, is_refused, is_part as hal_part, since, stands, frames as hal_frames}
-use Rattle.trace_hal.specs.Hal.{callback, hal}
-use Rattle.hal_laws.proofs.Homes.{is-false}
-use Rattle.hal_laws.proofs.Keep.{BreaksNone, IsOfCallbacks, callbacks-keep}
+use Rattle.hal_model.specs.Hal.{callback, hal}
 use Rattle.hal_laws.proofs.Readings.{IsCallbackTest, PassesNoOther, by_callback, never-again, none-read, part-reads, request-error-reads, shutter-reads, since-by-begin, since-by-call, since-none}
-
-pub or-neither : (a b : Bool) → a ≡ false → b ≡ false → (a || b) ≡ false
-or-neither a b h k = rw (h, k) refl
+use Rattle.hal_laws.proofs.Comes.{CalledBack, ForbidsNone, kept}
 
 pub dead-end : (a : Bool) {b : Bool} → b ≡ false → (a && b) ≡ false
 dead-end true h = h
@@ -49,81 +44,56 @@ dead-end false h = refl
 -- ---- shutters
 
 pub shutter_twice_kept : (script : Script) (past : List Entry) → IsLegal script past → keeps_in_session 3 (hal script past) ShutterTwice ≡ true
-shutter_twice_kept script past legal = callbacks-keep (shutter_twice 3) of script each past legal
+shutter_twice_kept script past legal = kept (shutter_twice 3) script rule past legal
   where
-    of : IsOfCallbacks (shutter_twice 3)
-    of (HalShutter m t) p h = absurd (false≢true (sym h))
-    of _ p h = refl
-
-    each : BreaksNone (shutter_twice 3) script
-    each past (Shutter n time) legal may = dead-end (is_live 3 n.0 (hal script past)) (shutter-reads n.0 script past legal ∙ (exposed script past n time may).1)
-    each past (Partial n k part) legal may = refl
-    each past _ legal may = refl
+    rule : ForbidsNone (shutter_twice 3) script
+    rule (CalledBack past (Shutter n time) legal may) = dead-end (is_live 3 n.0 (hal script past)) (shutter-reads n.0 script past legal ∙ (exposed script past n time may).1)
+    rule _ = refl
 
 pub shutter_failed_kept : (script : Script) (past : List Entry) → IsLegal script past → keeps_in_session 3 (hal script past) ShutterAfterRequestError ≡ true
-shutter_failed_kept script past legal = callbacks-keep (shutter_after_request_error 3) of script each past legal
+shutter_failed_kept script past legal = kept (shutter_after_request_error 3) script rule past legal
   where
-    of : IsOfCallbacks (shutter_after_request_error 3)
-    of (HalShutter m t) p h = absurd (false≢true (sym h))
-    of _ p h = refl
-
-    each : BreaksNone (shutter_after_request_error 3) script
-    each past (Shutter n time) legal may = dead-end (is_live 3 n.0 (hal script past)) (request-error-reads n.0 script past legal ∙ no-request n.0 past (exposed script past n time may).2)
-    each past _ legal may = refl
+    rule : ForbidsNone (shutter_after_request_error 3) script
+    rule (CalledBack past (Shutter n time) legal may) = dead-end (is_live 3 n.0 (hal script past)) (request-error-reads n.0 script past legal ∙ no-request n.0 past (exposed script past n time may).2)
+    rule _ = refl
 
 -- ---- results
 
 pub empty_result_kept : (script : Script) (past : List Entry) → IsLegal script past → keeps_in_session 3 (hal script past) EmptyResult ≡ true
-empty_result_kept script past legal = callbacks-keep empty_result of script each past legal
+empty_result_kept script past legal = kept empty_result script rule past legal
   where
-    of : IsOfCallbacks empty_result
-    of (Results m j Absent bs input) p h = absurd (false≢true (sym h))
-    of _ p h = refl
-
-    each : BreaksNone empty_result script
-    each past (Filled n s b f d) legal may = refl
-    each past _ legal may = refl
+    rule : ForbidsNone empty_result script
+    rule (CalledBack past (Filled n s b f d) legal may) = refl
+    rule _ = refl
 
 pub partial_number_kept : (script : Script) (past : List Entry) → IsLegal script past → keeps_in_session 3 (hal script past) PartialNumber ≡ true
-partial_number_kept script past legal = callbacks-keep (partial_number 3) of script each past legal
+partial_number_kept script past legal = kept (partial_number 3) script rule past legal
   where
-    of : IsOfCallbacks (partial_number 3)
-    of (Results m j pack bs input) p h = absurd (false≢true (sym h))
-    of _ p h = refl
-
     within : (k : ℕ) → 0 < k → k ≤ 3 → not (nat_lt 0 k && nat_le k 3) ≡ false
     within k low high = grind (arith, nat_tests, low, high)
 
     positive : (k c : ℕ) → k ≡ c + 1 → 0 < k
     positive k c at = omega (arith, at)
 
-    each : BreaksNone (partial_number 3) script
-    each past (Partial n k part) legal may =
+    rule : ForbidsNone (partial_number 3) script
+    rule (CalledBack past (Partial n k part) legal may) =
         let is = part-is script past n k part may in
         within k (positive k _ is.number) is.short
-    each past _ legal may = refl
+    rule _ = refl
 
 pub partial_twice_kept : (script : Script) (past : List Entry) → IsLegal script past → keeps_in_session 3 (hal script past) PartialTwice ≡ true
-partial_twice_kept script past legal = callbacks-keep (partial_twice 3) of script each past legal
+partial_twice_kept script past legal = kept (partial_twice 3) script rule past legal
   where
-    of : IsOfCallbacks (partial_twice 3)
-    of (Results m j Entries bs input) p h = absurd (false≢true (sym h))
-    of _ p h = refl
-
-    each : BreaksNone (partial_twice 3) script
-    each past (Partial n k part) legal may = dead-end (is_live 3 n.0 (hal script past)) (dead-end (nat_lt 0 k && nat_le k 3) (part-reads n.0 k script past legal ∙ part-first script past n k part legal may))
-    each past _ legal may = refl
+    rule : ForbidsNone (partial_twice 3) script
+    rule (CalledBack past (Partial n k part) legal may) = dead-end (is_live 3 n.0 (hal script past)) (dead-end (nat_lt 0 k && nat_le k 3) (part-reads n.0 k script past legal ∙ part-first script past n k part legal may))
+    rule _ = refl
 
 pub metadata_failed_kept : (script : Script) (past : List Entry) → IsLegal script past → keeps_in_session 3 (hal script past) MetadataAfterRequestError ≡ true
-metadata_failed_kept script past legal = callbacks-keep (metadata_after_request_error 3) of script each past legal
+metadata_failed_kept script past legal = kept (metadata_after_request_error 3) script rule past legal
   where
-    of : IsOfCallbacks (metadata_after_request_error 3)
-    of (Results m j Entries bs input) p h = absurd (false≢true (sym h))
-    of _ p h = refl
-
-    each : BreaksNone (metadata_after_request_error 3) script
-    each past (Partial n k part) legal may = dead-end (is_live 3 n.0 (hal script past)) (request-error-reads n.0 script past legal ∙ (part-is script past n k part may).no_request)
-    each past _ legal may = refl
+    rule : ForbidsNone (metadata_after_request_error 3) script
+    rule (CalledBack past (Partial n k part) legal may) = dead-end (is_live 3 n.0 (hal script past)) (request-error-reads n.0 script past legal ∙ (part-is script past n k part may).no_request)
+    rule _ = refl
 
 no_begins : (m : ℕ) → PassesNoOther (begins m)
 no_begins m (RequestBegin j same ts a b) h = absurd (false≢true h)
@@ -170,7 +140,7 @@ part_ends m past h = any-where (is_part m 3) (ends_result_of m) past each h
 
 not_overtaken : (script : Script) (past : List Entry) (n : FrameNo) (k : ℕ) (part : Part) (m : ℕ) → IsLegal script past → IsAllowed script past (Partial n k part) → (k == 3) ≡ true → is_later_with (has_sound_part 3) n.0 (hal script past) m ≡ false
 not_overtaken script past n k part m legal may last =
-    is-false (is_later_with (has_sound_part 3) n.0 (hal script past) m)
+    not-so (is_later_with (has_sound_part 3) n.0 (hal script past) m)
     (λ over.
     let parts = and_parts (is_later n.0 m (hal script past)) (is_sound_part_in 3 m (since m (hal script past))) over in
     let later = (and_parts (stands n.0 (begins m) (hal script past)) (not (is_refused m (hal script past))) parts.0).0 in
@@ -182,30 +152,22 @@ not_overtaken script past n k part m legal may last =
     both_ways (list_any (ends_metadata n.0) past) still (result-below script past n.0 m legal ended above sent))
 
 pub metadata_order_kept : (script : Script) (past : List Entry) → IsLegal script past → keeps_in_session 3 (hal script past) MetadataOrder ≡ true
-metadata_order_kept script past legal = callbacks-keep (metadata_order 3) of script each past legal
+metadata_order_kept script past legal = kept (metadata_order 3) script rule past legal
   where
-    of : IsOfCallbacks (metadata_order 3)
-    of (Results m j Entries bs input) p h = absurd (false≢true (sym h))
-    of _ p h = refl
-
-    each : BreaksNone (metadata_order 3) script
-    each past (Partial n k part) legal may =
+    rule : ForbidsNone (metadata_order 3) script
+    rule (CalledBack past (Partial n k part) legal may) =
         elim (cases_Bool (k == 3)) [
           | inl last ↦ dead-end (is_live 3 n.0 (hal script past) && ((k == 3) && not (stands n.0 (is_end_error n.0) (hal script past)))) (or-neither (list_any (is_later_with (has_sound_part 3) n.0 (hal script past)) (hal_frames (hal script past))) (had_later (has_sound_part 3) n.0 (hal script past)) (any-never (is_later_with (has_sound_part 3) n.0 (hal script past)) (hal_frames (hal script past)) (λ m. not_overtaken script past n k part m legal may last)) (never-again (has_sound_part 3) n.0 script past legal))
           | inr no' ↦ rw (no', and-false (is_live 3 n.0 (hal script past))) refl
         ]
-    each past _ legal may = refl
+    rule _ = refl
 
 pub acquire_fence_kept : (script : Script) (past : List Entry) → IsLegal script past → keeps_in_session 3 (hal script past) AcquireFence ≡ true
-acquire_fence_kept script past legal = callbacks-keep acquire_fence of script each past legal
+acquire_fence_kept script past legal = kept acquire_fence script rule past legal
   where
-    of : IsOfCallbacks acquire_fence
-    of (Results m j pack bs input) p h = absurd (false≢true (sym h))
-    of _ p h = refl
-
-    each : BreaksNone acquire_fence script
-    each past (Filled n s b f d) legal may = refl
-    each past _ legal may = refl
+    rule : ForbidsNone acquire_fence script
+    rule (CalledBack past (Filled n s b f d) legal may) = refl
+    rule _ = refl
 
 -- ---- errors
 
@@ -236,26 +198,17 @@ request-bare script past n h =
     ((and_parts (is_sent n.0 past) _ two.0).0, not-true (has_something n.0 past) two.1)
 
 pub error_beside_kept : (script : Script) (past : List Entry) → IsLegal script past → keeps_in_session 3 (hal script past) ErrorBesideRequestError ≡ true
-error_beside_kept script past legal = callbacks-keep (error_beside_request_error 3) of script each past legal
+error_beside_kept script past legal = kept (error_beside_request_error 3) script rule past legal
   where
-    of : IsOfCallbacks (error_beside_request_error 3)
-    of (HalErrorResult m) p h = absurd (false≢true (sym h))
-    of (HalErrorBuffer m t) p h = absurd (false≢true (sym h))
-    of _ p h = refl
-
-    each : BreaksNone (error_beside_request_error 3) script
-    each past (ErrorResult n) legal may =
+    rule : ForbidsNone (error_beside_request_error 3) script
+    rule (CalledBack past (ErrorResult n) legal may) =
         dead-end (is_live 3 n.0 (hal script past)) (request-error-reads n.0 script past legal ∙ (or_parts (has_error_result n.0 past) (has_error_request n.0 past) (or_parts (has_part n.0 3 past) (has_error_result n.0 past || has_error_request n.0 past) (result-fails script past n may).open_still).1).1)
-    each past (ErrorBuffer n s) legal may = dead-end (is_live 3 n.0 (hal script past)) (request-error-reads n.0 script past legal ∙ (buffer-fails script past n s may).no_request)
-    each past _ legal may = refl
+    rule (CalledBack past (ErrorBuffer n s) legal may) = dead-end (is_live 3 n.0 (hal script past)) (request-error-reads n.0 script past legal ∙ (buffer-fails script past n s may).no_request)
+    rule _ = refl
 
 pub request_error_kept : (script : Script) (past : List Entry) → IsLegal script past → keeps_in_session 3 (hal script past) RequestErrorLate ≡ true
-request_error_kept script past legal = callbacks-keep (request_error_late 3) of script each past legal
+request_error_kept script past legal = kept (request_error_late 3) script rule past legal
   where
-    of : IsOfCallbacks (request_error_late 3)
-    of (HalErrorRequest m) p h = absurd (false≢true (sym h))
-    of _ p h = refl
-
     of_something : (n : ℕ) → IsCallbackTest (gives_something n)
     of_something n (Results m j pack bs input) h = absurd (false≢true (sym h))
     of_something n _ h = refl
@@ -277,8 +230,8 @@ request_error_kept script past legal = callbacks-keep (request_error_late 3) of 
     error n (ErrorBuffer m t) h = h
     error n _ h = absurd (false≢true h)
 
-    each : BreaksNone (request_error_late 3) script
-    each past (ErrorRequest n) legal may =
+    rule : ForbidsNone (request_error_late 3) script
+    rule (CalledBack past (ErrorRequest n) legal may) =
         let bare = or_parts (list_any (is_partial n.0) past) (list_any (returns_of_frame n.0) past || has_error n.0 past) (request-bare script past n may).1 in
         let rest = or_parts (list_any (returns_of_frame n.0) past) (has_error n.0 past) bare.1 in
         let none = any-or (is_partial n.0) (returns_of_frame n.0) past in
@@ -288,4 +241,4 @@ request_error_kept script past legal = callbacks-keep (request_error_late 3) of 
           since-none (gives_something n.0) n.0 (hal script past) (none-read (gives_something n.0) (λ e. is_partial n.0 e || returns_of_frame n.0 e) (of_something n.0) (something n.0) script past none'),
           since-none (is_error_in n.0) n.0 (hal script past) (none-read (is_error_in n.0) (is_error_of n.0) (of_error n.0) (error n.0) script past rest.1),
         ) refl)
-    each past _ legal may = refl
+    rule _ = refl

@@ -4,7 +4,7 @@ use Rattle.std.specs.List.{list_any}
 use Rattle.std.specs.Option.{option_map}
 use Rattle.std.proofs.lemmas.Bool.{and_parts, both_ways, cases_Bool, eq-eqb, eqb-true, false≢true, lt-ltb, not-true, or_parts}
 use Rattle.basic_lemmas.proofs.Lists.{any-mapped, any-never, found-any}
-use Rattle.basic_lemmas.proofs.Tests.{and-false}
+use Rattle.basic_lemmas.proofs.Tests.{and-false, or-neither, not-so}
 use Rattle.cam_types.specs.declared.number.BufferId.{BufferId}
 use Rattle.cam_types.specs.declared.number.FenceNo.{FenceNo}
 use Rattle.cam_types.specs.declared.number.FrameNo.{FrameNo}
@@ -22,15 +22,15 @@ use Rattle.trace_model.specs.Frames.{has_error, has_error_request, has_target, t
 use Rattle.trace_model.specs.Legal.{IsLegal}
 use Rattle.trace_model.specs.Open.{has_error_buffer, has_error_result, has_part, is_returned}
 use Rattle.trace_model.specs.Stopping.{has_failed}
-use Rattle.trace_bounds.proofs.Shapes.{failed-is}
-use Rattle.buffer_laws.proofs.Once.{out-not-returned}
-use Rattle.buffer_laws.proofs.Order.{fills, passes-before, was_filled}
-use Rattle.buffer_laws.proofs.Returns.{ComesBack, ComesFilled, early-back, early-well, failed-back, filled-back, filled-well}
-use Rattle.buffer_laws.proofs.Sends.{is_with, out-sent}
-use Rattle.frame_laws.proofs.Metadata.{result-fails}
-use Rattle.frame_laws.proofs.Shutters.{no-request}
-use Rattle.past_facts.proofs.Told.{tells}
-use Rattle.hal_model.specs.declared.event.HalEvent.TheVariants.{Shutter as HalShutter, ErrorRequest as HalErrorRequest, ErrorResult as HalErrorResult, ErrorBuffer as HalErrorBuffer, ErrorDevice as HalErrorDevice, Results}
+use Rattle.trace_laws.proofs.Shapes.{failed-is}
+use Rattle.trace_laws.proofs.Once.{out-not-returned}
+use Rattle.trace_laws.proofs.Order.{fills, passes-before, was_filled}
+use Rattle.trace_laws.proofs.Returns.{ComesBack, ComesFilled, early-back, early-well, failed-back, filled-back, filled-well}
+use Rattle.trace_laws.proofs.BufferSends.{is_with, out-sent}
+use Rattle.trace_laws.proofs.Metadata.{result-fails}
+use Rattle.trace_laws.proofs.Shutters.{no-request}
+use Rattle.trace_laws.proofs.Told.{tells}
+use Rattle.hal_model.specs.declared.event.HalEvent.TheVariants.{ErrorDevice as HalErrorDevice}
 use Rattle.hal_model.specs.declared.event.HalEvent.{HalEvent}
 use Rattle.hal_model.specs.declared.event.HalFence.{HalFence}
 use Rattle.hal_model.specs.declared.event.HalFence.TheVariants.{Absent as NoFence, Number}
@@ -41,12 +41,13 @@ use Rattle.hal_model.specs.Rules.{keeps_in_session, keeps_with}
 use Rattle.hal_model.specs.declared.event.Status.{Status}
 use Rattle.hal_model.specs.declared.event.Status.TheVariants.{Filled as Okay, Failed as Faulty}
 use Rattle.hal_model.specs.Words.{begins, gives, had_later, is_back, is_filled, is_good, is_later, is_later_with, is_live, is_number, is_refused, stands, frames as hal_frames, targets_of as hal_targets_of, is_error_device as hal_error_device}
-use Rattle.trace_hal.specs.Hal.{callback, client_fence, device_fence, hal, left_fence, target}
-use Rattle.hal_laws.proofs.Alone.{buffer-fails, dead-end, later-above, or-neither, request-bare}
-use Rattle.hal_laws.proofs.Homes.{Sees, back-among, found-all, home, is-false, target-stream, targets-never}
+use Rattle.hal_model.specs.Hal.{callback, client_fence, device_fence, hal, left_fence, target}
+use Rattle.hal_laws.proofs.Alone.{buffer-fails, dead-end, later-above, request-bare}
+use Rattle.hal_laws.proofs.Homes.{Sees, back-among, found-all, home, targets-never}
 use Rattle.hal_laws.proofs.Over.{back-returned, told-live}
-use Rattle.hal_laws.proofs.Keep.{BreaksNone, IsOfCallbacks, callbacks-keep, passes_now}
 use Rattle.hal_laws.proofs.Readings.{IsCallbackTest, any-reads, buffer-error-reads, by_callback, never-again, request-error-reads, result-error-reads, targets-read}
+use Rattle.state_facts.proofs.Errors.{target-stream}
+use Rattle.hal_laws.proofs.Comes.{CalledBack, ForbidsNone, kept, passes_now}
 
 -- ---- frames that are named are live
 
@@ -55,26 +56,18 @@ known script past e n legal may other told = rw (told-live script past e n legal
 
 -- so each callback is heard
 pub none-idle : (script : Script) (past : List Entry) → IsLegal script past → keeps_with (names_idle 3) (hal script past) ≡ true
-none-idle script past legal = callbacks-keep (names_idle 3) of script each past legal
+none-idle script past legal = kept (names_idle 3) script rule past legal
   where
-    of : IsOfCallbacks (names_idle 3)
-    of (HalShutter m t) p h = absurd (false≢true (sym h))
-    of (HalErrorRequest m) p h = absurd (false≢true (sym h))
-    of (HalErrorResult m) p h = absurd (false≢true (sym h))
-    of (HalErrorBuffer m t) p h = absurd (false≢true (sym h))
-    of (Results m j pack bs input) p h = absurd (false≢true (sym h))
-    of _ p h = refl
-
-    each : BreaksNone (names_idle 3) script
-    each past (Shutter n time) legal may = known script past (Shutter n time) n.0 legal may refl (eq-eqb n.0 n.0 refl)
-    each past (Partial n k part) legal may = known script past (Partial n k part) n.0 legal may refl (eq-eqb n.0 n.0 refl)
-    each past (Filled n s b f d) legal may = known script past (Filled n s b f d) n.0 legal may refl (eq-eqb n.0 n.0 refl)
-    each past (Failed n s b f) legal may = known script past (Failed n s b f) n.0 legal may refl (eq-eqb n.0 n.0 refl)
-    each past (Early n s b d) legal may = known script past (Early n s b d) n.0 legal may refl (eq-eqb n.0 n.0 refl)
-    each past (ErrorRequest n) legal may = known script past (ErrorRequest n) n.0 legal may refl (eq-eqb n.0 n.0 refl)
-    each past (ErrorResult n) legal may = known script past (ErrorResult n) n.0 legal may refl (eq-eqb n.0 n.0 refl)
-    each past (ErrorBuffer n s) legal may = known script past (ErrorBuffer n s) n.0 legal may refl (eq-eqb n.0 n.0 refl)
-    each past _ legal may = refl
+    rule : ForbidsNone (names_idle 3) script
+    rule (CalledBack past (Shutter n time) legal may) = known script past (Shutter n time) n.0 legal may refl (eq-eqb n.0 n.0 refl)
+    rule (CalledBack past (Partial n k part) legal may) = known script past (Partial n k part) n.0 legal may refl (eq-eqb n.0 n.0 refl)
+    rule (CalledBack past (Filled n s b f d) legal may) = known script past (Filled n s b f d) n.0 legal may refl (eq-eqb n.0 n.0 refl)
+    rule (CalledBack past (Failed n s b f) legal may) = known script past (Failed n s b f) n.0 legal may refl (eq-eqb n.0 n.0 refl)
+    rule (CalledBack past (Early n s b d) legal may) = known script past (Early n s b d) n.0 legal may refl (eq-eqb n.0 n.0 refl)
+    rule (CalledBack past (ErrorRequest n) legal may) = known script past (ErrorRequest n) n.0 legal may refl (eq-eqb n.0 n.0 refl)
+    rule (CalledBack past (ErrorResult n) legal may) = known script past (ErrorResult n) n.0 legal may refl (eq-eqb n.0 n.0 refl)
+    rule (CalledBack past (ErrorBuffer n s) legal may) = known script past (ErrorBuffer n s) n.0 legal may refl (eq-eqb n.0 n.0 refl)
+    rule _ = refl
 
 pub unknown_frame_kept : (script : Script) (past : List Entry) → IsLegal script past → keeps_in_session 3 (hal script past) UnknownFrame ≡ true
 unknown_frame_kept script past legal = weaker (hal script past) (none-idle script past legal)
@@ -94,7 +87,7 @@ any-target script past n s t q found passes =
 
 not_back : (script : Script) (past : List Entry) (n s b : ℕ) → IsLegal script past → ComesBack past n s b → is_back n b (hal script past) ≡ false
 not_back script past n s b legal back =
-    is-false (is_back n b (hal script past))
+    not-so (is_back n b (hal script past))
     (λ is. both_ways (is_returned n s past) (out-not-returned script past n s b legal back.out) (back-returned script past n s b legal (back-among past n s b back) is))
 
 at-device : (script : Script) (past : List Entry) (n s b : ℕ) (status : Status) (fence : HalFence) → IsLegal script past → ComesBack past n s b → is_at_device n (hal script past) (record { stream = Some s; buffer = Some b; status = status; release = fence; acquire = false }) ≡ true
@@ -106,29 +99,21 @@ at-device script past n s b status fence legal back =
     passes u c at at' = rw (at, at', eq-eqb s s refl, eq-eqb b b refl, not_back script past n s b legal back) refl
 
 pub not_at_device_kept : (script : Script) (past : List Entry) → IsLegal script past → keeps_in_session 3 (hal script past) NotAtDevice ≡ true
-not_at_device_kept script past legal = callbacks-keep (not_at_device 3) of script each past legal
+not_at_device_kept script past legal = kept (not_at_device 3) script rule past legal
   where
-    of : IsOfCallbacks (not_at_device 3)
-    of (Results m j pack bs input) p h = absurd (false≢true (sym h))
-    of _ p h = refl
-
-    each : BreaksNone (not_at_device 3) script
-    each past (Filled n s b f d) legal may = rw (at-device script past n.0 s.0 b.0 Okay NoFence legal (filled-back script past n s b f d may)) (and-false (is_live 3 n.0 (hal script past)))
-    each past (Early n s b d) legal may = rw (at-device script past n.0 s.0 b.0 Okay (Number (device_fence d)) legal (early-back script past n s b d may)) (and-false (is_live 3 n.0 (hal script past)))
-    each past (Failed n s b f) legal may = rw (at-device script past n.0 s.0 b.0 Faulty (left_fence f) legal (failed-back past n s b f may)) (and-false (is_live 3 n.0 (hal script past)))
-    each past (Partial n k part) legal may = and-false (is_live 3 n.0 (hal script past))
-    each past _ legal may = refl
+    rule : ForbidsNone (not_at_device 3) script
+    rule (CalledBack past (Filled n s b f d) legal may) = rw (at-device script past n.0 s.0 b.0 Okay NoFence legal (filled-back script past n s b f d may)) (and-false (is_live 3 n.0 (hal script past)))
+    rule (CalledBack past (Early n s b d) legal may) = rw (at-device script past n.0 s.0 b.0 Okay (Number (device_fence d)) legal (early-back script past n s b d may)) (and-false (is_live 3 n.0 (hal script past)))
+    rule (CalledBack past (Failed n s b f) legal may) = rw (at-device script past n.0 s.0 b.0 Faulty (left_fence f) legal (failed-back past n s b f may)) (and-false (is_live 3 n.0 (hal script past)))
+    rule (CalledBack past (Partial n k part) legal may) = and-false (is_live 3 n.0 (hal script past))
+    rule _ = refl
 
 pub buffer_status_kept : (script : Script) (past : List Entry) → IsLegal script past → keeps_in_session 3 (hal script past) BufferStatus ≡ true
-buffer_status_kept script past legal = callbacks-keep buffer_status of script each past legal
+buffer_status_kept script past legal = kept buffer_status script rule past legal
   where
-    of : IsOfCallbacks buffer_status
-    of (Results m j pack bs input) p h = absurd (false≢true (sym h))
-    of _ p h = refl
-
-    each : BreaksNone buffer_status script
-    each past (Filled n s b f d) legal may = refl
-    each past _ legal may = refl
+    rule : ForbidsNone buffer_status script
+    rule (CalledBack past (Filled n s b f d) legal may) = refl
+    rule _ = refl
 
 -- ---- good buffers in order
 
@@ -151,7 +136,7 @@ none_filled script past m s legal none =
   where
     each : (t : Sent) → list_any (is_with t.stream.0 t.buffer.0) (targets_of m past) ≡ true → ((t.stream.0 == s) && stands m (gives is_filled m t.buffer.0) (hal script past)) ≡ false
     each t among =
-        is-false ((t.stream.0 == s) && stands m (gives is_filled m t.buffer.0) (hal script past))
+        not-so ((t.stream.0 == s) && stands m (gives is_filled m t.buffer.0) (hal script past))
         (λ both.
         let parts = and_parts (t.stream.0 == s) (stands m (gives is_filled m t.buffer.0) (hal script past)) both in
         let filled : was_filled m t.stream.0 past ≡ true = home is_filled fills sees-filled script past m t.stream.0 t.buffer.0 legal among parts.1 in
@@ -161,7 +146,7 @@ none_filled script past m s legal none =
 not_overtaken : (script : Script) (past : List Entry) (n s b m : ℕ) → IsLegal script past → ComesBack past n s b → ComesFilled script past n s → (is_later n m (hal script past) && is_back_filled s m (hal script past)) ≡ false
 not_overtaken script past n s b m legal back well =
     elim (cases_Bool (was_filled m s past)) [
-      | inl filled ↦ is-false (is_later n m (hal script past) && is_back_filled s m (hal script past))
+      | inl filled ↦ not-so (is_later n m (hal script past) && is_back_filled s m (hal script past))
           (λ both.
           let later = (and_parts (stands n (begins m) (hal script past)) (not (is_refused m (hal script past))) (and_parts (is_later n m (hal script past)) (is_back_filled s m (hal script past)) both).0).0 in
           let sent = out-sent past n s b back.out in
@@ -180,38 +165,30 @@ in_order script past n s b legal back well =
     (any-never (is_later_with (is_back_filled s) n (hal script past)) (hal_frames (hal script past)) (λ m. not_overtaken script past n s b m legal back well)) (never-again (is_back_filled s) n script past legal)
 
 pub buffer_order_kept : (script : Script) (past : List Entry) → IsLegal script past → keeps_in_session 3 (hal script past) BufferOrder ≡ true
-buffer_order_kept script past legal = callbacks-keep (buffer_order 3) of script each past legal
+buffer_order_kept script past legal = kept (buffer_order 3) script rule past legal
   where
-    of : IsOfCallbacks (buffer_order 3)
-    of (Results m j pack bs input) p h = absurd (false≢true (sym h))
-    of _ p h = refl
-
-    each : BreaksNone (buffer_order 3) script
-    each past (Filled n s b f d) legal may = rw (in_order script past n.0 s.0 b.0 legal (filled-back script past n s b f d may) (filled-well script past n s b f d may)) (and-false (is_live 3 n.0 (hal script past)))
-    each past (Early n s b d) legal may = rw (in_order script past n.0 s.0 b.0 legal (early-back script past n s b d may) (early-well script past n s b d may)) (and-false (is_live 3 n.0 (hal script past)))
-    each past (Failed n s b f) legal may = and-false (is_live 3 n.0 (hal script past))
-    each past (Partial n k part) legal may = and-false (is_live 3 n.0 (hal script past))
-    each past _ legal may = refl
+    rule : ForbidsNone (buffer_order 3) script
+    rule (CalledBack past (Filled n s b f d) legal may) = rw (in_order script past n.0 s.0 b.0 legal (filled-back script past n s b f d may) (filled-well script past n s b f d may)) (and-false (is_live 3 n.0 (hal script past)))
+    rule (CalledBack past (Early n s b d) legal may) = rw (in_order script past n.0 s.0 b.0 legal (early-back script past n s b d may) (early-well script past n s b d may)) (and-false (is_live 3 n.0 (hal script past)))
+    rule (CalledBack past (Failed n s b f) legal may) = and-false (is_live 3 n.0 (hal script past))
+    rule (CalledBack past (Partial n k part) legal may) = and-false (is_live 3 n.0 (hal script past))
+    rule _ = refl
 
 -- ---- good buffers and errors
 
 pub good_after_error_kept : (script : Script) (past : List Entry) → IsLegal script past → keeps_in_session 3 (hal script past) GoodAfterError ≡ true
-good_after_error_kept script past legal = callbacks-keep (good_after_error 3) of script each past legal
+good_after_error_kept script past legal = kept (good_after_error 3) script rule past legal
   where
-    of : IsOfCallbacks (good_after_error 3)
-    of (Results m j pack bs input) p h = absurd (false≢true (sym h))
-    of _ p h = refl
-
-    each : BreaksNone (good_after_error 3) script
-    each past (Filled n s b f d) legal may =
+    rule : ForbidsNone (good_after_error 3) script
+    rule (CalledBack past (Filled n s b f d) legal may) =
         let sound = sound-parts script past n.0 s.0 (filled-well script past n s b f d may) in
         dead-end (is_live 3 n.0 (hal script past)) (rw (request-error-reads n.0 script past legal, buffer-error-reads n.0 s.0 script past legal, sound.0, sound.1) refl)
-    each past (Early n s b d) legal may =
+    rule (CalledBack past (Early n s b d) legal may) =
         let sound = sound-parts script past n.0 s.0 (early-well script past n s b d may) in
         dead-end (is_live 3 n.0 (hal script past)) (rw (request-error-reads n.0 script past legal, buffer-error-reads n.0 s.0 script past legal, sound.0, sound.1) refl)
-    each past (Failed n s b f) legal may = and-false (is_live 3 n.0 (hal script past))
-    each past (Partial n k part) legal may = and-false (is_live 3 n.0 (hal script past))
-    each past _ legal may = refl
+    rule (CalledBack past (Failed n s b f) legal may) = and-false (is_live 3 n.0 (hal script past))
+    rule (CalledBack past (Partial n k part) legal may) = and-false (is_live 3 n.0 (hal script past))
+    rule _ = refl
 
 -- ---- fences of failed buffers
 
@@ -237,18 +214,14 @@ failed_fence script past n s b (Some g) may =
     rw (own_fence script past n.0 s.0 b.0 g is.0 is.1 (ap (λ (x : BufferId). x.0) is.2) (left-own is.0.fence past g is.3)) (and-false (is_live 3 n.0 (hal script past)))
 
 pub release_fence_kept : (script : Script) (past : List Entry) → IsLegal script past → keeps_in_session 3 (hal script past) ReleaseFence ≡ true
-release_fence_kept script past legal = callbacks-keep (release_fence 3) of script each past legal
+release_fence_kept script past legal = kept (release_fence 3) script rule past legal
   where
-    of : IsOfCallbacks (release_fence 3)
-    of (Results m j pack bs input) p h = absurd (false≢true (sym h))
-    of _ p h = refl
-
-    each : BreaksNone (release_fence 3) script
-    each past (Failed n s b f) legal may = failed_fence script past n s b f may
-    each past (Filled n s b f d) legal may = and-false (is_live 3 n.0 (hal script past))
-    each past (Early n s b d) legal may = and-false (is_live 3 n.0 (hal script past))
-    each past (Partial n k part) legal may = and-false (is_live 3 n.0 (hal script past))
-    each past _ legal may = refl
+    rule : ForbidsNone (release_fence 3) script
+    rule (CalledBack past (Failed n s b f) legal may) = failed_fence script past n s b f may
+    rule (CalledBack past (Filled n s b f d) legal may) = and-false (is_live 3 n.0 (hal script past))
+    rule (CalledBack past (Early n s b d) legal may) = and-false (is_live 3 n.0 (hal script past))
+    rule (CalledBack past (Partial n k part) legal may) = and-false (is_live 3 n.0 (hal script past))
+    rule _ = refl
 
 -- ---- errors of buffers
 
@@ -264,7 +237,7 @@ not_good script past n s legal out =
   where
     each : (t : Sent) → list_any (is_with t.stream.0 t.buffer.0) (targets_of n past) ≡ true → ((t.stream.0 == s) && stands n (gives is_good n t.buffer.0) (hal script past)) ≡ false
     each t among =
-        is-false ((t.stream.0 == s) && stands n (gives is_good n t.buffer.0) (hal script past))
+        not-so ((t.stream.0 == s) && stands n (gives is_good n t.buffer.0) (hal script past))
         (λ both.
         let parts = and_parts (t.stream.0 == s) (stands n (gives is_good n t.buffer.0) (hal script past)) both in
         let returned : is_returned n t.stream.0 past ≡ true = home is_good returns_target sees-good script past n t.stream.0 t.buffer.0 legal among parts.1 in
@@ -272,29 +245,21 @@ not_good script past n s legal out =
         both_ways (is_returned n s past) out returned')
 
 pub error_for_good_kept : (script : Script) (past : List Entry) → IsLegal script past → keeps_in_session 3 (hal script past) ErrorForGoodBuffer ≡ true
-error_for_good_kept script past legal = callbacks-keep (error_for_good_buffer 3) of script each past legal
+error_for_good_kept script past legal = kept (error_for_good_buffer 3) script rule past legal
   where
-    of : IsOfCallbacks (error_for_good_buffer 3)
-    of (HalErrorBuffer m t) p h = absurd (false≢true (sym h))
-    of _ p h = refl
-
-    each : BreaksNone (error_for_good_buffer 3) script
-    each past (ErrorBuffer n s) legal may = dead-end (is_live 3 n.0 (hal script past)) (not_good script past n.0 s.0 legal (buffer-fails script past n s may).out)
-    each past _ legal may = refl
+    rule : ForbidsNone (error_for_good_buffer 3) script
+    rule (CalledBack past (ErrorBuffer n s) legal may) = dead-end (is_live 3 n.0 (hal script past)) (not_good script past n.0 s.0 legal (buffer-fails script past n s may).out)
+    rule _ = refl
 
 pub error_unknown_kept : (script : Script) (past : List Entry) → IsLegal script past → keeps_in_session 3 (hal script past) ErrorUnknownStream ≡ true
-error_unknown_kept script past legal = callbacks-keep (error_unknown_stream 3) of script each past legal
+error_unknown_kept script past legal = kept (error_unknown_stream 3) script rule past legal
   where
-    of : IsOfCallbacks (error_unknown_stream 3)
-    of (HalErrorBuffer m t) p h = absurd (false≢true (sym h))
-    of _ p h = refl
-
-    each : BreaksNone (error_unknown_stream 3) script
-    each past (ErrorBuffer n s) legal may =
+    rule : ForbidsNone (error_unknown_stream 3) script
+    rule (CalledBack past (ErrorBuffer n s) legal may) =
         let has : has_target n.0 s.0 past ≡ true = (buffer-fails script past n s may).target in
         let known' : list_any (λ t. t.stream == s.0) (hal_targets_of n.0 (hal script past)) ≡ true = rw (targets-read script n.0 past, any-mapped (λ t. t.stream == s.0) target (targets_of n.0 past)) has in
         rw known' (and-false (is_live 3 n.0 (hal script past)))
-    each past _ legal may = refl
+    rule _ = refl
 
 pub device-reads : (script : Script) (past : List Entry) → list_any hal_error_device (hal script past) ≡ has_failed past
 device-reads script past = any-reads hal_error_device is_error_device of each script past
@@ -308,20 +273,14 @@ device-reads script past = any-reads hal_error_device is_error_device of each sc
     each _ = refl
 
 pub error_twice_kept : (script : Script) (past : List Entry) → IsLegal script past → keeps_in_session 3 (hal script past) ErrorTwice ≡ true
-error_twice_kept script past legal = callbacks-keep (error_twice 3) of script each past legal
+error_twice_kept script past legal = kept (error_twice 3) script rule past legal
   where
-    of : IsOfCallbacks (error_twice 3)
-    of (HalErrorRequest m) p h = absurd (false≢true (sym h))
-    of (HalErrorResult m) p h = absurd (false≢true (sym h))
-    of (HalErrorBuffer m t) p h = absurd (false≢true (sym h))
-    of _ p h = refl
-
-    each : BreaksNone (error_twice 3) script
-    each past (ErrorRequest n) legal may =
+    rule : ForbidsNone (error_twice 3) script
+    rule (CalledBack past (ErrorRequest n) legal may) =
         let bare = or_parts (list_any (is_partial n.0) past) (list_any (returns_of_frame n.0) past || has_error n.0 past) (request-bare script past n may).1 in
         let rest = or_parts (list_any (returns_of_frame n.0) past) (has_error n.0 past) bare.1 in
         dead-end (is_live 3 n.0 (hal script past)) (request-error-reads n.0 script past legal ∙ no-request n.0 past rest.1)
-    each past (ErrorResult n) legal may =
+    rule (CalledBack past (ErrorResult n) legal may) =
         dead-end (is_live 3 n.0 (hal script past)) (result-error-reads n.0 script past legal ∙ (or_parts (has_error_result n.0 past) (has_error_request n.0 past) (or_parts (has_part n.0 3 past) (has_error_result n.0 past || has_error_request n.0 past) (result-fails script past n may).open_still).1).0)
-    each past (ErrorBuffer n s) legal may = dead-end (is_live 3 n.0 (hal script past)) (dead-end (is_own_or_unknown n.0 (hal script past) (Some s.0)) (buffer-error-reads n.0 s.0 script past legal ∙ (buffer-fails script past n s may).first))
-    each past _ legal may = refl
+    rule (CalledBack past (ErrorBuffer n s) legal may) = dead-end (is_live 3 n.0 (hal script past)) (dead-end (is_own_or_unknown n.0 (hal script past) (Some s.0)) (buffer-error-reads n.0 s.0 script past legal ∙ (buffer-fails script past n s may).first))
+    rule _ = refl

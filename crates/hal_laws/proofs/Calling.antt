@@ -1,7 +1,7 @@
 -- Rules of calls.
-use Rattle.std.proofs.Common.{◌≡◌, ℕ, ◌==◌, ◌+◌, ◌≤◌, count_by, Bool, true, false, ◌&&◌, ◌||◌, not, List, [], ◌∷◌, ◌++◌, Option, Some, None, refl, sym, ◌∙◌, arith, inl, inr, filter, is_some, take, zero, suc, map, nat_lt, slice_get}
+use Rattle.std.proofs.Common.{◌≡◌, ℕ, ◌==◌, ◌+◌, ◌≤◌, count_by, Bool, true, false, ◌&&◌, ◌||◌, not, List, [], ◌∷◌, Option, Some, None, refl, sym, ◌∙◌, arith, inl, inr, is_some, take, zero, suc, map, nat_lt, slice_get}
 use Rattle.std.specs.List.{list_any, list_all}
-use Rattle.std.proofs.lemmas.Bool.{and_from, and_parts, both_ways, cases_Bool, eq-eqb, eqb-true, false≢true, lt-ltb, not-true, or_parts}
+use Rattle.std.proofs.lemmas.Bool.{and_parts, both_ways, cases_Bool, eq-eqb, eqb-true, false≢true, lt-ltb, not-true, or_parts}
 use Rattle.basic_lemmas.proofs.Lists.{any-behind, any-mapped, any-never, any-or}
 use Rattle.basic_lemmas.proofs.Counts.{count-one, count-over, none-counted}
 use Rattle.std.proofs.lemmas.Bool.Decides.{nat_tests}
@@ -9,16 +9,12 @@ use Rattle.trace_model.specs.Entry.{sends}
 use Rattle.basic_lemmas.proofs.Tests.{and-false}
 use Rattle.cam_types.specs.Four.{four_list}
 use Rattle.cam_types.specs.declared.four.Four.{Four}
-use Rattle.cam_types.specs.declared.number.FrameNo.{FrameNo}
-use Rattle.cam_types.specs.declared.number.RequestId.{RequestId}
 use Rattle.cam_types.specs.declared.request.Queued.{Queued}
 use Rattle.cam_types.specs.declared.script.Script.{Script}
-use Rattle.cam_types.specs.declared.script.Word.{Word}
-use Rattle.cam_types.specs.declared.script.Word.TheVariants.{Flush as WordFlush, Disconnect as WordDisconnect}
 use Rattle.cam_types.specs.declared.item.Settings.{Settings}
 use Rattle.cam_types.specs.declared.stream.StreamSpec.{StreamSpec}
 use Rattle.trace_model.specs.declared.entry.Entry.{Entry}
-use Rattle.trace_model.specs.declared.entry.Entry.TheVariants.{Begin, Call, Send}
+use Rattle.trace_model.specs.declared.entry.Entry.TheVariants.{Begin, Call, Send, Shutter}
 use Rattle.trace_model.specs.declared.entry.Sent.{Sent}
 use Rattle.trace_model.specs.Calls.{begun}
 use Rattle.trace_model.specs.Configuration.{streams}
@@ -31,108 +27,26 @@ use Rattle.trace_model.specs.Queue.{next}
 use Rattle.trace_model.specs.Send.{are_last, are_streams, fits_next, has_capacity, is_same_bool, last_settings, may_repeat, may_send, takes_from_pool, targets_in_order}
 use Rattle.trace_model.specs.Stopping.{has_failed, is_stopping, stops_by}
 use Rattle.trace_model.proofs.LawLemmas.{Goes, at-device, goes, sends-from-pool}
-use Rattle.trace_bounds.proofs.StreamLemmas.{IsOwn, own-stream}
-use Rattle.buffer_laws.proofs.Sends.{holds, is_distinct, is_with, send-number}
-use Rattle.past_facts.proofs.Out.{not-returned-out}
-use Rattle.past_facts.proofs.Streams.{one-stream}
-use Rattle.frame_laws.proofs.Sends.{sent-below as number-below}
-use Rattle.hal_model.specs.declared.event.HalEvent.{HalEvent}
-use Rattle.hal_model.specs.declared.event.HalEvent.TheVariants.{ConfigureBegin, ConfigureOk, RequestBegin, RequestOk, FlushBegin, FlushOk, CloseBegin, CloseEnd, OpenOk, InitBegin, InitOk, Shutter as HalShutter, ErrorRequest as HalErrorRequest, ErrorResult as HalErrorResult, ErrorBuffer as HalErrorBuffer, ErrorDevice as HalErrorDevice, Results}
-use Rattle.hal_model.specs.declared.event.Pack.{Pack}
-use Rattle.hal_model.specs.declared.event.Returned.{Returned}
+use Rattle.trace_laws.proofs.StreamLemmas.{IsOwn, own-stream}
+use Rattle.trace_laws.proofs.BufferSends.{holds, is_distinct, is_with, send-number, distinct_kept}
+use Rattle.trace_laws.proofs.Out.{not-returned-out}
+use Rattle.trace_laws.proofs.Streams.{one-stream}
+use Rattle.trace_laws.proofs.Sends.{sent-below as number-below}
+use Rattle.hal_model.specs.declared.event.HalEvent.TheVariants.{RequestOk, FlushOk, CloseBegin, CloseEnd}
 use Rattle.hal_model.specs.declared.rule.Rule.TheVariants.{AcceptedNoSettings, AcceptedUnknownStream, CloseLeft, ConfigureInFlight, FlushLeft, FrameNumber, HeldBuffer, InitOrder, InitTwice, NoSettings, RefusedAfterCallback, RefusedRequest, RepeatedStream, UnknownStream}
 use Rattle.hal_model.specs.Device.{accepted_no_settings, accepted_unknown_stream, close_left, flush_left, is_left_by_flush, refused_after_callback, refused_request}
 use Rattle.hal_model.specs.Framework.{configure_in_flight, frame_number, held_buffer, init_order, init_twice, is_awaited, is_flushed_in, is_in_flight, is_twice_buffer, is_unknown_to, no_settings, repeated_stream, unknown_stream}
-use Rattle.hal_model.specs.Rules.{keeps_in_session, keeps_with}
+use Rattle.hal_model.specs.Rules.{keeps_in_session}
 use Rattle.hal_model.specs.declared.event.HalTarget.{HalTarget}
-use Rattle.hal_model.specs.Words.{accepts_from, begins_flush, has_stream, is_accepted_before, is_begin, is_back, is_callback, is_dead, is_held, is_in_call, is_live, is_out, is_outstanding, since, frames as hal_frames, streams as hal_streams, targets_of as hal_targets_of}
-use Rattle.trace_hal.specs.Hal.{callback, called, flush_begun, flushes, hal, initialized, most_from, stream, streams_from, target}
-use Rattle.hal_laws.proofs.Cases.{Configures, Ended, by-called}
+use Rattle.hal_model.specs.Words.{accepts_from, begins_flush, has_stream, is_accepted_before, is_back, is_dead, is_held, is_in_call, is_live, is_out, is_outstanding, since, frames as hal_frames, streams as hal_streams, targets_of as hal_targets_of}
+use Rattle.hal_model.specs.Hal.{called, flush_begun, hal, stream, streams_from, target}
 use Rattle.hal_laws.proofs.Alone.{dead-end}
 use Rattle.hal_laws.proofs.Homes.{pool-own}
-use Rattle.hal_laws.proofs.Keep.{any-append, begun-other, called-other, callback_back, none_passes, now_kept, passes_now}
+use Rattle.hal_laws.proofs.Keep.{any-append, begun-other, called-other, none_passes}
 use Rattle.hal_laws.proofs.Readings.{PassesNoOther, targets-read}
 use Rattle.hal_laws.proofs.Resting.{none-in-call, not-awaited, not-outstanding, own-target, target-back}
 use Rattle.hal_laws.proofs.Standing.{initialized-always, settings-known, streams-read}
-
--- ---- what a rule of calls needs
-
-abbrev pub ask : Four Sent → ℕ → Bool → HalEvent
-ask targets n same = RequestBegin n same (map target (four_list targets)) false false
-
-abbrev pub ask_configure : List StreamSpec → HalEvent
-ask_configure specs = ConfigureBegin None (streams_from 0 specs)
-
-pub record CallRule (test : HalEvent → List HalEvent → Bool) (script : Script) : Type 0 where
-  pub init : keeps_with test initialized ≡ true
-  pub back : (h : HalEvent) (p : List HalEvent) → is_callback h ≡ true → test h p ≡ false
-  pub flush : (past : List Entry) (w : Word) → IsLegal script (Begin w ∷ past) → flushes w past ≡ true → test FlushBegin (hal script past) ≡ false
-  pub asks : (past : List Entry) (n : FrameNo) (r : RequestId) (i : ℕ) (same : Bool) (targets : Four Sent) → IsLegal script (Send n r i same targets ∷ past) → test (ask targets n.0 same) (hal script past) ≡ false
-  pub accepts : (past : List Entry) (n : FrameNo) (r : RequestId) (i : ℕ) (same : Bool) (targets : Four Sent) → IsLegal script (Send n r i same targets ∷ past) → test (RequestOk n.0) (ask targets n.0 same ∷ hal script past) ≡ false
-  pub configure : (past : List Entry) (specs : List StreamSpec) → IsLegal script past → Configures past specs → test (ask_configure specs) (hal script past) ≡ false
-  pub made : (past : List Entry) (specs : List StreamSpec) → IsLegal script past → Configures past specs → test (ConfigureOk (most_from script.profile 0 specs)) (ask_configure specs ∷ hal script past) ≡ false
-  pub flushed : (past : List Entry) (w : Word) → IsLegal script past → Ended past w → flushes w past ≡ true → test FlushOk (hal script past) ≡ false
-  pub close : (past : List Entry) (w : Word) → IsLegal script past → Ended past w → flushes w past ≡ false → test CloseBegin (hal script past) ≡ false
-  pub closed : (past : List Entry) (w : Word) → IsLegal script past → Ended past w → flushes w past ≡ false → test CloseEnd (CloseBegin ∷ hal script past) ≡ false
-  pub close_after : (past : List Entry) (w : Word) → IsLegal script past → Ended past w → flushes w past ≡ true → test CloseBegin (FlushOk ∷ hal script past) ≡ false
-  pub closed_after : (past : List Entry) (w : Word) → IsLegal script past → Ended past w → flushes w past ≡ true → test CloseEnd (CloseBegin ∷ (FlushOk ∷ hal script past)) ≡ false
-
-none_now : (test : HalEvent → List HalEvent → Bool) (e : Entry) (o : Option HalEvent) (p : List HalEvent) → ((h : HalEvent) (q : List HalEvent) → is_callback h ≡ true → test h q ≡ false) → callback e ≡ o → passes_now test o p ≡ false
-none_now test e None p back at = refl
-none_now test e (Some h) p back at = back h p (callback_back e h at)
-
-pub calls-kept : (test : HalEvent → List HalEvent → Bool) (script : Script) → CallRule test script → (past : List Entry) → IsLegal script past → keeps_with test (hal script past) ≡ true
-calls-kept test script rule [] legal = rule.init
-calls-kept test script rule (Begin w ∷ past) legal =
-    let ih = calls-kept test script rule past legal.1 in
-    elim (cases_Bool (flushes w past)) [
-      | inl yes' ↦ rw yes' (rw (rule.flush past w legal yes') ih)
-      | inr no' ↦ rw no' ih
-    ]
-calls-kept test script rule (Call i w r ∷ past) legal =
-    let ih = calls-kept test script rule past legal.1 in
-    by-called (λ hs. keeps_with test (hs ++ hal script past) ≡ true) script past i w r legal
-    (record {
-      none = λ no'. ih;
-      configure = λ specs is. rw (rule.made past specs legal.1 is, rule.configure past specs legal.1 is) ih;
-      flush = λ is yes'. rw (rule.flushed past WordFlush legal.1 is yes') ih;
-      close = λ v is no'. rw (rule.closed past v legal.1 is no', rule.close past v legal.1 is no') ih;
-      disconnect = λ is yes'. rw (rule.closed_after past WordDisconnect legal.1 is yes', rule.close_after past WordDisconnect legal.1 is yes', rule.flushed past WordDisconnect legal.1 is yes') ih;
-    })
-calls-kept test script rule (Send n r i same targets ∷ past) legal =
-    rw (rule.accepts past n r i same targets legal, rule.asks past n r i same targets legal) (calls-kept test script rule past legal.1)
-calls-kept test script rule (e ∷ past) legal =
-    now_kept test (callback e) (hal script past) (none_now test e (callback e) (hal script past) rule.back refl) (calls-kept test script rule past legal.1)
-
-abbrev pub is_of_request : HalEvent → Bool
-is_of_request (RequestBegin _ _ _ _ _) = true
-is_of_request (RequestOk _) = true
-is_of_request _ = false
-
-back_no_request : (h : HalEvent) → is_callback h ≡ true → is_of_request h ≡ false
-back_no_request (RequestBegin n same ts a b) h = absurd (false≢true h)
-back_no_request (RequestOk n) h = absurd (false≢true h)
-back_no_request _ h = refl
-
--- a rule of requests alone
-pub of-requests : (test : HalEvent → List HalEvent → Bool) (script : Script) → ((h : HalEvent) (p : List HalEvent) → is_of_request h ≡ false → test h p ≡ false)
-    → ((past : List Entry) (n : FrameNo) (r : RequestId) (i : ℕ) (same : Bool) (targets : Four Sent) → IsLegal script (Send n r i same targets ∷ past) → test (ask targets n.0 same) (hal script past) ≡ false)
-    → ((past : List Entry) (n : FrameNo) (r : RequestId) (i : ℕ) (same : Bool) (targets : Four Sent) → IsLegal script (Send n r i same targets ∷ past) → test (RequestOk n.0) (ask targets n.0 same ∷ hal script past) ≡ false)
-    → CallRule test script
-of-requests test script only asks accepts = record {
-  init = rw (only InitOk (InitBegin ∷ (OpenOk ∷ [])) refl, only InitBegin (OpenOk ∷ []) refl, only OpenOk [] refl) refl;
-  back = λ h p is. only h p (back_no_request h is);
-  flush = λ past w legal yes'. only FlushBegin (hal script past) refl;
-  asks = asks;
-  accepts = accepts;
-  configure = λ past specs legal is. only (ask_configure specs) (hal script past) refl;
-  made = λ past specs legal is. only (ConfigureOk (most_from script.profile 0 specs)) (ask_configure specs ∷ hal script past) refl;
-  flushed = λ past w legal is yes'. only FlushOk (hal script past) refl;
-  close = λ past w legal is no'. only CloseBegin (hal script past) refl;
-  closed = λ past w legal is no'. only CloseEnd (CloseBegin ∷ hal script past) refl;
-  close_after = λ past w legal is yes'. only CloseBegin (FlushOk ∷ hal script past) refl;
-  closed_after = λ past w legal is yes'. only CloseEnd (CloseBegin ∷ (FlushOk ∷ hal script past)) refl;
-}
+use Rattle.hal_laws.proofs.Comes.{CalledBack, CloseEnded, CloseEndedAfter, ConfigureBegun, FlushBegun, FlushEnded, ForbidsNone, RequestBegun, RequestEnded, kept}
 
 -- ---- what a send says
 
@@ -159,38 +73,30 @@ marked true (Some t) s h = refl
 marked false o s h = refl
 
 pub accepted_no_settings_kept : (script : Script) (past : List Entry) → IsLegal script past → keeps_in_session 3 (hal script past) AcceptedNoSettings ≡ true
-accepted_no_settings_kept script past legal = calls-kept accepted_no_settings script (of-requests accepted_no_settings script only (λ past n r i same targets legal. refl) accepts) past legal
+accepted_no_settings_kept script past legal = kept accepted_no_settings script rule past legal
   where
-    only : (h : HalEvent) (p : List HalEvent) → is_of_request h ≡ false → accepted_no_settings h p ≡ false
-    only (RequestOk n) p h = absurd (false≢true (sym h))
-    only _ p h = refl
-
-    accepts : (past : List Entry) (n : FrameNo) (r : RequestId) (i : ℕ) (same : Bool) (targets : Four Sent) → IsLegal script (Send n r i same targets ∷ past) → accepted_no_settings (RequestOk n.0) (ask targets n.0 same ∷ hal script past) ≡ false
-    accepts past n r i same targets legal =
+    rule : ForbidsNone accepted_no_settings script
+    rule (RequestEnded past n r i same targets legal) =
         let w = send-goes script past n.0 r.0 i same targets legal.0 in
         rw (eq-eqb n.0 n.0 refl, settings-known script past) (marked same (last_settings script past) w.0.item.settings w.1.mark)
+    rule (CalledBack past (Shutter n time) legal may) = refl
+    rule _ = refl
 
 pub no_settings_kept : (script : Script) (past : List Entry) → IsLegal script past → keeps_in_session 3 (hal script past) NoSettings ≡ true
-no_settings_kept script past legal = calls-kept no_settings script (of-requests no_settings script only asks (λ past n r i same targets legal. refl)) past legal
+no_settings_kept script past legal = kept no_settings script rule past legal
   where
-    only : (h : HalEvent) (p : List HalEvent) → is_of_request h ≡ false → no_settings h p ≡ false
-    only (RequestBegin n same ts a b) p h = absurd (false≢true (sym h))
-    only _ p h = refl
-
-    asks : (past : List Entry) (n : FrameNo) (r : RequestId) (i : ℕ) (same : Bool) (targets : Four Sent) → IsLegal script (Send n r i same targets ∷ past) → no_settings (ask targets n.0 same) (hal script past) ≡ false
-    asks past n r i same targets legal =
+    rule : ForbidsNone no_settings script
+    rule (RequestBegun past n r i same targets legal) =
         let w = send-goes script past n.0 r.0 i same targets legal.0 in
         rw (settings-known script past) (marked same (last_settings script past) w.0.item.settings w.1.mark)
+    rule (CalledBack past (Shutter n time) legal may) = refl
+    rule _ = refl
 
 -- ---- numbers
 
 pub frame_number_kept : (script : Script) (past : List Entry) → IsLegal script past → keeps_in_session 3 (hal script past) FrameNumber ≡ true
-frame_number_kept script past legal = calls-kept frame_number script (of-requests frame_number script only asks (λ past n r i same targets legal. refl)) past legal
+frame_number_kept script past legal = kept frame_number script rule past legal
   where
-    only : (h : HalEvent) (p : List HalEvent) → is_of_request h ≡ false → frame_number h p ≡ false
-    only (RequestBegin n same ts a b) p h = absurd (false≢true (sym h))
-    only _ p h = refl
-
     of_accepts : (n : ℕ) → PassesNoOther (accepts_from n)
     of_accepts n (RequestOk m) h = absurd (false≢true h)
     of_accepts n _ h = refl
@@ -204,13 +110,15 @@ frame_number_kept script past legal = calls-kept frame_number script (of-request
         rw (below j.0 here, none_from past n (λ m sent. below m (any-behind (sends m) (Send j r i same targets) past sent))) refl
     none_from (e ∷ past) n below = none_from past n below
 
-    asks : (past : List Entry) (n : FrameNo) (r : RequestId) (i : ℕ) (same : Bool) (targets : Four Sent) → IsLegal script (Send n r i same targets ∷ past) → frame_number (ask targets n.0 same) (hal script past) ≡ false
-    asks past n r i same targets legal =
+    rule : ForbidsNone frame_number script
+    rule (RequestBegun past n r i same targets legal) =
         let number = send-number script past n.0 r.0 i same targets legal.0 in
         rw (
           none_from past n.0 (λ m sent. rw number (lt-ltb m (next_number past) (number-below script past m legal.1 sent))),
           any-never (λ m. is_in_call m (hal script past) && not (nat_lt m n.0)) (hal_frames (hal script past)) (λ m. rw (none-in-call script past m) refl),
         ) refl
+    rule (CalledBack past (Shutter n time) legal may) = refl
+    rule _ = refl
 
 -- ---- what stands twice
 
@@ -271,42 +179,20 @@ all_known script past ts legal all =
     (λ t takes. rw (streams-read script past, known-from t.stream.0 (streams script past) (own-stream script past t.stream.0 t.buffer.0 legal (pool-own past t takes).0)) refl) all)
 
 pub unknown_stream_kept : (script : Script) (past : List Entry) → IsLegal script past → keeps_in_session 3 (hal script past) UnknownStream ≡ true
-unknown_stream_kept script past legal = calls-kept unknown_stream script (of-requests unknown_stream script only asks (λ past n r i same targets legal. refl)) past legal
+unknown_stream_kept script past legal = kept unknown_stream script rule past legal
   where
-    only : (h : HalEvent) (p : List HalEvent) → is_of_request h ≡ false → unknown_stream h p ≡ false
-    only (RequestBegin n same ts a b) p h = absurd (false≢true (sym h))
-    only _ p h = refl
-
-    asks : (past : List Entry) (n : FrameNo) (r : RequestId) (i : ℕ) (same : Bool) (targets : Four Sent) → IsLegal script (Send n r i same targets ∷ past) → unknown_stream (ask targets n.0 same) (hal script past) ≡ false
-    asks past n r i same targets legal = all_known script past (four_list targets) legal.1 (sends-from-pool script past n.0 r.0 i same targets legal.0)
+    rule : ForbidsNone unknown_stream script
+    rule (RequestBegun past n r i same targets legal) = all_known script past (four_list targets) legal.1 (sends-from-pool script past n.0 r.0 i same targets legal.0)
+    rule (CalledBack past (Shutter n time) legal may) = refl
+    rule _ = refl
 
 pub accepted_unknown_stream_kept : (script : Script) (past : List Entry) → IsLegal script past → keeps_in_session 3 (hal script past) AcceptedUnknownStream ≡ true
-accepted_unknown_stream_kept script past legal = calls-kept accepted_unknown_stream script (of-requests accepted_unknown_stream script only (λ past n r i same targets legal. refl) accepts) past legal
+accepted_unknown_stream_kept script past legal = kept accepted_unknown_stream script rule past legal
   where
-    only : (h : HalEvent) (p : List HalEvent) → is_of_request h ≡ false → accepted_unknown_stream h p ≡ false
-    only (RequestOk n) p h = absurd (false≢true (sym h))
-    only _ p h = refl
-
-    accepts : (past : List Entry) (n : FrameNo) (r : RequestId) (i : ℕ) (same : Bool) (targets : Four Sent) → IsLegal script (Send n r i same targets ∷ past) → accepted_unknown_stream (RequestOk n.0) (ask targets n.0 same ∷ hal script past) ≡ false
-    accepts past n r i same targets legal = rw (eq-eqb n.0 n.0 refl) (all_known script past (four_list targets) legal.1 (sends-from-pool script past n.0 r.0 i same targets legal.0))
-
-filter_distinct : (p : ℕ → Bool) (xs : List ℕ) → is_distinct xs ≡ true → is_distinct (filter p xs) ≡ true
-filter_distinct p [] h = refl
-filter_distinct p (x ∷ xs) h =
-    let parts = and_parts (not (list_any (λ y. y == x) xs)) (is_distinct xs) h in
-    elim (cases_Bool (p x)) [
-      | inl here ↦ rw here (and_from (not (list_any (λ y. y == x) (filter p xs))) (is_distinct (filter p xs)) (rw (fewer (λ y. y == x) xs (not-true (list_any (λ y. y == x) xs) parts.0)) refl) (filter_distinct p xs parts.1))
-      | inr other ↦ rw other (filter_distinct p xs parts.1)
-    ]
-  where
-    fewer : (q : ℕ → Bool) (xs : List ℕ) → list_any q xs ≡ false → list_any q (filter p xs) ≡ false
-    fewer q [] h = refl
-    fewer q (x ∷ xs) h =
-        let parts = or_parts (q x) (list_any q xs) h in
-        elim (cases_Bool (p x)) [
-          | inl here ↦ rw (here, parts.0) (fewer q xs parts.1)
-          | inr other ↦ rw other (fewer q xs parts.1)
-        ]
+    rule : ForbidsNone accepted_unknown_stream script
+    rule (RequestEnded past n r i same targets legal) = rw (eq-eqb n.0 n.0 refl) (all_known script past (four_list targets) legal.1 (sends-from-pool script past n.0 r.0 i same targets legal.0))
+    rule (CalledBack past (Shutter n time) legal may) = refl
+    rule _ = refl
 
 stream_absent : (s : ℕ) (ts : List Sent) (xs : List ℕ) → are_streams ts xs ≡ true → list_any (λ y. y == s) xs ≡ false → list_any (λ t. t.stream == s) (map target ts) ≡ false
 stream_absent s [] xs are none = refl
@@ -329,14 +215,15 @@ streams-once (t ∷ ts) (x ∷ xs) are once =
 pub send-once : (script : Script) (past : List Entry) (n r i : ℕ) (same : Bool) (targets : Four Sent) → may_send script past n r i same targets ≡ true → is_repeated_stream (map target (four_list targets)) ≡ false
 send-once script past n r i same targets may =
     let w = send-goes script past n r i same targets may in
-    streams-once (four_list targets) (targets_in_order w.0.item) w.1.streams (filter_distinct (λ s. list_any (λ t. t == s) (take w.0.item.targets.count w.0.item.targets.list)) (0 ∷ (1 ∷ (2 ∷ (3 ∷ [])))) refl)
+    streams-once (four_list targets) (targets_in_order w.0.item) w.1.streams (distinct_kept (λ s. list_any (λ t. t == s) (take w.0.item.targets.count w.0.item.targets.list)) (0 ∷ (1 ∷ (2 ∷ (3 ∷ [])))) refl)
 
 pub repeated_stream_kept : (script : Script) (past : List Entry) → IsLegal script past → keeps_in_session 3 (hal script past) RepeatedStream ≡ true
-repeated_stream_kept script past legal = calls-kept repeated_stream script (of-requests repeated_stream script only (λ past n r i same targets legal. never-twice (λ t. t.stream) (map target (four_list targets)) (map target (four_list targets)) (send-once script past n.0 r.0 i same targets legal.0)) (λ past n r i same targets legal. refl)) past legal
+repeated_stream_kept script past legal = kept repeated_stream script rule past legal
   where
-    only : (h : HalEvent) (p : List HalEvent) → is_of_request h ≡ false → repeated_stream h p ≡ false
-    only (RequestBegin n same ts a b) p h = absurd (false≢true (sym h))
-    only _ p h = refl
+    rule : ForbidsNone repeated_stream script
+    rule (RequestBegun past n r i same targets legal) = never-twice (λ t. t.stream) (map target (four_list targets)) (map target (four_list targets)) (send-once script past n.0 r.0 i same targets legal.0)
+    rule (CalledBack past (Shutter n time) legal may) = refl
+    rule _ = refl
 
 -- ---- held buffers
 
@@ -412,105 +299,51 @@ buffers_once script past (t ∷ ts) legal all once =
     rw (buffer_absent script past t ts legal parts.0 parts.1 apart.0, buffers_once script past ts legal parts.1 apart.1) refl
 
 pub held_buffer_kept : (script : Script) (past : List Entry) → IsLegal script past → keeps_in_session 3 (hal script past) HeldBuffer ≡ true
-held_buffer_kept script past legal = calls-kept (held_buffer 3) script (of-requests (held_buffer 3) script only asks (λ past n r i same targets legal. refl)) past legal
+held_buffer_kept script past legal = kept (held_buffer 3) script rule past legal
   where
-    only : (h : HalEvent) (p : List HalEvent) → is_of_request h ≡ false → held_buffer 3 h p ≡ false
-    only (RequestBegin n same ts a b) p h = absurd (false≢true (sym h))
-    only _ p h = refl
-
-    asks : (past : List Entry) (n : FrameNo) (r : RequestId) (i : ℕ) (same : Bool) (targets : Four Sent) → IsLegal script (Send n r i same targets ∷ past) → held_buffer 3 (ask targets n.0 same) (hal script past) ≡ false
-    asks past n r i same targets legal =
+    rule : ForbidsNone (held_buffer 3) script
+    rule (RequestBegun past n r i same targets legal) =
         let pool = sends-from-pool script past n.0 r.0 i same targets legal.0 in
         let none = none-where (λ t. is_held 3 t.buffer.0 (hal script past)) (takes_from_pool past) (four_list targets) (λ t takes. not-held script past t.buffer.0 legal.1 (pool-own past t takes).1) pool in
         let apart = buffers_once script past (four_list targets) legal.1 pool (send-once script past n.0 r.0 i same targets legal.0) in
         let all = map target (four_list targets) in
         any-or (λ t. is_held 3 t.buffer (hal script past)) (is_twice_buffer all) all ∙
         rw (any-mapped (λ t. is_held 3 t.buffer (hal script past)) target (four_list targets), none) (never-twice (λ t. t.buffer) all all apart)
+    rule (CalledBack past (Shutter n time) legal may) = refl
+    rule _ = refl
 
 -- ---- the device works, and calls don't overlap
 
-no-other : (h : HalEvent) → is_callback h ≡ true → is_begin h ≡ false
-no-other (HalShutter n t) h = refl
-no-other (HalErrorRequest n) h = refl
-no-other (HalErrorResult n) h = refl
-no-other (HalErrorBuffer n s) h = refl
-no-other HalErrorDevice h = refl
-no-other (Results n k pack bs input) h = refl
-no-other _ h = absurd (false≢true h)
-
--- a rule that a callback and the end of a call never break
-pub by_calls : (test : HalEvent → List HalEvent → Bool) → ((n t : ℕ) (p : List HalEvent) → test (HalShutter n t) p ≡ false) → ((n : ℕ) (p : List HalEvent) → test (HalErrorRequest n) p ≡ false) → ((n : ℕ) (p : List HalEvent) → test (HalErrorResult n) p ≡ false) → ((n : ℕ) (s : Option ℕ) (p : List HalEvent) → test (HalErrorBuffer n s) p ≡ false) → ((p : List HalEvent) → test HalErrorDevice p ≡ false) → ((n k : ℕ) (pack : Pack) (bs : List Returned) (input : Bool) (p : List HalEvent) → test (Results n k pack bs input) p ≡ false) → (h : HalEvent) (p : List HalEvent) → is_callback h ≡ true → test h p ≡ false
-by_calls test a b c d e f (HalShutter n t) p h = a n t p
-by_calls test a b c d e f (HalErrorRequest n) p h = b n p
-by_calls test a b c d e f (HalErrorResult n) p h = c n p
-by_calls test a b c d e f (HalErrorBuffer n s) p h = d n s p
-by_calls test a b c d e f HalErrorDevice p h = e p
-by_calls test a b c d e f (Results n k pack bs input) p h = f n k pack bs input p
-by_calls test a b c d e f _ p h = absurd (false≢true h)
-
 pub init_order_kept : (script : Script) (past : List Entry) → IsLegal script past → keeps_in_session 3 (hal script past) InitOrder ≡ true
-init_order_kept script past legal = calls-kept init_order script (record {
-  init = refl;
-  back = by_calls init_order (λ n t p. refl) (λ n p. refl) (λ n p. refl) (λ n s p. refl) (λ p. refl) (λ n k pack bs input p. refl);
-  flush = λ past w legal yes'. rw (initialized-always script past) refl;
-  asks = λ past n r i same targets legal. rw (initialized-always script past) refl;
-  accepts = λ past n r i same targets legal. refl;
-  configure = λ past specs legal is. rw (initialized-always script past) refl;
-  made = λ past specs legal is. refl;
-  flushed = λ past w legal is yes'. refl;
-  close = λ past w legal is no'. refl;
-  closed = λ past w legal is no'. refl;
-  close_after = λ past w legal is yes'. refl;
-  closed_after = λ past w legal is yes'. refl;
-}) past legal
+init_order_kept script past legal = kept init_order script rule past legal
+  where
+    rule : ForbidsNone init_order script
+    rule (FlushBegun past w legal yes') = rw (initialized-always script past) refl
+    rule (RequestBegun past n r i same targets legal) = rw (initialized-always script past) refl
+    rule (ConfigureBegun past specs legal is) = rw (initialized-always script past) refl
+    rule (CalledBack past (Shutter n time) legal may) = refl
+    rule _ = refl
 
 pub init_twice_kept : (script : Script) (past : List Entry) → IsLegal script past → keeps_in_session 3 (hal script past) InitTwice ≡ true
-init_twice_kept script past legal = calls-kept init_twice script (record {
-  init = refl;
-  back = by_calls init_twice (λ n t p. refl) (λ n p. refl) (λ n p. refl) (λ n s p. refl) (λ p. refl) (λ n k pack bs input p. refl);
-  flush = λ past w legal yes'. refl;
-  asks = λ past n r i same targets legal. refl;
-  accepts = λ past n r i same targets legal. refl;
-  configure = λ past specs legal is. refl;
-  made = λ past specs legal is. refl;
-  flushed = λ past w legal is yes'. refl;
-  close = λ past w legal is no'. refl;
-  closed = λ past w legal is no'. refl;
-  close_after = λ past w legal is yes'. refl;
-  closed_after = λ past w legal is yes'. refl;
-}) past legal
+init_twice_kept script past legal = kept init_twice script rule past legal
+  where
+    rule : ForbidsNone init_twice script
+    rule (CalledBack past (Shutter n time) legal may) = refl
+    rule _ = refl
 
 pub refused_request_kept : (script : Script) (past : List Entry) → IsLegal script past → keeps_in_session 3 (hal script past) RefusedRequest ≡ true
-refused_request_kept script past legal = calls-kept (refused_request 3) script (record {
-  init = refl;
-  back = by_calls (refused_request 3) (λ n t p. refl) (λ n p. refl) (λ n p. refl) (λ n s p. refl) (λ p. refl) (λ n k pack bs input p. refl);
-  flush = λ past w legal yes'. refl;
-  asks = λ past n r i same targets legal. refl;
-  accepts = λ past n r i same targets legal. refl;
-  configure = λ past specs legal is. refl;
-  made = λ past specs legal is. refl;
-  flushed = λ past w legal is yes'. refl;
-  close = λ past w legal is no'. refl;
-  closed = λ past w legal is no'. refl;
-  close_after = λ past w legal is yes'. refl;
-  closed_after = λ past w legal is yes'. refl;
-}) past legal
+refused_request_kept script past legal = kept (refused_request 3) script rule past legal
+  where
+    rule : ForbidsNone (refused_request 3) script
+    rule (CalledBack past (Shutter n time) legal may) = refl
+    rule _ = refl
 
 pub refused_after_kept : (script : Script) (past : List Entry) → IsLegal script past → keeps_in_session 3 (hal script past) RefusedAfterCallback ≡ true
-refused_after_kept script past legal = calls-kept refused_after_callback script (record {
-  init = refl;
-  back = by_calls refused_after_callback (λ n t p. refl) (λ n p. refl) (λ n p. refl) (λ n s p. refl) (λ p. refl) (λ n k pack bs input p. refl);
-  flush = λ past w legal yes'. refl;
-  asks = λ past n r i same targets legal. refl;
-  accepts = λ past n r i same targets legal. refl;
-  configure = λ past specs legal is. refl;
-  made = λ past specs legal is. refl;
-  flushed = λ past w legal is yes'. refl;
-  close = λ past w legal is no'. refl;
-  closed = λ past w legal is no'. refl;
-  close_after = λ past w legal is yes'. refl;
-  closed_after = λ past w legal is yes'. refl;
-}) past legal
+refused_after_kept script past legal = kept refused_after_callback script rule past legal
+  where
+    rule : ForbidsNone refused_after_callback script
+    rule (CalledBack past (Shutter n time) legal may) = refl
+    rule _ = refl
 
 none_in_flight : (script : Script) (past : List Entry) (n : ℕ) → IsLegal script past → is_quiet past ≡ true → is_in_flight 3 (hal script past) n ≡ false
 none_in_flight script past n legal quiet =
@@ -521,20 +354,12 @@ none_in_flight script past n legal quiet =
 
 -- no request is outstanding where streams are configured, a flush ends or the device is closed
 pub configure_in_flight_kept : (script : Script) (past : List Entry) → IsLegal script past → keeps_in_session 3 (hal script past) ConfigureInFlight ≡ true
-configure_in_flight_kept script past legal = calls-kept (configure_in_flight 3) script (record {
-  init = refl;
-  back = by_calls (configure_in_flight 3) (λ n t p. refl) (λ n p. refl) (λ n p. refl) (λ n s p. refl) (λ p. refl) (λ n k pack bs input p. refl);
-  flush = λ past w legal yes'. refl;
-  asks = λ past n r i same targets legal. refl;
-  accepts = λ past n r i same targets legal. refl;
-  configure = λ past specs legal is. any-never (is_in_flight 3 (hal script past)) (hal_frames (hal script past)) (λ n. none_in_flight script past n legal is.quiet);
-  made = λ past specs legal is. refl;
-  flushed = λ past w legal is yes'. refl;
-  close = λ past w legal is no'. refl;
-  closed = λ past w legal is no'. refl;
-  close_after = λ past w legal is yes'. refl;
-  closed_after = λ past w legal is yes'. refl;
-}) past legal
+configure_in_flight_kept script past legal = kept (configure_in_flight 3) script rule past legal
+  where
+    rule : ForbidsNone (configure_in_flight 3) script
+    rule (ConfigureBegun past specs legal is) = any-never (is_in_flight 3 (hal script past)) (hal_frames (hal script past)) (λ n. none_in_flight script past n legal is.quiet)
+    rule (CalledBack past (Shutter n time) legal may) = refl
+    rule _ = refl
 
 flush_leaves_none : (script : Script) (past : List Entry) → IsLegal script past → is_quiet past ≡ true → flush_left 3 FlushOk (hal script past) ≡ false
 flush_leaves_none script past legal quiet =
@@ -543,39 +368,24 @@ flush_leaves_none script past legal quiet =
     (λ n. rw (not-outstanding script past n legal quiet) (and-false (is_accepted_before begins_flush n (hal script past)))))
 
 pub flush_left_kept : (script : Script) (past : List Entry) → IsLegal script past → keeps_in_session 3 (hal script past) FlushLeft ≡ true
-flush_left_kept script past legal = calls-kept (flush_left 3) script (record {
-  init = refl;
-  back = by_calls (flush_left 3) (λ n t p. refl) (λ n p. refl) (λ n p. refl) (λ n s p. refl) (λ p. refl) (λ n k pack bs input p. refl);
-  flush = λ past w legal yes'. refl;
-  asks = λ past n r i same targets legal. refl;
-  accepts = λ past n r i same targets legal. refl;
-  configure = λ past specs legal is. refl;
-  made = λ past specs legal is. refl;
-  flushed = λ past w legal is yes'. flush_leaves_none script past legal is.quiet;
-  close = λ past w legal is no'. refl;
-  closed = λ past w legal is no'. refl;
-  close_after = λ past w legal is yes'. refl;
-  closed_after = λ past w legal is yes'. refl;
-}) past legal
+flush_left_kept script past legal = kept (flush_left 3) script rule past legal
+  where
+    rule : ForbidsNone (flush_left 3) script
+    rule (FlushEnded past w legal is yes') = flush_leaves_none script past legal is.quiet
+    rule (CalledBack past (Shutter n time) legal may) = refl
+    rule _ = refl
 
 pub close_left_kept : (script : Script) (past : List Entry) → IsLegal script past → keeps_in_session 3 (hal script past) CloseLeft ≡ true
-close_left_kept script past legal = calls-kept (close_left 3) script (record {
-  init = refl;
-  back = by_calls (close_left 3) (λ n t p. refl) (λ n p. refl) (λ n p. refl) (λ n s p. refl) (λ p. refl) (λ n k pack bs input p. refl);
-  flush = λ past w legal yes'. refl;
-  asks = λ past n r i same targets legal. refl;
-  accepts = λ past n r i same targets legal. refl;
-  configure = λ past specs legal is. refl;
-  made = λ past specs legal is. refl;
-  flushed = λ past w legal is yes'. refl;
-  close = λ past w legal is no'. refl;
-  closed = λ past w legal is no'. closes past legal is.quiet;
-  close_after = λ past w legal is yes'. refl;
-  closed_after = λ past w legal is yes'. closes_after past legal is.quiet;
-}) past legal
+close_left_kept script past legal = kept (close_left 3) script rule past legal
   where
     closes : (past : List Entry) → IsLegal script past → is_quiet past ≡ true → close_left 3 CloseEnd (CloseBegin ∷ hal script past) ≡ false
     closes past legal quiet = dead-end (not (is_dead (hal script past))) (any-never (λ n. is_outstanding 3 n (CloseBegin ∷ hal script past)) (hal_frames (hal script past)) (λ n. not-outstanding script past n legal quiet))
 
     closes_after : (past : List Entry) → IsLegal script past → is_quiet past ≡ true → close_left 3 CloseEnd (CloseBegin ∷ (FlushOk ∷ hal script past)) ≡ false
     closes_after past legal quiet = dead-end (not (is_dead (hal script past))) (any-never (λ n. is_outstanding 3 n (CloseBegin ∷ (FlushOk ∷ hal script past))) (hal_frames (hal script past)) (λ n. not-outstanding script past n legal quiet))
+
+    rule : ForbidsNone (close_left 3) script
+    rule (CloseEnded past w legal is no') = closes past legal is.quiet
+    rule (CloseEndedAfter past w legal is yes') = closes_after past legal is.quiet
+    rule (CalledBack past (Shutter n time) legal may) = refl
+    rule _ = refl

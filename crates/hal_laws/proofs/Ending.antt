@@ -3,7 +3,7 @@ use Rattle.std.proofs.Common.{◌≡◌, ℕ, ◌==◌, ◌+◌, Bool, true, fal
 use Rattle.std.specs.List.{list_any, list_all}
 use Rattle.std.proofs.lemmas.Bool.{and_parts, both_ways, cases_Bool, eq-eqb, eqb-true, false≢true, not-true, or_parts}
 use Rattle.basic_lemmas.proofs.Lists.{any-never}
-use Rattle.basic_lemmas.proofs.Tests.{and-false, passed-where}
+use Rattle.basic_lemmas.proofs.Tests.{and-false, passed-where, not-false, not-so}
 use Rattle.cam_types.specs.Four.{four_list}
 use Rattle.cam_types.specs.Refusals.{refused, specs_refusal, where_true}
 use Rattle.cam_types.specs.declared.four.Four.{Four}
@@ -15,24 +15,24 @@ use Rattle.cam_types.specs.declared.script.Script.{Script}
 use Rattle.cam_types.specs.declared.script.Word.{Word}
 use Rattle.cam_types.specs.declared.stream.StreamSpec.{StreamSpec}
 use Rattle.trace_model.specs.declared.entry.Entry.{Entry}
-use Rattle.trace_model.specs.declared.entry.Entry.TheVariants.{Call, Send, Failed, Filled, Early}
+use Rattle.trace_model.specs.declared.entry.Entry.TheVariants.{Call, Send, Failed, Filled, Early, Shutter}
 use Rattle.trace_model.specs.declared.entry.Sent.{Sent}
 use Rattle.trace_model.specs.Calls.{begun}
 use Rattle.trace_model.specs.Configuration.{buffers_of, is_configured, made}
 use Rattle.trace_model.specs.Entry.{is_error_buffer, is_error_request}
 use Rattle.trace_model.specs.Errors.{failed_of, fence_left}
-use Rattle.buffer_laws.proofs.Sends.{is_with}
+use Rattle.trace_laws.proofs.BufferSends.{is_with}
 use Rattle.trace_model.specs.Frames.{has_error_request, has_shutter, target_of, targets_of}
 use Rattle.trace_model.specs.Legal.{IsLegal}
 use Rattle.trace_model.specs.Open.{has_error_buffer, has_error_result, has_part, is_metadata_ended}
 use Rattle.trace_model.specs.Place.{is_at_device_by}
 use Rattle.trace_model.specs.Send.{takes_from_pool}
 use Rattle.trace_model.proofs.LawLemmas.{sends-from-pool}
-use Rattle.due_facts.proofs.Served.{or-none}
-use Rattle.due_facts.proofs.Targets.{has_some, sent-targets}
-use Rattle.past_facts.proofs.Exposed.{part-shutter, result-shutter}
+use Rattle.state_facts.proofs.Served.{or-none}
+use Rattle.state_facts.proofs.Targets.{has_some, sent-targets}
+use Rattle.trace_laws.proofs.Exposed.{part-shutter, result-shutter}
 use Rattle.hal_model.specs.declared.event.HalEvent.{HalEvent}
-use Rattle.hal_model.specs.declared.event.HalEvent.TheVariants.{RequestBegin, FlushOk, CloseBegin, CloseEnd}
+use Rattle.hal_model.specs.declared.event.HalEvent.TheVariants.{FlushOk, CloseBegin, CloseEnd}
 use Rattle.hal_model.specs.declared.rule.Rule.TheVariants.{AcceptedBeforeInit, AcceptedDead, AcceptedInitTwice, AcceptedNoOutput, AcceptedTwoInputs, FailedWithoutNotice, NoConfiguration, NoOutput, NoShutter, OverlappingCalls, TwoInputs}
 use Rattle.hal_model.specs.Device.{accepted_before_init, accepted_dead, accepted_init_twice, accepted_no_output, accepted_two_inputs}
 use Rattle.hal_model.specs.Framework.{is_empty, no_configuration, no_output, overlapping_calls, puts_out, takes_in, two_inputs}
@@ -40,14 +40,15 @@ use Rattle.hal_model.specs.Points.{failed_without_notice, is_dark, is_newly_comp
 use Rattle.hal_model.specs.Callbacks.{ends_again}
 use Rattle.hal_model.specs.Rules.{keeps_in_session, keeps_with}
 use Rattle.hal_model.specs.Words.{begins_close, begins_flush, ends_close, gives, gives_something, has_notice, inited, inits, is_complete, is_configuring, is_dead, is_failed, is_failed_buffer, is_flushing, is_point, is_requesting, is_unannounced, is_unannounced_at, is_within, opened, opens, stands, templated, templates, frames as hal_frames}
-use Rattle.trace_hal.specs.Hal.{flushes, hal, streams_from, target}
+use Rattle.hal_model.specs.Hal.{flushes, hal, streams_from, target}
 use Rattle.hal_laws.proofs.Alone.{dead-end}
-use Rattle.hal_laws.proofs.Calling.{ask, by_calls, calls-kept, is_of_request, not-failed, of-requests, send-going}
-use Rattle.hal_laws.proofs.Homes.{Sees, home, is-false, pool-own, targets-never}
+use Rattle.hal_laws.proofs.Calling.{not-failed, send-going}
+use Rattle.hal_laws.proofs.Homes.{Sees, home, pool-own, targets-never}
 use Rattle.hal_laws.proofs.Over.{complete-over}
 use Rattle.hal_laws.proofs.Resting.{not-requesting}
 use Rattle.hal_laws.proofs.Readings.{buffer-error-reads, request-error-reads, shutter-reads}
 use Rattle.hal_laws.proofs.Standing.{closing, dead-before, configured-reads, configuring, dead-reads, flushes-sound, flushing-reads, initialized-always, initialized-before, initing, not-in-call, opening, templating}
+use Rattle.hal_laws.proofs.Comes.{CalledBack, CloseBegun, CloseBegunAfter, CloseEnded, CloseEndedAfter, ConfigureBegun, ConfigureEnded, FlushEnded, ForbidsNone, RequestBegun, RequestEnded, kept}
 
 -- ---- calls don't overlap
 
@@ -55,73 +56,47 @@ ended-flushing : (script : Script) (past : List Entry) (w : Word) → IsLegal sc
 ended-flushing script past w legal word = flushing-reads script past legal ∙ rw word refl
 
 pub overlapping_calls_kept : (script : Script) (past : List Entry) → IsLegal script past → keeps_in_session 3 (hal script past) OverlappingCalls ≡ true
-overlapping_calls_kept script past legal = calls-kept overlapping_calls script (record {
-  init = refl;
-  back = by_calls overlapping_calls (λ n t p. refl) (λ n p. refl) (λ n p. refl) (λ n s p. refl) (λ p. refl) (λ n k pack bs input p. refl);
-  flush = λ past w legal yes'. refl;
-  asks = λ past n r i same targets legal. rw (not-requesting script past, configuring script past) refl;
-  accepts = λ past n r i same targets legal. refl;
-  configure = λ past specs legal is. rw (not-requesting script past, configuring script past) refl;
-  made = λ past specs legal is. refl;
-  flushed = λ past w legal is yes'. refl;
-  close = λ past w legal is no'. rw (not-requesting script past, configuring script past) (not-in-call script past (ended-flushing script past w legal is.word ∙ no'));
-  closed = λ past w legal is no'. refl;
-  close_after = λ past w legal is yes'. after past (not-requesting script past) (configuring script past) (opening script past) (initing script past) (templating script past) (closing script past);
-  closed_after = λ past w legal is yes'. refl;
-}) past legal
+overlapping_calls_kept script past legal = kept overlapping_calls script rule past legal
   where
     after : (past : List Entry) → is_requesting (hal script past) ≡ false → is_configuring (hal script past) ≡ false → is_within opens opened (hal script past) ≡ false → is_within inits inited (hal script past) ≡ false → is_within templates templated (hal script past) ≡ false → is_within begins_close ends_close (hal script past) ≡ false → overlapping_calls CloseBegin (FlushOk ∷ hal script past) ≡ false
     after past a b c d e f = rw (a, b, c, d, e, f) refl
 
+    rule : ForbidsNone overlapping_calls script
+    rule (RequestBegun past n r i same targets legal) = rw (not-requesting script past, configuring script past) refl
+    rule (ConfigureBegun past specs legal is) = rw (not-requesting script past, configuring script past) refl
+    rule (CloseBegun past w legal is no') = rw (not-requesting script past, configuring script past) (not-in-call script past (ended-flushing script past w legal is.word ∙ no'))
+    rule (CloseBegunAfter past w legal is yes') = after past (not-requesting script past) (configuring script past) (opening script past) (initing script past) (templating script past) (closing script past)
+    rule (CalledBack past (Shutter n time) legal may) = refl
+    rule _ = refl
+
 -- ---- the device works
 
 pub accepted_init_twice_kept : (script : Script) (past : List Entry) → IsLegal script past → keeps_in_session 3 (hal script past) AcceptedInitTwice ≡ true
-accepted_init_twice_kept script past legal = calls-kept accepted_init_twice script (record {
-  init = refl;
-  back = by_calls accepted_init_twice (λ n t p. refl) (λ n p. refl) (λ n p. refl) (λ n s p. refl) (λ p. refl) (λ n k pack bs input p. refl);
-  flush = λ past w legal yes'. refl;
-  asks = λ past n r i same targets legal. refl;
-  accepts = λ past n r i same targets legal. refl;
-  configure = λ past specs legal is. refl;
-  made = λ past specs legal is. refl;
-  flushed = λ past w legal is yes'. refl;
-  close = λ past w legal is no'. refl;
-  closed = λ past w legal is no'. refl;
-  close_after = λ past w legal is yes'. refl;
-  closed_after = λ past w legal is yes'. refl;
-}) past legal
+accepted_init_twice_kept script past legal = kept accepted_init_twice script rule past legal
+  where
+    rule : ForbidsNone accepted_init_twice script
+    rule (CalledBack past (Shutter n time) legal may) = refl
+    rule _ = refl
 
 pub accepted_before_init_kept : (script : Script) (past : List Entry) → IsLegal script past → keeps_in_session 3 (hal script past) AcceptedBeforeInit ≡ true
-accepted_before_init_kept script past legal = calls-kept accepted_before_init script (record {
-  init = refl;
-  back = by_calls accepted_before_init (λ n t p. refl) (λ n p. refl) (λ n p. refl) (λ n s p. refl) (λ p. refl) (λ n k pack bs input p. refl);
-  flush = λ past w legal yes'. refl;
-  asks = λ past n r i same targets legal. refl;
-  accepts = λ past n r i same targets legal. rw (eq-eqb n.0 n.0 refl, initialized-always script past) refl;
-  configure = λ past specs legal is. refl;
-  made = λ past specs legal is. rw (initialized-always script past) refl;
-  flushed = λ past w legal is yes'. rw (initialized-before script past legal (ended-flushing script past w legal is.word ∙ yes')) refl;
-  close = λ past w legal is no'. refl;
-  closed = λ past w legal is no'. refl;
-  close_after = λ past w legal is yes'. refl;
-  closed_after = λ past w legal is yes'. refl;
-}) past legal
+accepted_before_init_kept script past legal = kept accepted_before_init script rule past legal
+  where
+    rule : ForbidsNone accepted_before_init script
+    rule (RequestEnded past n r i same targets legal) = rw (eq-eqb n.0 n.0 refl, initialized-always script past) refl
+    rule (ConfigureEnded past specs legal is) = rw (initialized-always script past) refl
+    rule (FlushEnded past w legal is yes') = rw (initialized-before script past legal (ended-flushing script past w legal is.word ∙ yes')) refl
+    rule (CalledBack past (Shutter n time) legal may) = refl
+    rule _ = refl
 
 pub accepted_dead_kept : (script : Script) (past : List Entry) → IsLegal script past → keeps_in_session 3 (hal script past) AcceptedDead ≡ true
-accepted_dead_kept script past legal = calls-kept accepted_dead script (record {
-  init = refl;
-  back = by_calls accepted_dead (λ n t p. refl) (λ n p. refl) (λ n p. refl) (λ n s p. refl) (λ p. refl) (λ n k pack bs input p. refl);
-  flush = λ past w legal yes'. refl;
-  asks = λ past n r i same targets legal. refl;
-  accepts = λ past n r i same targets legal. rw (eq-eqb n.0 n.0 refl) (dead-reads script past ∙ not-failed past (send-going script past n.0 r.0 i same targets legal.0));
-  configure = λ past specs legal is. refl;
-  made = λ past specs legal is. dead-reads script past ∙ is.sound;
-  flushed = λ past w legal is yes'. dead-before begins_flush (hal script past) (dead-reads script past ∙ flushes-sound w past yes');
-  close = λ past w legal is no'. refl;
-  closed = λ past w legal is no'. refl;
-  close_after = λ past w legal is yes'. refl;
-  closed_after = λ past w legal is yes'. refl;
-}) past legal
+accepted_dead_kept script past legal = kept accepted_dead script rule past legal
+  where
+    rule : ForbidsNone accepted_dead script
+    rule (RequestEnded past n r i same targets legal) = rw (eq-eqb n.0 n.0 refl) (dead-reads script past ∙ not-failed past (send-going script past n.0 r.0 i same targets legal.0))
+    rule (ConfigureEnded past specs legal is) = dead-reads script past ∙ is.sound
+    rule (FlushEnded past w legal is yes') = dead-before begins_flush (hal script past) (dead-reads script past ∙ flushes-sound w past yes')
+    rule (CalledBack past (Shutter n time) legal may) = refl
+    rule _ = refl
 
 -- ---- configurations
 
@@ -143,17 +118,13 @@ where_none : (b : Bool) (r : Reply) → where_true b r ≡ None → b ≡ false
 where_none true r h = absurd (cc)
 where_none false r h = refl
 
-not_false : (b : Bool) → not b ≡ false → b ≡ true
-not_false true h = refl
-not_false false h = absurd (false≢true (sym h))
-
 -- an accepted configuration has an output and no input
 pub outputs : (specs : List StreamSpec) → specs_refusal specs ≡ None → (list_any (λ s. not s.input) specs ≡ true) × (list_any (λ s. s.input) specs ≡ false)
 outputs specs h =
     let first = or-none (where_true (not (list_any (λ s. not s.input) specs)) (refused 21)) _ h in
     let second = or-none (where_true (nat_lt 4 (length specs)) (refused 22)) _ first.1 in
     let third = or-none (where_true (list_any (λ s. s.input) specs) (refused 23)) _ second.1 in
-    (not_false (list_any (λ s. not s.input) specs) (where_none _ _ first.0), where_none _ _ third.0)
+    (not-false (list_any (λ s. not s.input) specs) (where_none _ _ first.0), where_none _ _ third.0)
 
 some_mapped : (ts : List Sent) → has_some ts ≡ true → is_empty (map target ts) ≡ false
 some_mapped [] h = absurd (false≢true h)
@@ -166,68 +137,38 @@ send-some script past n r i same targets legal =
     rw number at some
 
 pub accepted_no_output_kept : (script : Script) (past : List Entry) → IsLegal script past → keeps_in_session 3 (hal script past) AcceptedNoOutput ≡ true
-accepted_no_output_kept script past legal = calls-kept accepted_no_output script (record {
-  init = refl;
-  back = by_calls accepted_no_output (λ n t p. refl) (λ n p. refl) (λ n p. refl) (λ n s p. refl) (λ p. refl) (λ n k pack bs input p. refl);
-  flush = λ past w legal yes'. refl;
-  asks = λ past n r i same targets legal. refl;
-  accepts = λ past n r i same targets legal. rw (eq-eqb n.0 n.0 refl) (some_mapped (four_list targets) (send-some script past n r i same targets legal));
-  configure = λ past specs legal is. refl;
-  made = λ past specs legal is. rw (any_out 0 specs (outputs specs is.accepted).0) refl;
-  flushed = λ past w legal is yes'. refl;
-  close = λ past w legal is no'. refl;
-  closed = λ past w legal is no'. refl;
-  close_after = λ past w legal is yes'. refl;
-  closed_after = λ past w legal is yes'. refl;
-}) past legal
+accepted_no_output_kept script past legal = kept accepted_no_output script rule past legal
+  where
+    rule : ForbidsNone accepted_no_output script
+    rule (RequestEnded past n r i same targets legal) = rw (eq-eqb n.0 n.0 refl) (some_mapped (four_list targets) (send-some script past n r i same targets legal))
+    rule (ConfigureEnded past specs legal is) = rw (any_out 0 specs (outputs specs is.accepted).0) refl
+    rule (CalledBack past (Shutter n time) legal may) = refl
+    rule _ = refl
 
 pub no_output_kept : (script : Script) (past : List Entry) → IsLegal script past → keeps_in_session 3 (hal script past) NoOutput ≡ true
-no_output_kept script past legal = calls-kept no_output script (record {
-  init = refl;
-  back = by_calls no_output (λ n t p. refl) (λ n p. refl) (λ n p. refl) (λ n s p. refl) (λ p. refl) (λ n k pack bs input p. refl);
-  flush = λ past w legal yes'. refl;
-  asks = λ past n r i same targets legal. some_mapped (four_list targets) (send-some script past n r i same targets legal);
-  accepts = λ past n r i same targets legal. refl;
-  configure = λ past specs legal is. rw (any_out 0 specs (outputs specs is.accepted).0) refl;
-  made = λ past specs legal is. refl;
-  flushed = λ past w legal is yes'. refl;
-  close = λ past w legal is no'. refl;
-  closed = λ past w legal is no'. refl;
-  close_after = λ past w legal is yes'. refl;
-  closed_after = λ past w legal is yes'. refl;
-}) past legal
+no_output_kept script past legal = kept no_output script rule past legal
+  where
+    rule : ForbidsNone no_output script
+    rule (RequestBegun past n r i same targets legal) = some_mapped (four_list targets) (send-some script past n r i same targets legal)
+    rule (ConfigureBegun past specs legal is) = rw (any_out 0 specs (outputs specs is.accepted).0) refl
+    rule (CalledBack past (Shutter n time) legal may) = refl
+    rule _ = refl
 
 pub two_inputs_kept : (script : Script) (past : List Entry) → IsLegal script past → keeps_in_session 3 (hal script past) TwoInputs ≡ true
-two_inputs_kept script past legal = calls-kept two_inputs script (record {
-  init = refl;
-  back = by_calls two_inputs (λ n t p. refl) (λ n p. refl) (λ n p. refl) (λ n s p. refl) (λ p. refl) (λ n k pack bs input p. refl);
-  flush = λ past w legal yes'. refl;
-  asks = λ past n r i same targets legal. refl;
-  accepts = λ past n r i same targets legal. refl;
-  configure = λ past specs legal is. rw (none_in 0 specs (outputs specs is.accepted).1) refl;
-  made = λ past specs legal is. refl;
-  flushed = λ past w legal is yes'. refl;
-  close = λ past w legal is no'. refl;
-  closed = λ past w legal is no'. refl;
-  close_after = λ past w legal is yes'. refl;
-  closed_after = λ past w legal is yes'. refl;
-}) past legal
+two_inputs_kept script past legal = kept two_inputs script rule past legal
+  where
+    rule : ForbidsNone two_inputs script
+    rule (ConfigureBegun past specs legal is) = rw (none_in 0 specs (outputs specs is.accepted).1) refl
+    rule (CalledBack past (Shutter n time) legal may) = refl
+    rule _ = refl
 
 pub accepted_two_inputs_kept : (script : Script) (past : List Entry) → IsLegal script past → keeps_in_session 3 (hal script past) AcceptedTwoInputs ≡ true
-accepted_two_inputs_kept script past legal = calls-kept accepted_two_inputs script (record {
-  init = refl;
-  back = by_calls accepted_two_inputs (λ n t p. refl) (λ n p. refl) (λ n p. refl) (λ n s p. refl) (λ p. refl) (λ n k pack bs input p. refl);
-  flush = λ past w legal yes'. refl;
-  asks = λ past n r i same targets legal. refl;
-  accepts = λ past n r i same targets legal. refl;
-  configure = λ past specs legal is. refl;
-  made = λ past specs legal is. rw (none_in 0 specs (outputs specs is.accepted).1) refl;
-  flushed = λ past w legal is yes'. refl;
-  close = λ past w legal is no'. refl;
-  closed = λ past w legal is no'. refl;
-  close_after = λ past w legal is yes'. refl;
-  closed_after = λ past w legal is yes'. refl;
-}) past legal
+accepted_two_inputs_kept script past legal = kept accepted_two_inputs script rule past legal
+  where
+    rule : ForbidsNone accepted_two_inputs script
+    rule (ConfigureEnded past specs legal is) = rw (none_in 0 specs (outputs specs is.accepted).1) refl
+    rule (CalledBack past (Shutter n time) legal may) = refl
+    rule _ = refl
 
 -- where a stream has buffers a configuration stands
 made_configured : (past : List Entry) → is_configured past ≡ false → made past ≡ []
@@ -248,14 +189,12 @@ send_configured past [] some all = absurd (false≢true some)
 send_configured past (t ∷ ts) some all = configured_by_buffers past t.stream.0 t.buffer.0 (pool-own past t (and_parts (takes_from_pool past t) (list_all (takes_from_pool past) ts) all).0).0
 
 pub no_configuration_kept : (script : Script) (past : List Entry) → IsLegal script past → keeps_in_session 3 (hal script past) NoConfiguration ≡ true
-no_configuration_kept script past legal = calls-kept no_configuration script (of-requests no_configuration script only asks (λ past n r i same targets legal. refl)) past legal
+no_configuration_kept script past legal = kept no_configuration script rule past legal
   where
-    only : (h : HalEvent) (p : List HalEvent) → is_of_request h ≡ false → no_configuration h p ≡ false
-    only (RequestBegin n same ts a b) p h = absurd (false≢true (sym h))
-    only _ p h = refl
-
-    asks : (past : List Entry) (n : FrameNo) (r : RequestId) (i : ℕ) (same : Bool) (targets : Four Sent) → IsLegal script (Send n r i same targets ∷ past) → no_configuration (ask targets n.0 same) (hal script past) ≡ false
-    asks past n r i same targets legal = rw (configured-reads script past, send_configured past (four_list targets) (send-some script past n r i same targets legal) (sends-from-pool script past n.0 r.0 i same targets legal.0)) refl
+    rule : ForbidsNone no_configuration script
+    rule (RequestBegun past n r i same targets legal) = rw (configured-reads script past, send_configured past (four_list targets) (send-some script past n r i same targets legal) (sends-from-pool script past n.0 r.0 i same targets legal.0)) refl
+    rule (CalledBack past (Shutter n time) legal may) = refl
+    rule _ = refl
 
 -- ---- notices
 
@@ -305,7 +244,7 @@ sees-failed n s _ h = absurd (false≢true h)
 -- a failed buffer that is back was told of
 told_target : (script : Script) (past : List Entry) (n : ℕ) (t : Sent) → IsLegal script past → is_failed n (hal script past) ≡ false → list_any (is_with t.stream.0 t.buffer.0) (targets_of n past) ≡ true → is_unannounced_at n (hal script past) (target t) ≡ false
 told_target script past n t legal sound among =
-    is-false (is_unannounced_at n (hal script past) (target t))
+    not-so (is_unannounced_at n (hal script past) (target t))
     (λ both.
     let parts = and_parts (stands n (gives is_failed_buffer n t.buffer.0) (hal script past)) (not (has_notice n (Some t.stream.0) (hal script past))) both in
     let back : list_any (is_failed_return n t.stream.0) past ≡ true = home is_failed_buffer is_failed_return sees-failed script past n t.stream.0 t.buffer.0 legal among parts.0 in
@@ -328,20 +267,14 @@ none_unannounced script past e p legal same =
     (any-never (is_silent 3 e p) (hal_frames p) (λ n. dead-end (is_newly_complete 3 e p n) (same n ∙ announced script past n legal))))
 
 pub failed_without_notice_kept : (script : Script) (past : List Entry) → IsLegal script past → keeps_in_session 3 (hal script past) FailedWithoutNotice ≡ true
-failed_without_notice_kept script past legal = calls-kept (failed_without_notice 3) script (record {
-  init = refl;
-  back = by_calls (failed_without_notice 3) (λ n t p. refl) (λ n p. refl) (λ n p. refl) (λ n s p. refl) (λ p. refl) (λ n k pack bs input p. refl);
-  flush = λ past w legal yes'. refl;
-  asks = λ past n r i same targets legal. refl;
-  accepts = λ past n r i same targets legal. refl;
-  configure = λ past specs legal is. refl;
-  made = λ past specs legal is. refl;
-  flushed = λ past w legal is yes'. none_unannounced script past FlushOk (hal script past) legal (λ n. refl);
-  close = λ past w legal is no'. refl;
-  closed = λ past w legal is no'. none_unannounced script past CloseEnd (CloseBegin ∷ hal script past) legal (λ n. refl);
-  close_after = λ past w legal is yes'. refl;
-  closed_after = λ past w legal is yes'. none_unannounced script past CloseEnd (CloseBegin ∷ (FlushOk ∷ hal script past)) legal (λ n. refl);
-}) past legal
+failed_without_notice_kept script past legal = kept (failed_without_notice 3) script rule past legal
+  where
+    rule : ForbidsNone (failed_without_notice 3) script
+    rule (FlushEnded past w legal is yes') = none_unannounced script past FlushOk (hal script past) legal (λ n. refl)
+    rule (CloseEnded past w legal is no') = none_unannounced script past CloseEnd (CloseBegin ∷ hal script past) legal (λ n. refl)
+    rule (CloseEndedAfter past w legal is yes') = none_unannounced script past CloseEnd (CloseBegin ∷ (FlushOk ∷ hal script past)) legal (λ n. refl)
+    rule (CalledBack past (Shutter n time) legal may) = refl
+    rule _ = refl
 
 -- ---- a complete frame has its shutter, unless it failed whole
 
@@ -383,35 +316,21 @@ none_dark script past e p legal same same' =
         short false a b h = refl
 
 pub no_shutter_kept : (script : Script) (past : List Entry) → IsLegal script past → keeps_in_session 3 (hal script past) NoShutter ≡ true
-no_shutter_kept script past legal = calls-kept (no_shutter 3) script (record {
-  init = refl;
-  back = by_calls (no_shutter 3) (λ n t p. refl) (λ n p. refl) (λ n p. refl) (λ n s p. refl) (λ p. refl) (λ n k pack bs input p. refl);
-  flush = λ past w legal yes'. refl;
-  asks = λ past n r i same targets legal. refl;
-  accepts = λ past n r i same targets legal. refl;
-  configure = λ past specs legal is. refl;
-  made = λ past specs legal is. refl;
-  flushed = λ past w legal is yes'. none_dark script past FlushOk (hal script past) legal (λ n. refl) (λ n. refl);
-  close = λ past w legal is no'. refl;
-  closed = λ past w legal is no'. none_dark script past CloseEnd (CloseBegin ∷ hal script past) legal (λ n. refl) (λ n. refl);
-  close_after = λ past w legal is yes'. refl;
-  closed_after = λ past w legal is yes'. none_dark script past CloseEnd (CloseBegin ∷ (FlushOk ∷ hal script past)) legal (λ n. refl) (λ n. refl);
-}) past legal
+no_shutter_kept script past legal = kept (no_shutter 3) script rule past legal
+  where
+    rule : ForbidsNone (no_shutter 3) script
+    rule (FlushEnded past w legal is yes') = none_dark script past FlushOk (hal script past) legal (λ n. refl) (λ n. refl)
+    rule (CloseEnded past w legal is no') = none_dark script past CloseEnd (CloseBegin ∷ hal script past) legal (λ n. refl) (λ n. refl)
+    rule (CloseEndedAfter past w legal is yes') = none_dark script past CloseEnd (CloseBegin ∷ (FlushOk ∷ hal script past)) legal (λ n. refl) (λ n. refl)
+    rule (CalledBack past (Shutter n time) legal may) = refl
+    rule _ = refl
 
 -- ---- a call returns once
 
 pub ends-once : (script : Script) (past : List Entry) → IsLegal script past → keeps_with ends_again (hal script past) ≡ true
-ends-once script past legal = calls-kept ends_again script (record {
-  init = refl;
-  back = by_calls ends_again (λ n t p. refl) (λ n p. refl) (λ n p. refl) (λ n s p. refl) (λ p. refl) (λ n k pack bs input p. refl);
-  flush = λ past w legal yes'. refl;
-  asks = λ past n r i same targets legal. refl;
-  accepts = λ past n r i same targets legal. rw (eq-eqb n.0 n.0 refl) refl;
-  configure = λ past specs legal is. refl;
-  made = λ past specs legal is. refl;
-  flushed = λ past w legal is yes'. refl;
-  close = λ past w legal is no'. refl;
-  closed = λ past w legal is no'. refl;
-  close_after = λ past w legal is yes'. refl;
-  closed_after = λ past w legal is yes'. refl;
-}) past legal
+ends-once script past legal = kept ends_again script rule past legal
+  where
+    rule : ForbidsNone ends_again script
+    rule (RequestEnded past n r i same targets legal) = rw (eq-eqb n.0 n.0 refl) refl
+    rule (CalledBack past (Shutter n time) legal may) = refl
+    rule _ = refl

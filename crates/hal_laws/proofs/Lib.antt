@@ -1,10 +1,11 @@
 pub mod Keep
 pub mod Readings
 pub mod Homes
+pub mod Cases
+pub mod Comes
 pub mod Alone
 pub mod Over
 pub mod Back
-pub mod Cases
 pub mod Standing
 pub mod Resting
 pub mod Calling

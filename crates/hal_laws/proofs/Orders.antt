@@ -3,7 +3,7 @@ use Rattle.std.proofs.Common.{◌≡◌, ℕ, Bool, true, false, ◌&&◌, not, 
 use Rattle.std.specs.List.{list_any}
 use Rattle.std.proofs.lemmas.Bool.{cases_Bool, false≢true}
 use Rattle.basic_lemmas.proofs.Lists.{any-less}
-use Rattle.basic_lemmas.proofs.Tests.{and-false, and-true}
+use Rattle.basic_lemmas.proofs.Tests.{and-false, and-true, and-none}
 use Rattle.hal_model.specs.declared.event.HalEvent.{HalEvent}
 use Rattle.hal_model.specs.declared.event.HalEvent.TheVariants.{Results}
 use Rattle.hal_model.specs.declared.event.Pack.{Pack}
@@ -21,17 +21,12 @@ live-named : (a b : Bool) → (not a && not b) ≡ false → b ≡ false → a �
 live-named true b h k = refl
 live-named false b h k = absurd (false≢true (sym h ∙ rw k refl))
 
-and-none : (a b : Bool) → (a && b) ≡ false → a ≡ true → b ≡ false
-and-none true b h k = h
-and-none false b h k = absurd (false≢true k)
-
 live-metadata : (k n j : ℕ) (buffers : List Returned) (input : Bool) (log : List HalEvent) → KeepsRules k (Results n j Entries buffers input ∷ log) → is_live k n (known k log) ≡ true
 live-metadata k n j buffers input log keeps = live-named (is_live k n (known k log)) false (kept-at k (Results n j Entries buffers input) log 23 UnknownFrame keeps refl) refl
 
 live-buffer : (k n j : ℕ) (pack : Pack) (r : Returned) (buffers : List Returned) (input : Bool) (log : List HalEvent) → KeepsRules k (Results n j pack (r ∷ buffers) input ∷ log) → is_live k n (known k log) ≡ true
 live-buffer k n j Entries r buffers input log keeps = live-metadata k n j (r ∷ buffers) input log keeps
-live-buffer k n j Empty r buffers input log keeps = live-named (is_live k n (known k log)) false (kept-at k (Results n j Empty (r ∷ buffers) input) log 23 UnknownFrame keeps refl) refl
-live-buffer k n j Absent r buffers input log keeps = live-named (is_live k n (known k log)) false (kept-at k (Results n j Absent (r ∷ buffers) input) log 23 UnknownFrame keeps refl) refl
+live-buffer k n j e r buffers input log keeps = live-named (is_live k n (known k log)) false (kept-at k (Results n j e (r ∷ buffers) input) log 23 UnknownFrame keeps refl) refl
 
 -- ---- a request that failed whole
 

@@ -4,24 +4,23 @@ use Rattle.std.specs.List.{list_any, list_all}
 use Rattle.std.specs.Option.{option_map, option_to_list}
 use Rattle.std.proofs.lemmas.Bool.{and_parts, cases_Bool, eqb-true, false≢true, or_parts}
 use Rattle.std.proofs.lemmas.Bool.Decides.{nat_tests}
-use Rattle.frame_laws.proofs.Parts.{part-is}
-use Rattle.past_facts.proofs.Frames.{unsent-next}
-use Rattle.past_facts.proofs.Told.{tells, untold}
+use Rattle.trace_laws.proofs.Parts.{part-is}
+use Rattle.trace_laws.proofs.Frames.{unsent-next}
+use Rattle.trace_laws.proofs.Told.{tells, untold}
 use Rattle.trace_model.specs.Legal.{IsLegal}
-use Rattle.basic_lemmas.proofs.Lists.{any-where}
+use Rattle.basic_lemmas.proofs.Lists.{any-where, found-passes}
 use Rattle.cam_types.specs.Four.{four_list}
 use Rattle.cam_types.specs.declared.script.Script.{Script}
 use Rattle.trace_model.specs.declared.entry.Entry.{Entry}
 use Rattle.trace_model.specs.declared.entry.Entry.TheVariants.{Begin, Call, Send, Shutter, Partial, ErrorRequest, ErrorResult, ErrorBuffer}
 use Rattle.trace_model.specs.Entry.{is_error_buffer, is_error_request, is_error_result, is_part, is_shutter, sends}
 use Rattle.trace_model.specs.Frames.{has_error_request, has_shutter, is_sent, send_of, targets_in as sent_targets_in, targets_of}
-use Rattle.trace_bounds.proofs.Shapes.{found-passes}
 use Rattle.trace_model.specs.Open.{has_error_buffer, has_error_result, has_part, is_metadata_ended}
 use Rattle.hal_model.specs.declared.event.HalEvent.{HalEvent}
 use Rattle.hal_model.specs.declared.event.HalEvent.TheVariants.{RequestBegin, RequestOk, RequestError, Shutter as HalShutter, ErrorRequest as HalErrorRequest, ErrorResult as HalErrorResult, ErrorBuffer as HalErrorBuffer, Results}
 use Rattle.hal_model.specs.declared.event.Pack.TheVariants.{Entries}
 use Rattle.hal_model.specs.Words.{is_callback, begins, has_notice, has_shutter as hal_has_shutter, is_last_part, is_refused, since, stands, refuses, is_begun, is_failed, targets_in, targets_of as hal_targets_of, is_shutter as hal_shutter, is_error_request as hal_error_request, is_error_result as hal_error_result, is_error_buffer as hal_error_buffer, is_part as hal_part, is_metadata_ended as hal_ended, begins_request, had_later}
-use Rattle.trace_hal.specs.Hal.{callback, called, events, flush_begun, hal, initialized, target}
+use Rattle.hal_model.specs.Hal.{callback, called, events, flush_begun, hal, initialized, target}
 use Rattle.hal_laws.proofs.Keep.{any-append, begun-other, callback_back, called-other, is_other, none_passes, other_no_callback}
 
 -- ---- tests of callbacks
@@ -120,80 +119,64 @@ since-whole p n of tell script (Send m r i same targets ∷ past) legal =
     ]
 since-whole p n of tell script (e ∷ past) legal = now_since p n e (callback e) (hal script past) refl (since-whole p n of tell script past legal.1)
 
+-- a test of callbacks that reads as one of entries, which tells of frame n
+data Tested : Type 0 where
+  OfEvent : (h : HalEvent) → is_callback h ≡ false → Tested
+  OfEntry : Entry → Tested
+
+abbrev ReadsAs : ℕ → (HalEvent → Bool) → (Entry → Bool) → Tested → Type 0
+ReadsAs n p q (OfEvent h silent) = p h ≡ false
+ReadsAs n p q (OfEntry e) = (by_callback p (callback e) ≡ q e) × (by_callback p (callback e) ≡ true → tells n e ≡ true)
+
+stands-reads : (n : ℕ) (p : HalEvent → Bool) (q : Entry → Bool) → ((a : Tested) → ReadsAs n p q a) → (script : Script) (past : List Entry) → IsLegal script past → list_any p (since n (hal script past)) ≡ list_any q past
+stands-reads n p q reads script past legal =
+    since-whole p n (λ h silent. reads (OfEvent h silent)) (λ e. (reads (OfEntry e)).1) script past legal
+    ∙ any-reads p q (λ h silent. reads (OfEvent h silent)) (λ e. (reads (OfEntry e)).0) script past
+
 pub shutter-reads : (n : ℕ) (script : Script) (past : List Entry) → IsLegal script past → hal_has_shutter n (hal script past) ≡ has_shutter n past
-shutter-reads n script past legal = since-whole (hal_shutter n) n of tell script past legal ∙ any-reads (hal_shutter n) (is_shutter n) of each script past
+shutter-reads n script past legal = stands-reads n (hal_shutter n) (is_shutter n) reads script past legal
   where
-    of : IsCallbackTest (hal_shutter n)
-    of (HalShutter m t) h = absurd (false≢true (sym h))
-    of _ h = refl
-
-    each : (e : Entry) → by_callback (hal_shutter n) (callback e) ≡ is_shutter n e
-    each (Shutter m t) = refl
-    each _ = refl
-
-    tell : TellsOf n (hal_shutter n)
-    tell (Shutter m t) h = h
-    tell _ h = absurd (false≢true h)
+    reads : (a : Tested) → ReadsAs n (hal_shutter n) (is_shutter n) a
+    reads (OfEvent (HalShutter m t) h) = absurd (false≢true (sym h))
+    reads (OfEvent _ h) = refl
+    reads (OfEntry (Shutter m t)) = (refl, λ h. h)
+    reads (OfEntry _) = (refl, λ h. absurd (false≢true h))
 
 pub request-error-reads : (n : ℕ) (script : Script) (past : List Entry) → IsLegal script past → is_failed n (hal script past) ≡ has_error_request n past
-request-error-reads n script past legal = since-whole (hal_error_request n) n of tell script past legal ∙ any-reads (hal_error_request n) (is_error_request n) of each script past
+request-error-reads n script past legal = stands-reads n (hal_error_request n) (is_error_request n) reads script past legal
   where
-    of : IsCallbackTest (hal_error_request n)
-    of (HalErrorRequest m) h = absurd (false≢true (sym h))
-    of _ h = refl
-
-    each : (e : Entry) → by_callback (hal_error_request n) (callback e) ≡ is_error_request n e
-    each (ErrorRequest m) = refl
-    each _ = refl
-
-    tell : TellsOf n (hal_error_request n)
-    tell (ErrorRequest m) h = h
-    tell _ h = absurd (false≢true h)
+    reads : (a : Tested) → ReadsAs n (hal_error_request n) (is_error_request n) a
+    reads (OfEvent (HalErrorRequest m) h) = absurd (false≢true (sym h))
+    reads (OfEvent _ h) = refl
+    reads (OfEntry (ErrorRequest m)) = (refl, λ h. h)
+    reads (OfEntry _) = (refl, λ h. absurd (false≢true h))
 
 pub result-error-reads : (n : ℕ) (script : Script) (past : List Entry) → IsLegal script past → stands n (hal_error_result n) (hal script past) ≡ has_error_result n past
-result-error-reads n script past legal = since-whole (hal_error_result n) n of tell script past legal ∙ any-reads (hal_error_result n) (is_error_result n) of each script past
+result-error-reads n script past legal = stands-reads n (hal_error_result n) (is_error_result n) reads script past legal
   where
-    of : IsCallbackTest (hal_error_result n)
-    of (HalErrorResult m) h = absurd (false≢true (sym h))
-    of _ h = refl
-
-    each : (e : Entry) → by_callback (hal_error_result n) (callback e) ≡ is_error_result n e
-    each (ErrorResult m) = refl
-    each _ = refl
-
-    tell : TellsOf n (hal_error_result n)
-    tell (ErrorResult m) h = h
-    tell _ h = absurd (false≢true h)
+    reads : (a : Tested) → ReadsAs n (hal_error_result n) (is_error_result n) a
+    reads (OfEvent (HalErrorResult m) h) = absurd (false≢true (sym h))
+    reads (OfEvent _ h) = refl
+    reads (OfEntry (ErrorResult m)) = (refl, λ h. h)
+    reads (OfEntry _) = (refl, λ h. absurd (false≢true h))
 
 pub buffer-error-reads : (n s : ℕ) (script : Script) (past : List Entry) → IsLegal script past → has_notice n (Some s) (hal script past) ≡ has_error_buffer n s past
-buffer-error-reads n s script past legal = since-whole (hal_error_buffer n (Some s)) n of tell script past legal ∙ any-reads (hal_error_buffer n (Some s)) (is_error_buffer n s) of each script past
+buffer-error-reads n s script past legal = stands-reads n (hal_error_buffer n (Some s)) (is_error_buffer n s) reads script past legal
   where
-    of : IsCallbackTest (hal_error_buffer n (Some s))
-    of (HalErrorBuffer m t) h = absurd (false≢true (sym h))
-    of _ h = refl
-
-    each : (e : Entry) → by_callback (hal_error_buffer n (Some s)) (callback e) ≡ is_error_buffer n s e
-    each (ErrorBuffer m t) = refl
-    each _ = refl
-
-    tell : TellsOf n (hal_error_buffer n (Some s))
-    tell (ErrorBuffer m t) h = (and_parts (m.0 == n) (t.0 == s) h).0
-    tell _ h = absurd (false≢true h)
+    reads : (a : Tested) → ReadsAs n (hal_error_buffer n (Some s)) (is_error_buffer n s) a
+    reads (OfEvent (HalErrorBuffer m t) h) = absurd (false≢true (sym h))
+    reads (OfEvent _ h) = refl
+    reads (OfEntry (ErrorBuffer m t)) = (refl, λ h. (and_parts (m.0 == n) (t.0 == s) h).0)
+    reads (OfEntry _) = (refl, λ h. absurd (false≢true h))
 
 pub part-reads : (n k : ℕ) (script : Script) (past : List Entry) → IsLegal script past → stands n (hal_part n k) (hal script past) ≡ has_part n k past
-part-reads n k script past legal = since-whole (hal_part n k) n of tell script past legal ∙ any-reads (hal_part n k) (is_part n k) of each script past
+part-reads n k script past legal = stands-reads n (hal_part n k) (is_part n k) reads script past legal
   where
-    of : IsCallbackTest (hal_part n k)
-    of (Results m j Entries bs input) h = absurd (false≢true (sym h))
-    of _ h = refl
-
-    each : (e : Entry) → by_callback (hal_part n k) (callback e) ≡ is_part n k e
-    each (Partial m j part) = refl
-    each _ = refl
-
-    tell : TellsOf n (hal_part n k)
-    tell (Partial m j part) h = (and_parts (m.0 == n) (j == k) h).0
-    tell _ h = absurd (false≢true h)
+    reads : (a : Tested) → ReadsAs n (hal_part n k) (is_part n k) a
+    reads (OfEvent (Results m j Entries bs input) h) = absurd (false≢true (sym h))
+    reads (OfEvent _ h) = refl
+    reads (OfEntry (Partial m j part)) = (refl, λ h. (and_parts (m.0 == n) (j == k) h).0)
+    reads (OfEntry _) = (refl, λ h. absurd (false≢true h))
 
 -- ---- the end of metadata: parts have the numbers from 1 to 3
 
@@ -212,19 +195,13 @@ last_of script (Partial m j part ∷ past) n legal =
 last_of script (e ∷ past) n legal = last_of script past n legal.1
 
 pub last-reads : (n : ℕ) (script : Script) (past : List Entry) → IsLegal script past → stands n (is_last_part 3 n) (hal script past) ≡ has_part n 3 past
-last-reads n script past legal = since-whole (is_last_part 3 n) n of tell script past legal ∙ (any-reads (is_last_part 3 n) (is_last_of n) of each script past ∙ last_of script past n legal)
+last-reads n script past legal = stands-reads n (is_last_part 3 n) (is_last_of n) reads script past legal ∙ last_of script past n legal
   where
-    of : IsCallbackTest (is_last_part 3 n)
-    of (Results m j Entries bs input) h = absurd (false≢true (sym h))
-    of _ h = refl
-
-    each : (e : Entry) → by_callback (is_last_part 3 n) (callback e) ≡ is_last_of n e
-    each (Partial m j part) = refl
-    each _ = refl
-
-    tell : TellsOf n (is_last_part 3 n)
-    tell (Partial m j part) h = (and_parts (m.0 == n) (not (nat_lt 0 j && nat_lt j 3)) h).0
-    tell _ h = absurd (false≢true h)
+    reads : (a : Tested) → ReadsAs n (is_last_part 3 n) (is_last_of n) a
+    reads (OfEvent (Results m j Entries bs input) h) = absurd (false≢true (sym h))
+    reads (OfEvent _ h) = refl
+    reads (OfEntry (Partial m j part)) = (refl, λ h. (and_parts (m.0 == n) (not (nat_lt 0 j && nat_lt j 3)) h).0)
+    reads (OfEntry _) = (refl, λ h. absurd (false≢true h))
 
 pub ended-reads : (n : ℕ) (script : Script) (past : List Entry) → IsLegal script past → hal_ended 3 n (hal script past) ≡ is_metadata_ended n past
 ended-reads n script past legal = rw (last-reads n script past legal, result-error-reads n script past legal, request-error-reads n script past legal) refl
@@ -261,17 +238,14 @@ targets_by n (Some _) h = absurd (false≢true (h _ refl))
 pub targets-read : (script : Script) (n : ℕ) (past : List Entry) → hal_targets_of n (hal script past) ≡ map target (targets_of n past)
 targets-read script n past = ap targets_in (begin-read script n past) ∙ targets_by n (send_of n past) (λ e found. found-passes (sends n) past e found)
 
-begun_any : (n : ℕ) (script : Script) (past : List Entry) → is_begun n (hal script past) ≡ is_sent n past
-begun_any n script [] = refl
-begun_any n script (Begin word ∷ past) =
-    any-append (begins n) (flush_begun word past) (hal script past) (none_passes (begins n) (flush_begun word past) (of_begins n) (begun-other word past)) ∙ begun_any n script past
-begun_any n script (Call i word reply ∷ past) =
-    any-append (begins n) (called script past i word reply) (hal script past) (none_passes (begins n) (called script past i word reply) (of_begins n) (called-other script past i word reply)) ∙ begun_any n script past
-begun_any n script (Send m r i same targets ∷ past) = rw (begun_any n script past) refl
-begun_any n script (e ∷ past) = begun_any n script past
-
 pub begun-reads : (n : ℕ) (script : Script) (past : List Entry) → is_begun n (hal script past) ≡ is_sent n past
-begun-reads n script past = begun_any n script past
+begun-reads n script [] = refl
+begun-reads n script (Begin word ∷ past) =
+    any-append (begins n) (flush_begun word past) (hal script past) (none_passes (begins n) (flush_begun word past) (of_begins n) (begun-other word past)) ∙ begun-reads n script past
+begun-reads n script (Call i word reply ∷ past) =
+    any-append (begins n) (called script past i word reply) (hal script past) (none_passes (begins n) (called script past i word reply) (of_begins n) (called-other script past i word reply)) ∙ begun-reads n script past
+begun-reads n script (Send m r i same targets ∷ past) = rw (begun-reads n script past) refl
+begun-reads n script (e ∷ past) = begun-reads n script past
 
 -- no request is refused
 of_refuses : (n : ℕ) (h : HalEvent) → is_other h ≡ true → refuses n h ≡ false

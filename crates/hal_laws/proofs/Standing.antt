@@ -12,7 +12,7 @@ use Rattle.cam_types.specs.declared.script.Script.{Script}
 use Rattle.cam_types.specs.declared.script.Word.{Word}
 use Rattle.cam_types.specs.declared.script.Word.TheVariants.{Flush as WordFlush, Disconnect as WordDisconnect}
 use Rattle.trace_model.specs.declared.entry.Entry.{Entry}
-use Rattle.trace_model.specs.declared.entry.Entry.TheVariants.{Begin, Call, Send, ErrorDevice}
+use Rattle.trace_model.specs.declared.entry.Entry.TheVariants.{Begin, Call, Send, Shutter, ErrorDevice}
 use Rattle.trace_model.specs.Calls.{accepts as accepts_word, begun, command_at, is_closed, is_closing_word, is_waiting_command, next_command, word_of}
 use Rattle.trace_model.specs.Client.{begin_of}
 use Rattle.trace_model.specs.Configuration.{is_configured, streams, streams_of}
@@ -22,16 +22,15 @@ use Rattle.trace_model.specs.Legal.{IsLegal}
 use Rattle.trace_model.specs.Send.{last_settings}
 use Rattle.trace_model.specs.Stopping.{has_failed, is_stopping, stops_by}
 use Rattle.hal_model.specs.declared.event.HalEvent.{HalEvent}
-use Rattle.hal_model.specs.declared.event.HalEvent.TheVariants.{ConfigureBegin, ConfigureOk, RequestBegin, RequestOk, FlushBegin, FlushOk, CloseBegin, CloseEnd, Shutter as HalShutter, ErrorRequest as HalErrorRequest, ErrorResult as HalErrorResult, ErrorBuffer as HalErrorBuffer, ErrorDevice as HalErrorDevice, Results}
+use Rattle.hal_model.specs.declared.event.HalEvent.TheVariants.{ConfigureBegin, ConfigureOk, RequestBegin, RequestOk, FlushBegin, FlushOk, CloseBegin, CloseEnd}
 use Rattle.hal_model.specs.declared.event.HalStream.{HalStream}
 use Rattle.hal_model.specs.declared.event.HalTarget.{HalTarget}
-use Rattle.hal_model.specs.declared.event.Pack.{Pack}
-use Rattle.hal_model.specs.declared.event.Returned.{Returned}
 use Rattle.hal_model.specs.declared.event.StreamMax.{StreamMax}
-use Rattle.hal_model.specs.Words.{before, begins_close, begins_configure, begins_flush, ends_close, ends_configure, inited, inits, is_callback, is_configured as hal_configured, is_dead, is_death, is_flushing, is_in_other_call, is_initialized, is_settings_known, is_within, most, opened, opens, streams as hal_streams, templated, templates}
-use Rattle.trace_hal.specs.Hal.{callback, called, closed_by, configured_by, flush_begun, flushes, hal, initialized, most_from, streams_from, target}
+use Rattle.hal_model.specs.Words.{before, begins_close, begins_configure, begins_flush, ends_close, ends_configure, inited, inits, is_configured as hal_configured, is_dead, is_death, is_flushing, is_in_other_call, is_initialized, is_settings_known, is_within, most, opened, opens, streams as hal_streams, templated, templates}
+use Rattle.hal_model.specs.Hal.{callback, called, closed_by, configured_by, flush_begun, flushes, hal, initialized, most_from, streams_from, target}
 use Rattle.hal_laws.proofs.Cases.{by-called, flushes_by}
-use Rattle.hal_laws.proofs.Keep.{any-append, begun-other, by-begin, callback_back, called-other, is_other}
+use Rattle.hal_laws.proofs.Keep.{any-append, begun-other, by-begin, called-other, is_other}
+use Rattle.basic_lemmas.proofs.Lists.{any-appended}
 
 -- ---- closed, configured
 
@@ -45,14 +44,6 @@ closed_any p true c hs x close flush rest = yes (p CloseEnd) (p CloseBegin) _ cl
 closed_any p false true hs x close flush rest = rw flush rest
 closed_any p false false hs x close flush rest = rest
 
-append_or : {X : Type 0} (p : X → Bool) (xs ys : List X) → list_any p (xs ++ ys) ≡ (list_any p xs || list_any p ys)
-append_or p [] ys = refl
-append_or p (x ∷ xs) ys = rw (append_or p xs ys) (again (p x) (list_any p xs) (list_any p ys))
-  where
-    again : (a b c : Bool) → (a || (b || c)) ≡ ((a || b) || c)
-    again true b c = refl
-    again false b c = refl
-
 configured_none : (p : HalEvent → Bool) (script : Script) (i : ℕ) (reply : Reply) → ((m : Option ℕ) (ss : List HalStream) → p (ConfigureBegin m ss) ≡ false) → ((ms : List StreamMax) → p (ConfigureOk ms) ≡ false) → list_any p (configured_by script i reply) ≡ false
 configured_none p script i (Configured each) h k = rw (k _, h None _) refl
 configured_none p script i _ h k = refl
@@ -64,7 +55,7 @@ pub close-begun : (script : Script) (past : List Entry) → list_any begins_clos
 close-begun script [] = refl
 close-begun script (Begin w ∷ past) = any-append begins_close (flush_begun w past) (hal script past) (begin_none begins_close w past refl) ∙ close-begun script past
 close-begun script (Call i w r ∷ past) =
-    append_or begins_close (called script past i w r) (hal script past) ∙
+    any-appended begins_close (called script past i w r) (hal script past) ∙
     rw (closed_any begins_close (accepts_word is_closing_word (Call i w r)) (flushes w past) (configured_by script i r) false refl refl (configured_none begins_close script i r (λ m ss. refl) (λ ms. refl)), close-begun script past)
     (ap (λ b. b || is_closed past) (or-false (accepts_word is_closing_word (Call i w r))))
 close-begun script (Send n r i same targets ∷ past) = close-begun script past
@@ -74,7 +65,7 @@ pub close-ended : (script : Script) (past : List Entry) → list_any ends_close 
 close-ended script [] = refl
 close-ended script (Begin w ∷ past) = any-append ends_close (flush_begun w past) (hal script past) (begin_none ends_close w past refl) ∙ close-ended script past
 close-ended script (Call i w r ∷ past) =
-    append_or ends_close (called script past i w r) (hal script past) ∙
+    any-appended ends_close (called script past i w r) (hal script past) ∙
     rw (closed_any ends_close (accepts_word is_closing_word (Call i w r)) (flushes w past) (configured_by script i r) false refl refl (configured_none ends_close script i r (λ m ss. refl) (λ ms. refl)), close-ended script past)
     (ap (λ b. b || is_closed past) (or-false (accepts_word is_closing_word (Call i w r))))
 close-ended script (Send n r i same targets ∷ past) = close-ended script past
@@ -124,48 +115,42 @@ settings-known script (e ∷ past) = settings-known script past
 
 -- ---- words that a trace's log never changes
 
--- what is so of an initialized device stays so
-abbrev pub Stays : {X : Type 0} → (List HalEvent → X) → Type 0
-Stays f = (h : HalEvent) (q : List HalEvent) → is_callback h ≡ true → f (h ∷ q) ≡ f q
+-- what an initialized device's log is told at once
+data Told : Type 0 where
+  FlushBegun : Told
+  FlushEnded : Told
+  CloseCalled : Told
+  ConfigureCalled : Option ℕ → List HalStream → List StreamMax → Told
+  RequestCalled : ℕ → Bool → List HalTarget → Told
+  CalledBack : Entry → Told
 
-pub record ReadsOn {X : Type 0} (f : List HalEvent → X) : Type 0 where
-  pub back : (h : HalEvent) (q : List HalEvent) → is_callback h ≡ true → f (h ∷ q) ≡ f q
-  pub flush : (q : List HalEvent) → f (FlushBegin ∷ q) ≡ f q
-  pub flushed : (q : List HalEvent) → f (FlushOk ∷ q) ≡ f q
-  pub close : (q : List HalEvent) → f (CloseEnd ∷ (CloseBegin ∷ q)) ≡ f q
-  pub configure : (m : Option ℕ) (ss : List HalStream) (ms : List StreamMax) (q : List HalEvent) → f (ConfigureOk ms ∷ (ConfigureBegin m ss ∷ q)) ≡ f q
-  pub request : (n : ℕ) (same a b : Bool) (ts : List HalTarget) (q : List HalEvent) → f (RequestOk n ∷ (RequestBegin n same ts a b ∷ q)) ≡ f q
+-- its events, the newest first
+abbrev told : Told → List HalEvent
+told FlushBegun = FlushBegin ∷ []
+told FlushEnded = FlushOk ∷ []
+told CloseCalled = CloseEnd ∷ (CloseBegin ∷ [])
+told (ConfigureCalled m ss ms) = ConfigureOk ms ∷ (ConfigureBegin m ss ∷ [])
+told (RequestCalled n same ts) = RequestOk n ∷ (RequestBegin n same ts false false ∷ [])
+told (CalledBack e) = option_to_list (callback e)
 
-reads_now : {X : Type 0} (f : List HalEvent → X) (e : Entry) (o : Option HalEvent) (p : List HalEvent) → ReadsOn f → callback e ≡ o → f (option_to_list o ++ p) ≡ f p
-reads_now f e None p on at = refl
-reads_now f e (Some h) p on at = on.back h p (callback_back e h at)
+-- a word that none of it changes
+abbrev ReadsOn : {X : Type 0} → (List HalEvent → X) → Type 0
+ReadsOn f = (t : Told) (q : List HalEvent) → f (told t ++ q) ≡ f q
 
 reads_on : {X : Type 0} (f : List HalEvent → X) → ReadsOn f → (script : Script) (past : List Entry) → f (hal script past) ≡ f initialized
 reads_on f on script [] = refl
-reads_on f on script (Begin w ∷ past) = begin_reads f (f initialized) w past (hal script past) on.flush (reads_on f on script past)
-reads_on f on script (Call i w (Configured each) ∷ past) = call_reads f (f initialized) (accepts_word is_closing_word (Call i w (Configured each))) (flushes w past) (configured_by script i (Configured each)) (hal script past) on.close on.flushed (on.configure None (streams_from 0 (streams_of (command_at script i))) (most_from script.profile 0 (streams_of (command_at script i))) (hal script past) ∙ reads_on f on script past)
-reads_on f on script (Call i w r ∷ past) = call_reads f (f initialized) (accepts_word is_closing_word (Call i w r)) (flushes w past) [] (hal script past) on.close on.flushed (reads_on f on script past)
-reads_on f on script (Send n r i same targets ∷ past) = on.request n.0 same false false (map target (four_list targets)) (hal script past) ∙ reads_on f on script past
-reads_on f on script (e ∷ past) = reads_now f e (callback e) (hal script past) on refl ∙ reads_on f on script past
-
-back_of : {X : Type 0} (f : List HalEvent → X) → ((n t : ℕ) (q : List HalEvent) → f (HalShutter n t ∷ q) ≡ f q) → ((n : ℕ) (q : List HalEvent) → f (HalErrorRequest n ∷ q) ≡ f q) → ((n : ℕ) (q : List HalEvent) → f (HalErrorResult n ∷ q) ≡ f q) → ((n : ℕ) (s : Option ℕ) (q : List HalEvent) → f (HalErrorBuffer n s ∷ q) ≡ f q) → ((q : List HalEvent) → f (HalErrorDevice ∷ q) ≡ f q) → ((n k : ℕ) (pack : Pack) (bs : List Returned) (input : Bool) (q : List HalEvent) → f (Results n k pack bs input ∷ q) ≡ f q) → Stays f
-back_of f a b c d e g (HalShutter n t) q h = a n t q
-back_of f a b c d e g (HalErrorRequest n) q h = b n q
-back_of f a b c d e g (HalErrorResult n) q h = c n q
-back_of f a b c d e g (HalErrorBuffer n s) q h = d n s q
-back_of f a b c d e g HalErrorDevice q h = e q
-back_of f a b c d e g (Results n k pack bs input) q h = g n k pack bs input q
-back_of f a b c d e g _ q h = absurd (false≢true h)
+reads_on f on script (Begin w ∷ past) = begin_reads f (f initialized) w past (hal script past) (λ q. on FlushBegun q) (reads_on f on script past)
+reads_on f on script (Call i w (Configured each) ∷ past) = call_reads f (f initialized) (accepts_word is_closing_word (Call i w (Configured each))) (flushes w past) (configured_by script i (Configured each)) (hal script past) (λ q. on CloseCalled q) (λ q. on FlushEnded q) (on (ConfigureCalled None (streams_from 0 (streams_of (command_at script i))) (most_from script.profile 0 (streams_of (command_at script i)))) (hal script past) ∙ reads_on f on script past)
+reads_on f on script (Call i w r ∷ past) = call_reads f (f initialized) (accepts_word is_closing_word (Call i w r)) (flushes w past) [] (hal script past) (λ q. on CloseCalled q) (λ q. on FlushEnded q) (reads_on f on script past)
+reads_on f on script (Send n r i same targets ∷ past) = on (RequestCalled n.0 same (map target (four_list targets))) (hal script past) ∙ reads_on f on script past
+reads_on f on script (e ∷ past) = on (CalledBack e) (hal script past) ∙ reads_on f on script past
 
 pub initialized-always : (script : Script) (past : List Entry) → is_initialized (hal script past) ≡ true
-initialized-always = reads_on is_initialized (record {
-  back = back_of is_initialized (λ n t q. refl) (λ n q. refl) (λ n q. refl) (λ n s q. refl) (λ q. refl) (λ n k pack bs input q. refl);
-  flush = λ q. refl;
-  flushed = λ q. refl;
-  close = λ q. refl;
-  configure = λ m ss ms q. refl;
-  request = λ n same a b ts q. refl;
-})
+initialized-always = reads_on is_initialized on
+  where
+    on : ReadsOn is_initialized
+    on (CalledBack (Shutter n t)) q = refl
+    on _ q = refl
 
 pub flushes-kept : (o : Option Word) (p q : List Entry) → is_closed p ≡ is_closed q → has_failed p ≡ has_failed q → is_configured p ≡ is_configured q → flushes_by o p ≡ flushes_by o q
 flushes-kept None p q a b c = refl
@@ -178,13 +163,6 @@ stops_flush None past h = refl
 stops_flush (Some WordFlush) past h = absurd (false≢true (sym h))
 stops_flush (Some WordDisconnect) past h = absurd (false≢true (sym h))
 stops_flush (Some _) past h = refl
-
-pub flush-stops : (o : Option Word) (past : List Entry) → flushes_by o past ≡ true → stops_by o ≡ true
-flush-stops o past h =
-    elim (cases_Bool (stops_by o)) [
-      | inl yes' ↦ yes'
-      | inr no' ↦ absurd (false≢true (sym (stops_flush o past no') ∙ h))
-    ]
 
 begin_fresh : (past : List Entry) (o : Option Command) (w : Word) → begin_of past o ≡ Some (Begin w) → is_some (begun past) ≡ false
 begin_fresh past None w h = absurd (cc)
@@ -213,45 +191,31 @@ flushing-reads script (ErrorDevice ∷ past) legal =
     flushing-reads script past legal.1 ∙ (stops_flush (begun past) past stops ∙ sym (stops_flush (begun past) (ErrorDevice ∷ past) stops))
 flushing-reads script (e ∷ past) legal = flushing-reads script past legal.1 ∙ flushes-kept (begun past) past (e ∷ past) refl refl refl
 
--- nothing is sent, exposed or configured while a flush runs
-pub stops-when-flushing : (script : Script) (past : List Entry) → IsLegal script past → is_stopping past ≡ false → is_flushing (hal script past) ≡ false
-stops-when-flushing script past legal going =
-    flushing-reads script past legal ∙ stops_flush (begun past) past (or_parts (stops_by (begun past)) (has_failed past) going).0
-
 -- ---- no other call is out
 
 within_initialized : (b e : HalEvent → Bool) → is_within b e initialized ≡ false → ReadsOn (is_within b e) → (script : Script) (past : List Entry) → is_within b e (hal script past) ≡ false
 within_initialized b e init on script past = reads_on (is_within b e) on script past ∙ init
 
 pub opening : (script : Script) (past : List Entry) → is_within opens opened (hal script past) ≡ false
-opening = within_initialized opens opened refl (record {
-  back = back_of (is_within opens opened) (λ n t q. refl) (λ n q. refl) (λ n q. refl) (λ n s q. refl) (λ q. refl) (λ n k pack bs input q. refl);
-  flush = λ q. refl;
-  flushed = λ q. refl;
-  close = λ q. refl;
-  configure = λ m ss ms q. refl;
-  request = λ n same a b ts q. refl;
-})
+opening = within_initialized opens opened refl on
+  where
+    on : ReadsOn (is_within opens opened)
+    on (CalledBack (Shutter n t)) q = refl
+    on _ q = refl
 
 pub initing : (script : Script) (past : List Entry) → is_within inits inited (hal script past) ≡ false
-initing = within_initialized inits inited refl (record {
-  back = back_of (is_within inits inited) (λ n t q. refl) (λ n q. refl) (λ n q. refl) (λ n s q. refl) (λ q. refl) (λ n k pack bs input q. refl);
-  flush = λ q. refl;
-  flushed = λ q. refl;
-  close = λ q. refl;
-  configure = λ m ss ms q. refl;
-  request = λ n same a b ts q. refl;
-})
+initing = within_initialized inits inited refl on
+  where
+    on : ReadsOn (is_within inits inited)
+    on (CalledBack (Shutter n t)) q = refl
+    on _ q = refl
 
 pub templating : (script : Script) (past : List Entry) → is_within templates templated (hal script past) ≡ false
-templating = within_initialized templates templated refl (record {
-  back = back_of (is_within templates templated) (λ n t q. refl) (λ n q. refl) (λ n q. refl) (λ n s q. refl) (λ q. refl) (λ n k pack bs input q. refl);
-  flush = λ q. refl;
-  flushed = λ q. refl;
-  close = λ q. refl;
-  configure = λ m ss ms q. refl;
-  request = λ n same a b ts q. refl;
-})
+templating = within_initialized templates templated refl on
+  where
+    on : ReadsOn (is_within templates templated)
+    on (CalledBack (Shutter n t)) q = refl
+    on _ q = refl
 
 pub configuring : (script : Script) (past : List Entry) → is_within begins_configure ends_configure (hal script past) ≡ false
 configuring script [] = refl
@@ -302,9 +266,6 @@ dead-reads script (Send n r i same targets ∷ past) = dead-reads script past
 dead-reads script (ErrorDevice ∷ past) = refl
 dead-reads script (e ∷ past) = dead-reads script past
 
-pub begin-not-flushing : (script : Script) (past : List Entry) (w : Word) → IsLegal script (Begin w ∷ past) → is_flushing (hal script past) ≡ false
-begin-not-flushing script past w legal = flushing-reads script past legal.1 ∙ none_flushes (begun past) past (begin_fresh past (next_command script past) w legal.0)
-
 pub flushes-sound : (w : Word) (past : List Entry) → flushes w past ≡ true → has_failed past ≡ false
 flushes-sound WordFlush past h = not-true (has_failed past) (and_parts (not (has_failed past)) (is_configured past) (and_parts (not (is_closed past)) (not (has_failed past) && is_configured past) h).1).0
 flushes-sound WordDisconnect past h = not-true (has_failed past) (and_parts (not (is_closed past)) (not (has_failed past)) h).1
@@ -329,9 +290,3 @@ dead-before b [] h = refl
 dead-before b (x ∷ hs) h =
     let parts = or_parts (is_death x hs) (is_dead hs) h in
     elim (cases_Bool (b x)) [ inl here ↦ rw here parts.1 | inr other ↦ rw other (dead-before b hs parts.1) ]
-
-pub any-before : (p b : HalEvent → Bool) (hs : List HalEvent) → list_any p hs ≡ false → list_any p (before b hs) ≡ false
-any-before p b [] h = refl
-any-before p b (x ∷ hs) h =
-    let parts = or_parts (p x) (list_any p hs) h in
-    elim (cases_Bool (b x)) [ inl here ↦ rw here parts.1 | inr other ↦ rw other (any-before p b hs parts.1) ]

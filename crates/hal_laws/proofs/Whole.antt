@@ -17,7 +17,7 @@ use Rattle.hal_model.specs.Callbacks.{ends_again, heard, names_idle}
 use Rattle.hal_model.specs.Words.{is_callback, is_open_ok, session}
 use Rattle.hal_model.specs.declared.event.HalEvent.TheVariants.{OpenBegin, OpenOk, InitBegin, InitOk}
 use Rattle.trace_model.specs.declared.entry.Entry.TheVariants.{Begin, Call, Send}
-use Rattle.trace_hal.specs.Hal.{callback, called, events, flush_begun, hal, whole_log}
+use Rattle.hal_model.specs.Hal.{callback, called, events, flush_begun, hal, whole_log}
 use Rattle.hal_laws.proofs.Keep.{begun-other, callback_back, called-other, is_other, none_passes}
 use Rattle.hal_laws.specs.Keeping.{KeepsHeader, KeepsStrictly, KeepsTheRest, LeavesNothing, ReportsNothing, is_of_failure, is_unkept}
 use Rattle.hal_laws.proofs.Alone.{acquire_fence_kept, empty_result_kept, error_beside_kept, metadata_failed_kept, metadata_order_kept, partial_number_kept, partial_twice_kept, request_error_kept, shutter_failed_kept, shutter_twice_kept}
@@ -130,56 +130,7 @@ agrees-append rule (h ∷ hs) log none agrees =
 
 opening_keeps : (rule : Rule) → keeps 3 (OpenOk ∷ opening_log) rule ≡ true
 opening_keeps InitOrder = refl
-opening_keeps InitTwice = refl
-opening_keeps NoConfiguration = refl
-opening_keeps NoOutput = refl
-opening_keeps NoSettings = refl
-opening_keeps TwoInputs = refl
-opening_keeps ConfigureInFlight = refl
-opening_keeps OverlappingCalls = refl
-opening_keeps CallAfterClose = refl
-opening_keeps FrameNumber = refl
-opening_keeps HeldBuffer = refl
-opening_keeps RepeatedStream = refl
-opening_keeps TooManyBuffers = refl
-opening_keeps UnknownStream = refl
-opening_keeps AcceptedBeforeInit = refl
-opening_keeps AcceptedInitTwice = refl
-opening_keeps AcceptedDead = refl
-opening_keeps AcceptedNoOutput = refl
-opening_keeps AcceptedTwoInputs = refl
-opening_keeps AcceptedNoSettings = refl
-opening_keeps AcceptedUnknownStream = refl
-opening_keeps NoMaxBuffers = refl
-opening_keeps RefusedRequest = refl
-opening_keeps RefusedAfterCallback = refl
-opening_keeps UnknownFrame = refl
-opening_keeps CallbackAfterClose = refl
-opening_keeps CallbackAfterFailure = refl
-opening_keeps FailedWithFrames = refl
-opening_keeps ShutterTwice = refl
-opening_keeps ShutterAfterRequestError = refl
-opening_keeps EmptyResult = refl
-opening_keeps PartialNumber = refl
-opening_keeps PartialTwice = refl
-opening_keeps MetadataAfterRequestError = refl
-opening_keeps MetadataOrder = refl
-opening_keeps NotAtDevice = refl
-opening_keeps BufferStatus = refl
-opening_keeps BufferOrder = refl
-opening_keeps FailedBufferOrder = refl
-opening_keeps GoodAfterError = refl
-opening_keeps AcquireFence = refl
-opening_keeps ReleaseFence = refl
-opening_keeps ErrorTwice = refl
-opening_keeps ErrorBesideRequestError = refl
-opening_keeps RequestErrorLate = refl
-opening_keeps ErrorForGoodBuffer = refl
-opening_keeps ErrorUnknownStream = refl
-opening_keeps FlushLeft = refl
-opening_keeps CloseLeft = refl
-opening_keeps FailedWithoutNotice = refl
-opening_keeps NoShutter = refl
+opening_keeps _ = refl
 
 now_opened : (e : Entry) (o : Option HalEvent) → callback e ≡ o → list_any is_open_ok (option_to_list o) ≡ false
 now_opened e None at = refl

@@ -5,15 +5,14 @@ use Rattle.std.specs.List.{list_all}
 use Rattle.std.proofs.lemmas.Bool.{and_parts, and_from, leb-true, le-ltb, ltb-true}
 use Rattle.std.proofs.lemmas.List.{append-nil, length-map}
 use Rattle.std.proofs.lemmas.List.Folds.{list_all-append}
-use Rattle.hal_model.specs.declared.event.HalError.{HalError}
 use Rattle.hal_model.specs.declared.event.HalEvent.{HalEvent}
 use Rattle.hal_model.specs.declared.event.HalEvent.TheVariants.{OpenBegin, OpenOk, OpenError, InitBegin, InitOk, InitError, TemplateBegin, TemplateOk, TemplateNull, ConfigureBegin, ConfigureOk, ConfigureError, RequestBegin, RequestOk, RequestError, Shutter, ErrorRequest, ErrorResult, ErrorBuffer, ErrorDevice, Results, FlushBegin, FlushOk, FlushError, CloseBegin, CloseEnd}
 use Rattle.hal_model.specs.declared.event.HalStream.{HalStream}
 use Rattle.hal_model.specs.declared.event.StreamMax.{StreamMax}
 use Rattle.hal_model.specs.declared.event.Pack.{Pack}
 use Rattle.hal_model.specs.declared.event.Pack.TheVariants as pack
-use Rattle.hal_spelling.specs.Fits.{error_fits, few, is_max_typed, is_returned_typed, is_small, is_small_or_none, is_stream_typed, is_target_typed, is_typed, is_well_made}
-use Rattle.hal_spelling.specs.Spelling.{error_text, event_words, mark_words, max_text, mode_words, number_or, pack_text, returned_text, settings_text, stream_text, target_text}
+use Rattle.hal_spelling.specs.Fits.{few, is_max_typed, is_returned_typed, is_small, is_small_or_none, is_stream_typed, is_target_typed, is_typed, is_well_made}
+use Rattle.hal_spelling.specs.Spelling.{event_words, mark_words, max_text, mode_words, number_or, pack_text, returned_text, settings_text, stream_text, target_text}
 use Rattle.hal_lines.specs.declared.cause.Cause.{Cause}
 use Rattle.hal_lines.specs.declared.kind.Ending.TheVariants as ending
 use Rattle.hal_lines.specs.Lines.{asked_streams, before_marks, close_of, configure_end, configure_of, each, ending_of, event_in, event_of, flaws_of, from_marks, given_streams, input_of, is_mark, kind_of, list_of, notice_of, request_of, result_of, stage_of, streams_of, template_stage, event_by_words}
@@ -153,16 +152,8 @@ input-from : (b : Bool) → from_marks (mark_words b (codes "input")) ≡ mark_w
 input-from true = refl
 input-from false = refl
 
-ending-again : (error : HalError) → error_fits error ≡ true → ending_of (codes "error" ∷ error_text error ∷ []) ≡ Ok (ending.Error error)
-unfolding ending_of
-ending-again error h = rw (error-again error h) refl
-
 buffer-again : (s : Option ℕ) → is_small_or_none s ≡ true → buffer_of (codes "buffer:" ++ number_or (codes "?") s) ≡ Ok s
 buffer-again s h = rw (in-two-again 58 (codes "buffer") (number_or (codes "?") s) refl (or-avoids 58 (codes "?") s refl refl h), known-again s h) refl
-
--- the word of a buffer's error is none of the others
-buffer-other : (s : Option ℕ) → (bytes_eq (codes "buffer:" ++ number_or (codes "?") s) (codes "request") ≡ false) × (bytes_eq (codes "buffer:" ++ number_or (codes "?") s) (codes "result") ≡ false)
-buffer-other s = (refl, refl)
 
 pub event-again : (e : HalEvent) → is_well_made e ≡ true → is_typed e ≡ true → event_by_words (event_words e) ≡ Ok e
 unfolding event_of event_in kind_of stage_of ending_of close_of template_stage configure_of configure_end request_of notice_of result_of

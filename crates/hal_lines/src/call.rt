@@ -14,9 +14,8 @@ use crate::value::{both, error_of, settings_of, small};
 use crate::word::mode_of;
 use cam_types::Listing;
 use hal_model::HalEvent;
-use line_reading::is_end;
 use std::alloc::Global;
-use text_parts::next_loose_word;
+use text_parts::{is_end, next_loose_word};
 
 /// How a call ends, behind `end`.
 #[tactic(auto, unfolding(crate::specs::Lines::ending_of))]

@@ -11,9 +11,8 @@ use crate::list::{input_of, list_of};
 use crate::value::{both, large, pack_of, small};
 use crate::word::buffer_of;
 use hal_model::HalEvent;
-use line_reading::is_end;
 use std::alloc::Global;
-use text_parts::next_loose_word;
+use text_parts::{is_end, next_loose_word};
 
 /// The line of a shutter.
 pub fn shutter_of(words: &[u8]) -> Result<HalEvent, Cause>

@@ -12,9 +12,8 @@ use crate::cause::{Cause, LineRefused};
 use crate::kind::Kind;
 use crate::value::count;
 use hal_model::HalEvent;
-use line_reading::is_end;
 use std::alloc::Global;
-use text_parts::next_loose_word;
+use text_parts::{is_end, next_loose_word};
 
 /// The kind of a line, by its first word.
 #[tactic(auto, unfolding(crate::specs::Lines::kind_of))]

@@ -8,9 +8,8 @@ ghost use Rattle.hal_lines.specs.Lines.{are_read, before_marks, each, flaws_of, 
 use crate::cause::Cause;
 use crate::word::Word;
 use cam_types::{Listing, NoMemory};
-use line_reading::is_end;
 use std::alloc::Global;
-use text_parts::next_loose_word;
+use text_parts::{is_end, next_loose_word};
 
 /// The most words of a list.
 const WORD_LIMIT: usize = 16;

@@ -12,7 +12,7 @@ use Rattle.hal_model.specs.declared.rule.Rule.{Rule}
 use Rattle.hal_model.specs.declared.rule.Rule.TheVariants as rule
 use Rattle.hal_model.specs.Device.{is_said}
 use Rattle.hal_model.specs.Rules.{frame_in}
-use Rattle.hal_model.specs.Words.{accepts_from, begins, begins_close, begins_configure, begins_flush, begins_request, configures, ends_close, ends_configure, gives_something, inits, is_any, is_begin, is_callback, is_error_buffer, is_error_device, is_error_in, is_error_request, is_error_result, is_failed_buffer, is_filled, is_init_ok, is_no_device, is_number, is_open_ok, is_part, is_same_number, is_shutter, templates}
+use Rattle.hal_model.specs.Words.{accepts_from, begins, begins_close, begins_configure, begins_flush, begins_request, configures, ends_close, ends_configure, gives_something, inits, is_begin, is_callback, is_error_buffer, is_error_device, is_error_in, is_error_request, is_error_result, is_failed_buffer, is_filled, is_init_ok, is_no_device, is_number, is_open_ok, is_part, is_same_number, is_shutter, templates}
 use Rattle.hal_person.specs.declared.clue.Clue.{Clue}
 use Rattle.hal_person.specs.declared.clue.Clue.TheVariants.{Session, Frame}
 use Rattle.hal_person.specs.declared.clue.FrameClue.{FrameClue}

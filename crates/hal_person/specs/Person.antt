@@ -12,7 +12,7 @@ use Rattle.hal_person.specs.Sum.{is_same_rule, sum_text}
 use Rattle.hal_person.specs.declared.clue.Clue.{Clue}
 use Rattle.hal_person.specs.declared.clue.Clue.TheVariants.{Session}
 use Rattle.hal_person.specs.declared.clue.SessionClue.TheVariants as session
-use Rattle.hal_report.specs.Plain.{side_text}
+use Rattle.hal_text.specs.Plain.{side_text}
 use Rattle.hal_spelling.specs.Spelling.{event_line}
 use Rattle.hal_text.specs.declared.log.HalLog.{HalLog}
 

@@ -9,7 +9,7 @@ use Rattle.hal_model.specs.declared.rule.Breach.{Breach}
 use Rattle.hal_model.specs.declared.rule.Rule.{Rule}
 use Rattle.hal_model.specs.declared.rule.Side.{Side}
 use Rattle.hal_model.specs.declared.rule.Side.TheVariants.{Framework, Device}
-use Rattle.hal_report.specs.Plain.{side_text}
+use Rattle.hal_text.specs.Plain.{side_text}
 
 -- rules of one name are one
 abbrev pub is_same_rule : Rule → Rule → Bool

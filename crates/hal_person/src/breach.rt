@@ -10,9 +10,8 @@ use crate::sentence::sentence_of;
 use crate::sum::is_same_rule;
 use cam_types::NoMemory;
 use hal_model::{Breach, HalEvent, Rule};
-use hal_report::side_text;
 use hal_spelling::write_event;
-use hal_text::HalLog;
+use hal_text::{HalLog, side_text};
 
 /// Writes the line of an event behind its number.
 #[tactic(auto, unfolding(crate::specs::Person::line_of))]

@@ -6,8 +6,8 @@ ghost use Rattle.hal_person.specs.Clues.{brings, ends_request, gives_for, has_pa
 
 use crate::clue::{Clue, FrameClue, SessionClue, Which};
 use hal_model::{HalEvent, HalTarget, Pack, Returned};
-use hal_words::buffer::{is_failed_buffer, is_filled};
-use hal_words::word::{
+use hal_row::buffer::{is_failed_buffer, is_filled};
+use hal_row::word::{
     begins_close, begins_configure, begins_flush, begins_request, configures, ends_close,
     ends_configure, gives_something, inits, is_error_buffer, is_error_device, is_error_in,
     is_error_request, is_error_result, is_init_ok, is_no_device, is_open_ok, is_part, is_said,

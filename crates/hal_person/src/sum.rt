@@ -6,7 +6,7 @@ ghost use Rattle.hal_person.specs.Sum.{breaches_sum, by_side, counted, is_accept
 
 use cam_types::NoMemory;
 use hal_model::{Breach, HalEvent, Rule, Side};
-use hal_report::side_text;
+use hal_text::side_text;
 use std::alloc::Global;
 
 /// Whether two rules are one.

@@ -7,14 +7,14 @@ ghost use Rattle.hal_rows.specs.Row.{fresh_row, is_flush_ok, is_row_complete, is
 use crate::target::{
     fresh_parts, fresh_targets, has_number, note_notices, note_parts, note_targets,
 };
-use cam_types::{Listing, NoMemory};
-use hal_model::{HalEvent, HalTarget};
-use hal_rows::{PartRow, Row, TargetRow};
-use hal_words::word::{
+use crate::word::{
     accepts, begins_flush, gives_something, is_entered, is_error_buffer, is_error_in,
     is_error_request, is_error_result, is_last_empty, is_last_part, is_part, is_point, is_said,
     is_shutter, refuses, stands,
 };
+use cam_types::{Listing, NoMemory};
+use hal_model::{HalEvent, HalTarget};
+use hal_rows::{PartRow, Row, TargetRow};
 use std::alloc::Global;
 
 // ---- what a row says

@@ -4,12 +4,12 @@ ghost use Rattle.hal_model.specs.Words.{numbers};
 ghost use Rattle.hal_rows.specs.Row.{fresh_part, fresh_target, note_notice, note_part, note_target, with_number, has_number};
 ghost use Rattle.hal_row.specs.Given.{buffers_of, is_entries, notice_in, part_in, with_buffers, with_part};
 
+use crate::buffer::{
+    is_back, is_back_failed, is_back_filled, is_back_good, is_back_orderly, is_back_other,
+};
 use cam_types::{Listing, NoMemory};
 use hal_model::{HalEvent, HalTarget, Pack, Returned};
 use hal_rows::{PartRow, TargetRow};
-use hal_words::buffer::{
-    is_back, is_back_failed, is_back_filled, is_back_good, is_back_orderly, is_back_other,
-};
 use std::alloc::{AllocError, Global};
 
 // ---- targets

@@ -1,7 +1,7 @@
 -- The rules of calls, read of the state.
 use Rattle.std.proofs.Common.{◌≡◌, ℕ, ◌==◌, ◌+◌, Bool, ◌&&◌, ◌||◌, not, List, [], ◌∷◌, Some, refl, sym, ap, find, map, count_by}
 use Rattle.std.specs.List.{list_any}
-use Rattle.basic_lemmas.proofs.Lists.{any-mapped}
+use Rattle.basic_lemmas.proofs.Lists.{any-mapped, any-agree}
 use Rattle.hal_model.specs.declared.event.HalEvent.{HalEvent}
 use Rattle.hal_model.specs.declared.event.HalEvent.TheVariants.{OpenBegin, InitBegin, InitOk, TemplateOk, ConfigureBegin, ConfigureOk, RequestBegin, RequestOk, RequestError, ErrorDevice, FlushOk, CloseBegin, CloseEnd}
 use Rattle.hal_model.specs.declared.event.HalTarget.{HalTarget}
@@ -14,7 +14,7 @@ use Rattle.hal_rows.specs.Laws.{IsHeard}
 use Rattle.hal_rows.specs.Row.{target_row}
 use Rattle.hal_rows.specs.State.{hal_state}
 use Rattle.hal_rows.proofs.Found.{any-rows}
-use Rattle.hal_rows.proofs.Noted.{above_top, any-agree}
+use Rattle.hal_rows.proofs.Noted.{above_top}
 use Rattle.hal_rows.proofs.Words.{called-from-reads, held-counts, held-reads, in-flight-gone, in-flight-reads, left-gone, left-reads, of-called, outstanding-some, requesting-reads, silent-gone, silent-reads, unlit-gone, unlit-reads}
 
 -- ---- the framework

@@ -27,13 +27,7 @@ use Rattle.hal_rows.proofs.Rows.{frames-begun}
 use Rattle.hal_rows.proofs.Spoken.{astray-reads, disorderly, overtaken, wrongly-fenced, wrongly-filled}
 use Rattle.hal_rows.proofs.Stays.{called-live}
 use Rattle.hal_rows.proofs.Words.{in-flight-gone, in-flight-reads, left-gone, left-reads, outstanding-live, outstanding-reads, silent-gone, silent-reads, unlit-gone, unlit-reads}
-
-filter-agree : {X : Type 0} (p q : X → Bool) (xs : List X) → ((x : X) → p x ≡ q x) → filter p xs ≡ filter q xs
-filter-agree p q [] same = refl
-filter-agree p q (x ∷ xs) same = by (p x) (q x) (same x) (filter-agree p q xs same)
-  where
-    by : (a b : Bool) → a ≡ b → filter p xs ≡ filter q xs → (if a then x ∷ filter p xs else filter p xs) ≡ (if b then x ∷ filter q xs else filter q xs)
-    by a b h ih = rw (h, ih) refl
+use Rattle.basic_lemmas.proofs.Lists.{filter-agree}
 
 -- of the targets those that pass, and of their rows
 target-faults : (n : ℕ) (past : List HalEvent) (p : HalTarget → Bool) (q : TargetRow → Bool) (ts : List HalTarget) → ((t : HalTarget) → p t ≡ q (target_row n past t)) → at_targets n (filter p ts) ≡ at_target_rows n (filter q (map (target_row n past) ts))

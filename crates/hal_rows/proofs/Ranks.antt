@@ -26,14 +26,6 @@ rank-below n (RequestBegin m same ts a b ∷ past) h =
     more a b h = grind (arith, nat_tests)
 rank-below n (e ∷ past) h = rank-below n past h
 
-none-since : (n : ℕ) (past : List HalEvent) → stands n (begins n) past ≡ false
-none-since n [] = refl
-none-since n (e ∷ past) = by (begins n e) refl (none-since n past)
-  where
-    by : (b : Bool) → begins n e ≡ b → stands n (begins n) past ≡ false → list_any (begins n) (if b then [] else e ∷ since n past) ≡ false
-    by true here ih = refl
-    by false other ih = rw other ih
-
 -- nothing was begun behind n that wasn't begun
 pub never : (n m : ℕ) (past : List HalEvent) → is_begun m past ≡ false → stands n (begins m) past ≡ false
 never n m [] h = refl

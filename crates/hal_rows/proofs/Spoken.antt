@@ -2,7 +2,7 @@
 use Rattle.std.proofs.Common.{◌≡◌, ℕ, ◌==◌, Bool, true, false, ◌&&◌, ◌||◌, not, List, [], ◌∷◌, Option, Some, None, refl, sym, ap, ◌∙◌, inl, inr, map, nat_le, nat_lt, if◌then◌else◌}
 use Rattle.std.specs.List.{list_any}
 use Rattle.std.proofs.lemmas.Bool.{cases_Bool}
-use Rattle.basic_lemmas.proofs.Lists.{any-mapped, any-or}
+use Rattle.basic_lemmas.proofs.Lists.{any-mapped, any-or, any-agree}
 use Rattle.hal_model.specs.declared.event.HalEvent.{HalEvent}
 use Rattle.hal_model.specs.declared.event.HalEvent.TheVariants.{RequestOk, RequestError, Shutter, ErrorRequest, ErrorResult, ErrorBuffer, Results}
 use Rattle.hal_model.specs.declared.event.Pack.TheVariants.{Entries, Empty, Absent}
@@ -16,7 +16,7 @@ use Rattle.hal_rows.specs.declared.order.Order.TheVariants.{Sound}
 use Rattle.hal_rows.specs.State.{hal_state, has_filled, has_orderly, has_other, has_sound, later_at}
 use Rattle.hal_rows.proofs.Brought.{filled-own, orderly-own, other-own, sound-own}
 use Rattle.hal_rows.proofs.Later.{later-reads, live-begun}
-use Rattle.hal_rows.proofs.Noted.{above_top, any-agree, noticed}
+use Rattle.hal_rows.proofs.Noted.{above_top, noticed}
 use Rattle.hal_rows.proofs.Words.{called-is, live-is, of-live, part-reads}
 
 -- ---- who is named

@@ -7,14 +7,14 @@ use Rattle.hal_model.specs.declared.event.HalTarget.{HalTarget}
 use Rattle.hal_model.specs.Words.{begins_request}
 use Rattle.hal_rows.specs.declared.row.Row.{Row}
 use Rattle.hal_rows.specs.declared.order.Order.{Order}
-use Rattle.hal_rows.specs.Row.{fresh_row, is_row_in_call, is_row_live, note_rows}
+use Rattle.hal_rows.specs.Row.{note_rows}
 use Rattle.hal_rows.specs.declared.device.Device.{Device}
 use Rattle.hal_rows.specs.Device.{device_of, note_device}
 use Rattle.hal_rows.specs.Noting.{first_state, noted, rows_after}
 use Rattle.hal_rows.specs.State.{HalState, brings, raised, settled}
-use Rattle.hal_tops.specs.declared.order.Tops.{Tops}
-use Rattle.hal_tops.specs.Settled.{IsTopped}
-use Rattle.hal_tops.specs.Raised.{top_in}
+use Rattle.hal_row.specs.declared.order.Tops.{Tops}
+use Rattle.hal_row.specs.Settled.{IsTopped}
+use Rattle.hal_row.specs.Raised.{top_in}
 use std.Path.{fun_ext}
 
 same-top : (k : ℕ) (e : HalEvent) (d : Device) (each : List Row) (old new : Tops) → IsTopped (settled k d.flush.out e each) old new → (λ order. raised (brings order) (settled k d.flush.out e each) (top_in old order)) ≡ top_in new
@@ -34,10 +34,3 @@ rows_other k _ s other = refl
 -- before anything is known
 pub first_read : (k : ℕ) (d : Device) (each : List Row) (tops : Tops) → d ≡ device_of [] → each ≡ [] → ((order : Order) → top_in tops order ≡ 0) → record { device = d; rows = each; top = top_in tops } ≡ first_state k
 first_read k d each tops device rows none = rw (device, rows, fun_ext none) refl
-
--- the row of a request that begins is that of one in call, which is live
-pub fresh_live : (k n rank : ℕ) (targets : List HalTarget) (same initialized dead excused : Bool) → is_row_live (fresh_row k n rank targets same initialized dead excused) ≡ true
-fresh_live k n rank targets same initialized dead excused = refl
-
-pub fresh_called : (k n rank : ℕ) (targets : List HalTarget) (same initialized dead excused : Bool) → is_row_in_call (fresh_row k n rank targets same initialized dead excused) ≡ true
-fresh_called k n rank targets same initialized dead excused = refl

@@ -6,13 +6,13 @@ ghost use Rattle.hal_table.specs.Devices.{call_after};
 
 use cam_types::{Listing, NoMemory};
 use hal_model::{HalEvent, HalStream, StreamMax};
-use hal_rows::{Call, Device};
-use hal_tops::above;
-use hal_words::word::{
+use hal_row::above;
+use hal_row::word::{
     begins_close, begins_configure, begins_flush, begins_request, configures, ends_close,
     ends_configure, ends_flush, inited, inits, is_error_device, is_init_ok, is_no_device, opened,
     opens, stands, templated, templates,
 };
+use hal_rows::{Call, Device};
 use std::alloc::{AllocError, Global};
 
 // ---- calls

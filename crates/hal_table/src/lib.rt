@@ -3,6 +3,10 @@
 #![tactic(auto)]
 
 mod device;
+mod held;
+mod index;
+mod rows;
 mod table;
 
+pub use rows::LiveRows;
 pub use table::HalTable;

@@ -7,17 +7,17 @@ ghost use Rattle.hal_rows.specs.declared.row.Row.{Row as ARow};
 ghost use Rattle.hal_rows.specs.Judged.{ends_again_at, excused_at, held_count_at, is_held_at, is_requesting_at, is_row, is_row_called_from, names_idle_at, of_called, of_live};
 ghost use Rattle.hal_rows.specs.Noting.{first_state, is_stray_at, next_state, noted};
 ghost use Rattle.hal_rows.specs.Row.{fresh_row, row_for, rows_but};
-ghost use Rattle.hal_tops.specs.Settled.{IsTopped};
+ghost use Rattle.hal_row.specs.Settled.{IsTopped};
 ghost use Rattle.hal_table.specs.State.{state_of};
 
+use crate::LiveRows;
 use crate::device::{new_device, note_device};
 use cam_types::{Listing, NoMemory};
-use hal_live::LiveRows;
 use hal_model::{HalEvent, HalTarget};
 use hal_row::row::{Start, fresh_row, is_in_call};
+use hal_row::word::is_open_ok;
+use hal_row::{Tops, raise_found};
 use hal_rows::{Device, Order, Row};
-use hal_tops::{Tops, raise_found};
-use hal_words::word::is_open_ok;
 use lru::Iter;
 use std::alloc::Global;
 

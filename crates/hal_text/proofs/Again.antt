@@ -13,7 +13,7 @@ use Rattle.hal_lines.specs.Lines.{count_of, event_by_words}
 use Rattle.hal_text.specs.Meaning.{added, after, after_line, after_words, empty_log, log_from, log_of, said, text_limit}
 use Rattle.hal_lines.specs.Values.{◌>>=◌}
 use Rattle.hal_lines.proofs.AgainLines.{event-again, event-are-words}
-use Rattle.line_reading.specs.Lines.{is_printable}
+use Rattle.text_parts.specs.LineReading.{is_printable}
 use Rattle.text_parts.specs.Lines.{line_text, lines_of}
 use Rattle.text_parts.specs.Words.{is_plain, is_word}
 use Rattle.text_parts.proofs.Joined.{line-all, line-text-cut, loose-words-again}

@@ -1,3 +1,4 @@
 pub mod Drafts
 pub mod Again
 pub mod Told
+mod Places

@@ -13,7 +13,7 @@ use Rattle.hal_lines.specs.Lines.{count_of, event_of, event_by_words}
 use Rattle.hal_text.specs.Meaning.{added, after, after_line, after_words, at_line, empty_log, log_from, log_of}
 use Rattle.hal_text.specs.Told.{IsTold, line_at}
 use Rattle.hal_lines.specs.Values.{◌>>=◌}
-use Rattle.line_reading.specs.Lines.{is_comment, is_printable}
+use Rattle.text_parts.specs.LineReading.{is_comment, is_printable}
 use Rattle.text_parts.specs.Lines.{lines_of}
 use Rattle.text_parts.specs.Words.{loose_words}
 

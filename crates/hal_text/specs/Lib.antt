@@ -4,3 +4,4 @@ pub mod Reader
 pub mod Refusal
 pub mod Told
 pub mod Drafts
+pub mod Plain

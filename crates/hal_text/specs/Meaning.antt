@@ -10,7 +10,7 @@ use Rattle.hal_text.specs.declared.refused.LogRefused.TheVariants.{Bad}
 use Rattle.hal_text.specs.declared.log.HalLog.{HalLog}
 use Rattle.hal_lines.specs.Lines.{count_of, event_of}
 use Rattle.hal_lines.specs.Values.{◌>>=◌}
-use Rattle.line_reading.specs.Lines.{is_comment, is_printable}
+use Rattle.text_parts.specs.LineReading.{is_comment, is_printable}
 use Rattle.text_parts.specs.Lines.{lines_of}
 use Rattle.text_parts.specs.Words.{loose_words}
 

@@ -15,9 +15,8 @@ use crate::refused::{LogRefused, refused};
 use cam_types::Listing;
 use hal_lines::{Cause, LineRefused, count_of, event_of};
 use hal_model::HalEvent;
-use line_reading::is_printable;
 use std::alloc::Global;
-use text_parts::{next_loose_word, split_line};
+use text_parts::{is_printable, next_loose_word, split_line};
 
 /// The most bytes of a text.
 pub const HAL_BYTES: usize = 134_217_728;

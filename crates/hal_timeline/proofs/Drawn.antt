@@ -6,8 +6,8 @@ use Rattle.std.proofs.lemmas.List.{reverse-append}
 use Rattle.std.proofs.lemmas.Bool.Decides.{nat_tests}
 use Rattle.hal_model.specs.declared.event.HalEvent.{HalEvent}
 use Rattle.hal_model.specs.declared.rule.Breach.{Breach}
-use Rattle.timeline_chart.specs.declared.chart.Group.{Group}
-use Rattle.timeline_chart.specs.declared.chart.Piece.{Piece}
+use Rattle.timeline_model.specs.declared.chart.Group.{Group}
+use Rattle.timeline_model.specs.declared.chart.Piece.{Piece}
 use Rattle.hal_timeline.specs.Groups.{all_groups, group_of, is_broken, is_changed, is_some_breach, live_count, number_at, shown_event}
 use Rattle.hal_timeline.specs.Pieces.{pieces_of}
 use Rattle.hal_timeline.specs.Walks.{Standing, calls, is_stopping, standing}
@@ -38,9 +38,6 @@ pub turned_item : (es : List HalEvent) (i : ℕ) (e : HalEvent) → i < length e
 turned_item es i e l item =
     let n : i + 1 ≡ suc i = omega arith in
     (rw (n, take-suc es i e l) (reverse-append (take i es) (get_or es i e ∷ []))) ∙ ap (λ (x : HalEvent). x ∷ reverse (take i es)) (sym item)
-
-pub long_turned : (es : List HalEvent) (i : ℕ) → i < length es → length (reverse (take i es)) ≡ i
-long_turned es i l = grind (arith, common_steps)
 
 pub drawn_more : (k : ℕ) (lines : List ℕ) (past longer : List HalEvent) (e : HalEvent) (group : Group) (old new : List Group) → longer ≡ e ∷ past → group ≡ group_of k lines e past → old ≡ all_groups k lines past → new ≡ old ++ group ∷ [] → new ≡ all_groups k lines longer
 drawn_more k lines past longer e group old new more drawn before pushed =

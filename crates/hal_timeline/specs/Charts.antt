@@ -4,9 +4,9 @@ use Rattle.hal_model.specs.Rules.{plain_rules, report_by}
 use Rattle.hal_model.specs.declared.event.HalEvent.{HalEvent}
 use Rattle.hal_model.specs.declared.rule.Breach.{Breach}
 use Rattle.hal_text.specs.declared.log.HalLog.{HalLog}
-use Rattle.timeline_chart.specs.declared.chart.Chart.{Chart}
-use Rattle.timeline_chart.specs.declared.chart.Kind.TheVariants as kind
-use Rattle.timeline_chart.specs.declared.look.Look.TheVariants.{Unfinished}
+use Rattle.timeline_model.specs.declared.chart.Chart.{Chart}
+use Rattle.timeline_model.specs.declared.chart.Kind.TheVariants as kind
+use Rattle.timeline_model.specs.declared.look.Look.TheVariants.{Unfinished}
 use Rattle.hal_timeline.specs.Groups.{all_groups}
 use Rattle.hal_timeline.specs.Notes.{notes_of}
 use Rattle.hal_timeline.specs.Pieces.{gone_piece}

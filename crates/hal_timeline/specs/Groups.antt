@@ -5,8 +5,8 @@ use Rattle.hal_model.specs.Words.{frames, is_live}
 use Rattle.hal_model.specs.declared.event.HalEvent.{HalEvent}
 use Rattle.hal_model.specs.declared.rule.Breach.{Breach}
 use Rattle.hal_spelling.specs.Spelling.{event_line}
-use Rattle.timeline_chart.specs.Lines.{front_of}
-use Rattle.timeline_chart.specs.declared.chart.Group.{Group}
+use Rattle.timeline_model.specs.Lines.{front_of}
+use Rattle.timeline_model.specs.declared.chart.Group.{Group}
 use Rattle.hal_timeline.specs.Pieces.{pieces_of}
 use Rattle.hal_timeline.specs.Walks.{calls, is_stopping, standing}
 

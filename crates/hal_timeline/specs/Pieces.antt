@@ -9,14 +9,14 @@ use Rattle.hal_model.specs.declared.event.Pack.TheVariants.{Absent}
 use Rattle.hal_model.specs.declared.event.Returned.{Returned}
 use Rattle.hal_model.specs.declared.event.Status.{Status}
 use Rattle.hal_model.specs.declared.event.Status.TheVariants as status
-use Rattle.timeline_chart.specs.declared.chart.Lane.{Lane}
-use Rattle.timeline_chart.specs.declared.chart.Piece.{Piece}
-use Rattle.timeline_chart.specs.declared.look.HalCall.{HalCall}
-use Rattle.timeline_chart.specs.declared.look.HalCall.TheVariants.{Open, Init, Template, Configure, Flush, Close}
-use Rattle.timeline_chart.specs.declared.look.Look.{Look}
-use Rattle.timeline_chart.specs.declared.look.Look.TheVariants as look
-use Rattle.timeline_chart.specs.declared.seat.Seat.{Seat}
-use Rattle.timeline_chart.specs.Seats.{is_seat_of}
+use Rattle.timeline_model.specs.declared.chart.Lane.{Lane}
+use Rattle.timeline_model.specs.declared.chart.Piece.{Piece}
+use Rattle.timeline_model.specs.declared.look.HalCall.{HalCall}
+use Rattle.timeline_model.specs.declared.look.HalCall.TheVariants.{Open, Init, Template, Configure, Flush, Close}
+use Rattle.timeline_model.specs.declared.look.Look.{Look}
+use Rattle.timeline_model.specs.declared.look.Look.TheVariants as look
+use Rattle.timeline_model.specs.declared.seat.Seat.{Seat}
+use Rattle.timeline_model.specs.Seats.{is_seat_of}
 use Rattle.hal_timeline.specs.Rows.{Seating, is_lane_of, is_of_frame}
 use Rattle.hal_timeline.specs.Walks.{Standing, begun_at, ended_by}
 use Rattle.hal_timeline.specs.declared.calls.Asked.{Asked}

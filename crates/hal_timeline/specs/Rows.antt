@@ -6,9 +6,9 @@ use Rattle.hal_model.specs.declared.event.HalEvent.{HalEvent}
 use Rattle.hal_model.specs.declared.event.HalEvent.TheVariants.{OpenOk, RequestBegin, RequestError, Results}
 use Rattle.hal_model.specs.declared.event.HalTarget.{HalTarget}
 use Rattle.hal_model.specs.declared.event.Returned.{Returned}
-use Rattle.timeline_chart.specs.declared.chart.Lane.{Lane}
-use Rattle.timeline_chart.specs.declared.seat.Seat.{Seat}
-use Rattle.timeline_chart.specs.Seats.{with_seat}
+use Rattle.timeline_model.specs.declared.chart.Lane.{Lane}
+use Rattle.timeline_model.specs.declared.seat.Seat.{Seat}
+use Rattle.timeline_model.specs.Seats.{with_seat}
 use Rattle.hal_timeline.specs.declared.rows.Rows.{Rows}
 
 -- the lanes, the rows of the buffers that aren't back, the highest row so far, and how many buffers had none

@@ -2,8 +2,8 @@
 use Rattle.std.specs.Prelude.{ℕ, Bool, ◌||◌, List, [], ◌∷◌, Option, Some, None, length, is_some}
 use Rattle.hal_model.specs.declared.event.HalEvent.{HalEvent}
 use Rattle.hal_model.specs.declared.event.HalEvent.TheVariants.{OpenBegin, OpenOk, OpenError, InitBegin, InitOk, InitError, TemplateBegin, TemplateOk, TemplateNull, ConfigureBegin, ConfigureOk, ConfigureError, RequestBegin, RequestOk, RequestError, FlushBegin, FlushOk, FlushError, CloseBegin, CloseEnd}
-use Rattle.timeline_chart.specs.declared.look.HalCall.{HalCall}
-use Rattle.timeline_chart.specs.declared.look.HalCall.TheVariants.{Open, Init, Template, Configure, Flush, Close}
+use Rattle.timeline_model.specs.declared.look.HalCall.{HalCall}
+use Rattle.timeline_model.specs.declared.look.HalCall.TheVariants.{Open, Init, Template, Configure, Flush, Close}
 use Rattle.hal_timeline.specs.declared.calls.Asked.{Asked}
 use Rattle.hal_timeline.specs.declared.calls.Calls.{Calls}
 use Rattle.hal_timeline.specs.declared.walk.Walk.{Walk}

@@ -3,7 +3,7 @@ ghost use Rattle.std.specs.Prelude.{◌≡◌};
 ghost use Rattle.hal_timeline.specs.Walks.{asked_after, begun_at, begun_by, calls_after, ended_by, no_calls, with_call, with_place};
 
 use hal_model::HalEvent;
-use timeline_chart::HalCall;
+use timeline_model::HalCall;
 
 /// Of each kind of call where the one began that is out.
 #[derive(Clone, Copy, Debug)]

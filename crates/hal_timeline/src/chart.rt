@@ -13,7 +13,7 @@ use cam_types::NoMemory;
 use hal_model::Breach;
 use hal_text::HalLog;
 use std::alloc::Global;
-use timeline_chart::{Chart, Kind, Look, Piece, Seat, Series};
+use timeline_model::{Chart, Kind, Look, Piece, Seat, Series};
 
 /// The chart of a log, and whether the log breaks a rule.
 #[derive(Drop)]

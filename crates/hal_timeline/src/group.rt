@@ -15,7 +15,7 @@ use hal_model::{Breach, EventList, HalEvent};
 use hal_spelling::write_event;
 use hal_table::HalTable;
 use std::alloc::Global;
-use timeline_chart::{Group, Series, front_of};
+use timeline_model::{Group, Series, front_of};
 
 /// The most bytes of an event's line that are shown.
 const SHOWN: usize = 160;

@@ -9,7 +9,7 @@ use crate::calls::{Asked, ended_by};
 use crate::rows::{Rows, lane_of};
 use crate::walk::Walk;
 use hal_model::{HalEvent, Pack};
-use timeline_chart::{HalCall, Lane, Look, Piece, Seat};
+use timeline_model::{HalCall, Lane, Look, Piece, Seat};
 
 /// What a result looks like: without metadata it has its buffers alone.
 fn part_look(number: u32, pack: Pack) -> Option<Look>

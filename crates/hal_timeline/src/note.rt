@@ -6,9 +6,9 @@ use crate::group::number_at;
 use cam_types::{Listing, NoMemory};
 use hal_model::Breach;
 use hal_person::{front, is_same_heading, sentence_of};
-use hal_report::side_text;
+use hal_text::side_text;
 use std::alloc::Global;
-use timeline_chart::Series;
+use timeline_model::Series;
 
 /// So many breaches are told of.
 const TOLD: usize = 40;

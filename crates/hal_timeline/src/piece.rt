@@ -4,7 +4,7 @@ ghost use Rattle.std.specs.Option.{option_map};
 ghost use Rattle.hal_timeline.specs.Pieces.{back_piece, back_piece_in, buffer_seat, ended_pieces, gone_piece, own_pieces, pieces_of, status_look};
 ghost use Rattle.hal_timeline.specs.Rows.{is_of_frame};
 ghost use Rattle.hal_timeline.specs.Walks.{standing_of};
-ghost use Rattle.timeline_chart.specs.declared.seat.Seat.{Seat as SomeSeat};
+ghost use Rattle.timeline_model.specs.declared.seat.Seat.{Seat as SomeSeat};
 
 use crate::mark::{look_in, own_piece};
 use crate::rows::is_of_frame;
@@ -12,7 +12,7 @@ use crate::walk::Walk;
 use cam_types::NoMemory;
 use hal_model::{HalEvent, Returned, Status};
 use std::alloc::Global;
-use timeline_chart::{Look, Piece, Seat, Series, seat_of};
+use timeline_model::{Look, Piece, Seat, Series, seat_of};
 
 fn status_look(status: Status) -> Look
     ensures { result ≡ status_look status }

@@ -7,7 +7,7 @@ ghost use Rattle.hal_timeline.specs.Rows.{all_seated, highest, is_back_in, is_la
 use cam_types::NoMemory;
 use hal_model::{HalEvent, HalTarget, Returned};
 use std::alloc::Global;
-use timeline_chart::{Lane, Seat, take_seat};
+use timeline_model::{Lane, Seat, take_seat};
 
 /// How many lanes there are at most.
 const LANES: usize = 64;

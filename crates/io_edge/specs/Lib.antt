@@ -2,3 +2,4 @@ pub mod Ends
 pub mod Faults
 pub mod States
 pub mod Reading
+pub mod Pieces

@@ -1,1 +1,4 @@
+pub mod Asked
+pub mod Steps
+pub mod Made
 pub mod Since

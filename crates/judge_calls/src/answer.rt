@@ -7,11 +7,11 @@ ghost use Rattle.trace_model.specs.Numbers.{call_count};
 ghost use Rattle.trace_model.specs.Reply.{reply as reply_to};
 
 use crate::over::is_over;
+use crate::reply::{is_refused, is_reply};
 use cam_types::{Command, Reply, Script, Word};
 use judge_entries::command::{is_waiting_command, next_command, word_of};
 use judge_entries::number::call_count;
 use judge_filters::call::begun;
-use judge_replies::reply::{is_refused, is_reply};
 use trace_model::Entry;
 
 /// Whether the command may be answered: a waiting one after it began, and where it isn't refused, once what it waits

@@ -3,11 +3,11 @@ ghost use Rattle.std.specs.Prelude.{◌≡◌, reverse};
 ghost use Rattle.trace_model.specs.Client.{is_empty, is_idle, is_over};
 ghost use Rattle.trace_model.specs.Queue.{queued};
 
+use crate::pool::all_in_pool;
 use crate::since::done_since_begin;
 use cam_types::{Command, Script};
 use judge_filters::open::is_quiet;
 use judge_filters::queue::first_queued;
-use judge_pool::pool::all_in_pool;
 use trace_model::Entry;
 
 /// Whether nothing is queued.

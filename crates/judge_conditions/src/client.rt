@@ -7,6 +7,8 @@ ghost use Rattle.rule_conditions.specs.Client.{signal_holds, waits, waits_for_id
 
 use cam_types::{BufferId, Command, FenceNo, Reply, Script, Word};
 use judge_calls::over::is_queue_empty;
+use judge_calls::pool::all_in_pool;
+use judge_calls::reply::{is_refused, is_reply};
 use judge_calls::since::done_since_begin;
 use judge_entries::command::{is_waiting_command, next_command, word_of};
 use judge_entries::number::{call_count, next_fence};
@@ -14,8 +16,6 @@ use judge_filters::call::begun;
 use judge_filters::fence::{early_fence_of, is_signalled, is_there};
 use judge_filters::open::is_quiet;
 use judge_filters::place::is_at_client;
-use judge_pool::pool::all_in_pool;
-use judge_replies::reply::{is_refused, is_reply};
 use rule_conditions::Condition;
 use trace_model::Entry;
 

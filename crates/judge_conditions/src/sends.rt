@@ -8,15 +8,15 @@ ghost use Rattle.rule_conditions.specs.Sends.{are_of_item, drop_holds, is_first_
 
 use crate::targets::targets_hold;
 use cam_types::{Four, FrameNo, Queued, REPEATING_AHEAD, RequestId, Script, WaitingItem, Word};
+use judge_calls::ahead::{awaited, repeated_since_call};
+use judge_calls::mark::mark_of;
+use judge_calls::stream::are_streams;
 use judge_entries::number::next_number;
 use judge_filters::call::begun;
 use judge_filters::next::next_item;
 use judge_filters::open::open_count;
 use judge_filters::queue::first_queued;
 use judge_filters::stopping::is_stopping;
-use judge_sends::ahead::{awaited, repeated_since_call};
-use judge_sends::mark::mark_of;
-use judge_sends::stream::are_streams;
 use rule_conditions::Condition;
 use trace_model::{Entry, Sent};
 

@@ -8,9 +8,9 @@ ghost use Rattle.judge_conditions.specs.Parts.{target_holds};
 ghost use Rattle.rule_conditions.specs.Sends.{has_its_fence, is_from_pool};
 
 use cam_types::{BufferId, Four, Made, Script};
+use judge_calls::room::{is_room_left, made_for};
 use judge_filters::fence::{fence_of, is_same_fence};
 use judge_filters::place::is_in_pool;
-use judge_pool::room::{is_room_left, made_for};
 use rule_conditions::Condition;
 use trace_model::{Entry, Sent};
 

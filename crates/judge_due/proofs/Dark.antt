@@ -16,13 +16,13 @@ use Rattle.judge_due.specs.Drawing.{is_drawable}
 abbrev pub dark : Settings
 dark = record { pattern = 0; level = 0; exposure = 100000; iso = 100 }
 
-dark-scene : (n x y : ℕ) → sensor_value dark n x y ≡ 64
+pub dark-scene : (n x y : ℕ) → sensor_value dark n x y ≡ 64
 dark-scene n x y = refl
 
-zero-scene : (n x y : ℕ) → sensor_value no_settings n x y ≡ 64
+pub zero-scene : (n x y : ℕ) → sensor_value no_settings n x y ≡ 64
 zero-scene n x y = refl
 
-dark-readout : (n : ℕ) → readout dark n ≡ readout no_settings n
+pub dark-readout : (n : ℕ) → readout dark n ≡ readout no_settings n
 unfolding readout
 dark-readout n = plane-same (sensor_value dark n) (sensor_value no_settings n) 160 120 (λ x y. dark-scene n x y ∙ sym (zero-scene n x y))
 
@@ -50,7 +50,7 @@ drawn_dark s b may is out spec n =
     let zero' : ((s.pattern == 0) && ((s.level == 0) && ((s.exposure == 0) && (s.iso == 0)))) ≡ true = rw none at may in
     dark-picture spec n ∙ ap (λ (t : Settings). picture spec t n) (sym (zeros s zero'))
 
-digest-picture : (spec : StreamSpec) (s : Settings) (n : ℕ) → digest spec s n ≡ sha256 (picture spec s n)
+pub digest-picture : (spec : StreamSpec) (s : Settings) (n : ℕ) → digest spec s n ≡ sha256 (picture spec s n)
 unfolding digest
 digest-picture spec s n = refl
 

@@ -1,15 +1,15 @@
 //! A buffer that is due back, in error or early.
-ghost use Rattle.std.specs.Prelude.{◌≡◌, option_map};
-ghost use Rattle.row_facts.specs.Rows.{find_row};
-ghost use Rattle.state_facts.specs.Dues.{early_at, early_in, failed_at, failed_in, left_in, may_deliver_in, passed_in};
+ghost use Rattle.std.specs.Prelude.{◌≡◌, None, length, option_map, if◌then◌else◌};
+ghost use Rattle.state_facts.specs.FrameReadings.{early_from, failed_from, may_deliver_row};
+ghost use Rattle.state_facts.specs.Homes.{passed_in};
+ghost use Rattle.state_facts.specs.States.{early_in, failed_in};
 ghost use Rattle.judge_rows.specs.Views.{row_of, slot_of};
 
 use crate::before::earlier_pass;
 use crate::slots::slot_for;
 use cam_types::{FenceNo, FrameNo, Script, StreamIx};
 use judge_entries::fault::{buffer_fault, request_fault};
-use judge_rows::{OpenRow, OpenSlot, find_row};
-use judge_tables::JudgeTables;
+use judge_rows::{JudgeTables, OpenRow, OpenSlot, find_row};
 use trace_model::Entry;
 
 /// Whether there is no fence to wait for, or it is signalled.
@@ -30,7 +30,8 @@ pub fn may_deliver(
     row: &OpenRow,
     slot: OpenSlot,
 ) -> bool
-    ensures { result ≡ may_deliver_in script.now tables.now.state stream.0 (row_of row.now) (slot_of slot) }
+    ensures { let s = tables.now.state in
+        result ≡ may_deliver_row script.now s.rows (passed_in s.buffers) stream.0 (row_of row.now) (slot_of slot) }
 {
     (!slot.returned
         && (row.time.is_some()
@@ -42,7 +43,7 @@ pub fn may_deliver(
 
 /// The fence that is left to wait for.
 fn left(tables: &JudgeTables, fence: Option<FenceNo>) -> Option<FenceNo>
-    ensures { result ≡ left_in tables.now.state.buffers fence }
+    ensures { result ≡ (if passed_in tables.now.state.buffers fence then None else fence) }
 {
     if is_passed(tables, fence) {
         None
@@ -57,7 +58,8 @@ fn slot_failed_due(
     row: &OpenRow,
     slot: Option<OpenSlot>,
 ) -> Option<Entry>
-    ensures { result ≡ failed_at tables.now.state stream.0 (row_of row.now) (option_map slot_of slot) }
+    ensures { result ≡
+        failed_from (passed_in tables.now.state.buffers) stream.0 (row_of row.now) (option_map slot_of slot) }
 {
     match slot {
         Some(slot) => {
@@ -78,7 +80,7 @@ fn slot_failed_due(
 
 /// The failed buffer that is due.
 pub fn failed_due(tables: &JudgeTables, frame: FrameNo, stream: StreamIx) -> Option<Entry>
-    ensures { result ≡ failed_in tables.now.state stream.0 (find_row frame.0 tables.now.state.rows) }
+    ensures { result ≡ failed_in tables.now.state frame.0 stream.0 }
 {
     match find_row(tables.rows().rows(), frame) {
         Some(row) => slot_failed_due(tables, stream, &row, slot_for(&row.slots, stream)),
@@ -93,7 +95,10 @@ fn slot_early_due(
     row: &OpenRow,
     slot: Option<OpenSlot>,
 ) -> Option<Entry>
-    ensures { result ≡ early_at script.now tables.now.state stream.0 (row_of row.now) (option_map slot_of slot) }
+    ensures { let s = tables.now.state in
+        result ≡
+        early_from script.now s.rows (passed_in s.buffers) (length s.buffers.late) stream.0 (row_of row.now)
+        (option_map slot_of slot) }
 {
     match slot {
         Some(slot) => {
@@ -119,7 +124,7 @@ pub fn early_due(
     frame: FrameNo,
     stream: StreamIx,
 ) -> Option<Entry>
-    ensures { result ≡ early_in script.now tables.now.state stream.0 (find_row frame.0 tables.now.state.rows) }
+    ensures { result ≡ early_in script.now tables.now.state frame.0 stream.0 }
 {
     match find_row(tables.rows().rows(), frame) {
         Some(row) => slot_early_due(script, tables, stream, &row, slot_for(&row.slots, stream)),

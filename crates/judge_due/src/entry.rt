@@ -14,9 +14,9 @@ use crate::filled::{Fill, is_filled_due, is_late_due};
 use crate::parts::partial_due;
 use crate::send::is_send_due;
 use cam_types::Script;
+use digest_memory::PictureDigests;
+use judge_rows::JudgeTables;
 use judge_rules::same;
-use judge_tables::JudgeTables;
-use picture_digest::PictureDigests;
 use trace_model::Entry;
 
 /// The drop that is due.

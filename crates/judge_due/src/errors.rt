@@ -1,28 +1,29 @@
 //! The error of a frame that is due.
-ghost use Rattle.std.specs.Prelude.{◌≡◌, Option, option_map};
-ghost use Rattle.row_facts.specs.Rows.{find_row};
-ghost use Rattle.state_facts.specs.Dues.{error_buffer_at, error_buffer_in, error_request_in, error_result_in, in_part};
+ghost use Rattle.std.specs.Prelude.{◌≡◌, option_map};
+ghost use Rattle.state_facts.specs.FrameReadings.{began, buffer_from, request_row, result_row};
+ghost use Rattle.state_facts.specs.States.{error_buffer_in, error_request_in, error_result_in};
 ghost use Rattle.judge_rows.specs.Views.{row_of, slot_of};
 
 use crate::before::earlier_ended;
 use crate::slots::slot_for;
 use cam_types::{FrameNo, Script, StreamIx};
 use judge_entries::fault::{buffer_fault, request_fault, result_fault};
-use judge_rows::{OpenRow, OpenSlot, find_row};
-use judge_tables::JudgeTables;
+use judge_rows::{JudgeTables, OpenRow, OpenSlot, find_row, has_something, is_ended};
 use trace_model::Entry;
 
 /// Whether the frame's errors are of its parts.
-fn in_part(script: &Script, row: &OpenRow) -> bool
-    ensures { result ≡ in_part script.now (row_of row.now) }
+fn began(script: &Script, row: &OpenRow) -> bool
+    ensures { result ≡ began script.now (row_of row.now) }
 {
     row.time.is_some() && (!request_fault(script, row.frame) || row.stopped)
 }
 
 fn row_request_due(script: &Script, row: &OpenRow) -> Option<Entry>
-    ensures { result ≡ error_request_in script.now (Option.Some (row_of row.now)) }
+    ensures { result ≡ request_row script.now (row_of row.now) }
 {
-    if !row.touched && ((request_fault(script, row.frame) && row.time.is_some()) || row.stopped) {
+    if !has_something(row)
+        && ((request_fault(script, row.frame) && row.time.is_some()) || row.stopped)
+    {
         Some(Entry::ErrorRequest { frame: row.frame })
     } else {
         None
@@ -31,7 +32,7 @@ fn row_request_due(script: &Script, row: &OpenRow) -> Option<Entry>
 
 /// The error of the whole capture that is due.
 pub fn error_request_due(script: &Script, tables: &JudgeTables, frame: FrameNo) -> Option<Entry>
-    ensures { result ≡ error_request_in script.now (find_row frame.0 tables.now.state.rows) }
+    ensures { result ≡ error_request_in script.now tables.now.state frame.0 }
 {
     match find_row(tables.rows().rows(), frame) {
         Some(row) => row_request_due(script, &row),
@@ -40,11 +41,11 @@ pub fn error_request_due(script: &Script, tables: &JudgeTables, frame: FrameNo) 
 }
 
 fn row_result_due(script: &Script, tables: &JudgeTables, row: &OpenRow) -> Option<Entry>
-    ensures { result ≡ error_result_in script.now tables.now.state (Option.Some (row_of row.now)) }
+    ensures { result ≡ result_row script.now tables.now.state.rows (row_of row.now) }
 {
-    if (in_part(script, row) && !row.ended)
+    if (began(script, row) && !is_ended(row))
         && (earlier_ended(tables.rows().rows(), row.frame)
-            && (result_fault(script, row.frame) || (row.stopped && row.touched)))
+            && (result_fault(script, row.frame) || (row.stopped && has_something(row))))
     {
         Some(Entry::ErrorResult { frame: row.frame })
     } else {
@@ -54,7 +55,7 @@ fn row_result_due(script: &Script, tables: &JudgeTables, row: &OpenRow) -> Optio
 
 /// The error of the frame's metadata that is due.
 pub fn error_result_due(script: &Script, tables: &JudgeTables, frame: FrameNo) -> Option<Entry>
-    ensures { result ≡ error_result_in script.now tables.now.state (find_row frame.0 tables.now.state.rows) }
+    ensures { result ≡ error_result_in script.now tables.now.state frame.0 }
 {
     match find_row(tables.rows().rows(), frame) {
         Some(row) => row_result_due(script, tables, &row),
@@ -68,13 +69,14 @@ fn slot_error_due(
     row: &OpenRow,
     slot: Option<OpenSlot>,
 ) -> Option<Entry>
-    ensures { result ≡ error_buffer_at script.now stream.0 (row_of row.now) (option_map slot_of slot) }
+    ensures { result ≡ buffer_from script.now stream.0 (row_of row.now) (option_map slot_of slot) }
 {
     match slot {
         Some(slot) => {
-            if (in_part(script, row) && !row.request_failed)
+            if (began(script, row) && !row.request_failed)
                 && ((!slot.failed && !slot.returned)
-                    && (buffer_fault(script, row.frame, stream) || (row.stopped && row.touched)))
+                    && (buffer_fault(script, row.frame, stream)
+                        || (row.stopped && has_something(row))))
             {
                 Some(Entry::ErrorBuffer {
                     frame: row.frame,
@@ -95,7 +97,7 @@ pub fn error_buffer_due(
     frame: FrameNo,
     stream: StreamIx,
 ) -> Option<Entry>
-    ensures { result ≡ error_buffer_in script.now stream.0 (find_row frame.0 tables.now.state.rows) }
+    ensures { result ≡ error_buffer_in script.now tables.now.state frame.0 stream.0 }
 {
     match find_row(tables.rows().rows(), frame) {
         Some(row) => slot_error_due(script, stream, &row, slot_for(&row.slots, stream)),

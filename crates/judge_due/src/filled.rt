@@ -3,18 +3,18 @@ ghost use Rattle.std.specs.Prelude.{◌≡◌, ◌↔◌, ℕ, List, Option, opt
 ghost use Rattle.std.specs.List.{list_all};
 ghost use Rattle.cam_types.specs.Picture.{is_offered};
 ghost use Rattle.trace_model.specs.Picture.{digest_on};
-ghost use Rattle.row_facts.specs.Rows.{find_row};
-ghost use Rattle.state_facts.specs.Dues.{filled_at, filled_in, late_at, late_in, late_with};
+ghost use Rattle.state_facts.specs.FrameReadings.{filled_from, filled_row, late_from};
+ghost use Rattle.state_facts.specs.Homes.{passed_in};
+ghost use Rattle.state_facts.specs.States.{filled_in, late_in};
 ghost use Rattle.judge_rows.specs.Views.{row_of, slot_of};
 ghost use Rattle.judge_due.specs.Drawing.{CanDraw, is_drawable};
 
 use crate::buffers::may_deliver;
 use crate::pictures::is_its_digest;
-use crate::slots::{early_slot, slot_for};
+use crate::slots::{pending_slot, slot_for};
 use cam_types::{BufferId, FenceNo, FrameNo, Script, StreamIx};
-use judge_rows::{OpenRow, OpenSlot, early_row, find_row};
-use judge_tables::JudgeTables;
-use picture_digest::PictureDigests;
+use digest_memory::PictureDigests;
+use judge_rows::{JudgeTables, OpenRow, OpenSlot, find_row, pending_row};
 use trace_model::Entry;
 
 /// A buffer that came back with its picture, as its entry says.
@@ -38,7 +38,8 @@ fn fills_as(
     ensures { let s = tables.now.state in
         (IsTrue result
         × (fill.digest ≡ digest_on (slice_get s.client.streams fill.stream.0) row.now.settings row.now.frame.0))
-        ↔ (filled_at script.now s fill.stream.0 (row_of row.now) (option_map slot_of slot) ≡
+        ↔ (filled_from script.now s.client.streams s.rows (passed_in s.buffers) fill.stream.0 (row_of row.now)
+        (option_map slot_of slot) ≡
         Option.Some (Entry.Filled fill.frame fill.stream fill.buffer fill.fence fill.digest)) }
 {
     match slot {
@@ -59,8 +60,9 @@ fn is_filled_of(
 ) -> (bool, PictureDigests)
     requires offered { IsTrue (list_all is_offered tables.now.state.client.streams) }
     requires drawable { IsTrue (is_drawable row.now.settings) }
-    ensures { IsTrue result.0 ↔
-        (filled_in script.now tables.now.state fill.stream.0 (Option.Some (row_of row.now)) ≡
+    ensures { let s = tables.now.state in
+        IsTrue result.0 ↔
+        (filled_row script.now s.client.streams s.rows (passed_in s.buffers) fill.stream.0 (row_of row.now) ≡
         Option.Some (Entry.Filled fill.frame fill.stream fill.buffer fill.fence fill.digest)) }
 {
     let slot = slot_for(&row.slots, fill.stream);
@@ -80,7 +82,7 @@ pub(crate) fn is_filled_due(
 ) -> (bool, PictureDigests)
     requires { CanDraw tables.now.state }
     ensures { IsTrue result.0 ↔
-        (filled_in script.now tables.now.state fill.stream.0 (find_row fill.frame.0 tables.now.state.rows) ≡
+        (filled_in script.now tables.now.state fill.frame.0 fill.stream.0 ≡
         Option.Some (Entry.Filled fill.frame fill.stream fill.buffer fill.fence fill.digest)) }
 {
     match find_row(tables.rows().rows(), fill.frame) {
@@ -101,17 +103,11 @@ fn is_late_at(
     requires offered { IsTrue (list_all is_offered tables.now.state.client.streams) }
     requires drawable { IsTrue (is_drawable row.now.settings) }
     ensures { IsTrue result.0 ↔
-        (late_at tables.now.state fence.0 (row_of row.now) (option_map slot_of slot) ≡
+        (late_from tables.now.state.client.streams fence.0 (row_of row.now) (option_map slot_of slot) ≡
         Option.Some (Entry.Late fence digest)) }
 {
     match slot {
-        Some(slot) => {
-            if slot.settled {
-                (false, memory)
-            } else {
-                is_its_digest(tables, slot.target.stream, row, digest, memory)
-            }
-        }
+        Some(slot) => is_its_digest(tables, slot.target.stream, row, digest, memory),
         None => (false, memory),
     }
 }
@@ -127,9 +123,9 @@ pub(crate) fn is_late_due(
     ensures { IsTrue result.0 ↔
         (late_in tables.now.state fence.0 ≡ Option.Some (Entry.Late fence digest)) }
 {
-    match early_row(tables.rows().rows(), fence) {
+    match pending_row(tables.rows().rows(), fence) {
         Some(row) => {
-            let slot = early_slot(&row.slots, fence);
+            let slot = pending_slot(&row.slots, fence);
             is_late_at(tables, fence, digest, &row, slot, memory)
         }
         None => (false, memory),

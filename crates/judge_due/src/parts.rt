@@ -1,20 +1,19 @@
 //! The metadata result that is due.
-ghost use Rattle.std.specs.Prelude.{◌≡◌, Option, option_map};
-ghost use Rattle.row_facts.specs.Rows.{find_row};
-ghost use Rattle.state_facts.specs.Dues.{may_part_in, part_in, partial_in};
+ghost use Rattle.std.specs.Prelude.{◌≡◌, ◌+◌, Option, option_map};
+ghost use Rattle.state_facts.specs.FrameReadings.{may_part_row, part_from, part_row};
+ghost use Rattle.state_facts.specs.States.{partial_in};
 ghost use Rattle.judge_rows.specs.Views.{row_of};
 
 use crate::before::earlier_ended;
 use cam_types::{FrameNo, PART_COUNT, Script};
 use judge_entries::fault::{request_fault, result_fault};
-use judge_rows::{OpenRow, find_row};
-use judge_tables::JudgeTables;
-use partial_results::part;
+use judge_rows::{JudgeTables, OpenRow, find_row};
+use metadata_rules::part;
 use trace_model::Entry;
 
 /// Whether the frame's part of the number may come.
 fn may_part(script: &Script, tables: &JudgeTables, row: &OpenRow, number: u8) -> bool
-    ensures { result ≡ may_part_in script.now tables.now.state (row_of row.now) number }
+    ensures { result ≡ may_part_row script.now tables.now.state.rows (row_of row.now) number }
 {
     (!row.request_failed && (!row.result_failed && !request_fault(script, row.frame)))
         && (number <= 3
@@ -25,7 +24,8 @@ fn may_part(script: &Script, tables: &JudgeTables, row: &OpenRow, number: u8) ->
 
 /// The next part of a frame that had its shutter at the time.
 fn part_due(script: &Script, tables: &JudgeTables, row: &OpenRow, time: u64) -> Option<Entry>
-    ensures { result ≡ part_in script.now tables.now.state (row_of row.now) (Option.Some time) }
+    ensures { result ≡
+        part_from script.now tables.now.state.rows (row_of row.now) (row.now.parts + 1) (Option.Some time) }
 {
     if row.parts >= PART_COUNT {
         return None;
@@ -43,7 +43,7 @@ fn part_due(script: &Script, tables: &JudgeTables, row: &OpenRow, time: u64) -> 
 }
 
 fn row_part_due(script: &Script, tables: &JudgeTables, row: &OpenRow) -> Option<Entry>
-    ensures { result ≡ part_in script.now tables.now.state (row_of row.now) row.now.time }
+    ensures { result ≡ part_row script.now tables.now.state.rows (row_of row.now) }
 {
     match row.time {
         Some(time) => part_due(script, tables, row, time),
@@ -53,7 +53,7 @@ fn row_part_due(script: &Script, tables: &JudgeTables, row: &OpenRow) -> Option<
 
 /// The metadata result of the frame that is due.
 pub fn partial_due(script: &Script, tables: &JudgeTables, frame: FrameNo) -> Option<Entry>
-    ensures { result ≡ partial_in script.now tables.now.state (find_row frame.0 tables.now.state.rows) }
+    ensures { result ≡ partial_in script.now tables.now.state frame.0 }
 {
     match find_row(tables.rows().rows(), frame) {
         Some(row) => row_part_due(script, tables, &row),

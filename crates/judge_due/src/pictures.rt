@@ -8,10 +8,9 @@ ghost use Rattle.trace_model.specs.Picture.{digest_on};
 ghost use Rattle.judge_due.specs.Drawing.{is_drawable};
 
 use cam_types::{Settings, StreamIx};
-use judge_rows::OpenRow;
-use judge_tables::JudgeTables;
-use meta_rules::range_fault;
-use picture_digest::PictureDigests;
+use digest_memory::PictureDigests;
+use judge_rows::{JudgeTables, OpenRow};
+use metadata_rules::range_fault;
 
 /// Settings of a frame of which no item is known: they give the dark picture, as settings of zeros would.
 const DARK: Settings = Settings {

@@ -7,18 +7,17 @@ ghost use Rattle.trace_model.specs.Configuration.{is_made, numbers_of};
 ghost use Rattle.trace_model.specs.Place.{Pool as ThePool, is_at};
 ghost use Rattle.trace_model.specs.Printable.{is_filled};
 ghost use Rattle.trace_model.specs.Send.{are_last, are_same, are_streams, is_same_bool, targets_in_order};
-ghost use Rattle.buffer_facts.specs.Homes.{place_in, stream_in};
+ghost use Rattle.state_facts.specs.Homes.{place_in, stream_in};
 ghost use Rattle.state_facts.specs.States.{fits_in, has_room_in, may_go_in, may_send_in, takes_in};
-ghost use Rattle.judge_sends.specs.Asked.{asks, left_from};
+ghost use Rattle.judge_calls.specs.Asked.{asks, left_from};
 
 use cam_types::{
     BufferId, Four, FrameNo, Made, Queued, RequestId, STREAM_LIMIT, Script, Settings, StreamIx,
     Targets,
 };
+use judge_calls::stream::{are_streams, asks_for};
 use judge_filters::fence::is_same_fence;
-use judge_homes::Home;
-use judge_sends::stream::{are_streams, asks_for};
-use judge_tables::JudgeTables;
+use judge_rows::{Home, JudgeTables};
 use trace_model::Sent;
 
 /// The number past the last stream that an item can ask for.
@@ -55,7 +54,7 @@ fn have_room_where_asked(script: &Script, tables: &JudgeTables, asked: Targets) 
 }
 
 /// Whether the device takes a further buffer of each stream that is asked for.
-#[tactic(auto, using(judge_sends::proofs::StreamLemmas::all_asked))]
+#[tactic(auto, using(judge_calls::proofs::StreamLemmas::all_asked))]
 fn have_room(script: &Script, tables: &JudgeTables, asked: Targets) -> bool
     ensures { result ≡ list_all (has_room_in script.now tables.now.state) (left_from (asks asked) 0) }
 {

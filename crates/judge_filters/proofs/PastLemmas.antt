@@ -3,18 +3,12 @@ use Rattle.std.proofs.Common.{◌≡◌, ℕ, ◌+◌, ◌==◌, Bool, true, fal
 use Rattle.std.specs.List.{list_any, list_all}
 use Rattle.std.proofs.lemmas.Grind.{common_steps}
 use Rattle.std.proofs.lemmas.Bool.{cases_Bool}
-use Rattle.cam_types.specs.Four.{four_list}
-use Rattle.cam_types.specs.declared.four.Four.{Four}
-use Rattle.cam_types.specs.declared.reply.Made.{Made}
 use Rattle.cam_types.specs.declared.reply.Reply.TheVariants.{Ok, Submitted, Configured, Refused}
-use Rattle.cam_types.specs.declared.script.Command.{Command}
 use Rattle.cam_types.specs.declared.script.Script.{Script}
-use Rattle.cam_types.specs.declared.script.Word.{Word}
-use Rattle.cam_types.specs.declared.stream.StreamSpec.{StreamSpec}
 use Rattle.trace_model.specs.declared.entry.Entry.{Entry}
-use Rattle.trace_model.specs.declared.entry.Entry.TheVariants.{Begin, Call, Send, Shutter}
-use Rattle.trace_model.specs.Calls.{begun, command_of, command_at, submits}
-use Rattle.trace_model.specs.Configuration.{streams, streams_of, made, configures}
+use Rattle.trace_model.specs.declared.entry.Entry.TheVariants.{Begin, Call, Shutter}
+use Rattle.trace_model.specs.Calls.{begun, command_of, submits}
+use Rattle.trace_model.specs.Configuration.{streams, made, configures}
 use Rattle.trace_model.specs.Entry.{is_shutter}
 use Rattle.trace_model.specs.Frames.{shutter_time}
 use Rattle.judge_filters.specs.Past.{is_begin_or_call, begun_in, command_in, streams_in, made_in, time_in}

@@ -1,30 +1,35 @@
 -- Rows that are thinned out in place, and rows that are looked for.
-use Rattle.std.proofs.Common.{◌≡◌, ◌∙◌, zero, suc, ℕ, ◌+◌, ◌<◌, Bool, true, false, ◌&&◌, List, [], ◌∷◌, ◌++◌, Option, Some, None, refl, sym, map, filter, take, drop, length, get_or, inl, inr, ap, arith, take-suc, add-one}
+use Rattle.std.proofs.Common.{◌≡◌, ◌∙◌, zero, suc, ℕ, ◌+◌, ◌<◌, Bool, true, false, List, [], ◌∷◌, ◌++◌, Option, refl, sym, map, filter, take, drop, length, get_or, inl, inr, ap, arith, take-suc, add-one}
 use Rattle.std.specs.List.{find, list_all}
 use Rattle.std.specs.Prelude.{option_map}
 use Rattle.std.proofs.lemmas.Bool.{and_parts, cases_Bool}
+use Rattle.std.proofs.lemmas.List.{map-append}
 use Rattle.trace_model.specs.declared.entry.Entry.{Entry}
-use Rattle.row_facts.specs.Rows.{Row, note_row, row_open}
-use Rattle.judge_homes.proofs.Kept.{at-rest}
+use Rattle.state_facts.specs.Row.{Row, is_open_row, noted_row}
+use Rattle.judge_rows.proofs.Kept.{at-rest}
 use Rattle.judge_rows.specs.declared.row.OpenRow.{OpenRow}
 use Rattle.judge_rows.specs.Views.{are_free, is_free, row_of, rows_of, slots_of}
 
 -- what is kept of one more row
-pub kept_more : (e : Entry) (i : ℕ) (old init new : List OpenRow) (k k' : ℕ) (d row : OpenRow) → i < length init → rows_of (take k old) ≡ filter row_open (map (note_row e) (rows_of (take i init))) → drop i old ≡ drop i init → row_of row ≡ note_row e (row_of (get_or old i d)) → rows_of (take k' new) ≡ rows_of (take k old) ++ filter row_open (row_of row ∷ []) → rows_of (take k' new) ≡ filter row_open (map (note_row e) (rows_of (take (i + 1) init)))
+pub kept_more : (e : Entry) (i : ℕ) (old init new : List OpenRow) (k k' : ℕ) (d row : OpenRow) → i < length init → rows_of (take k old) ≡ filter is_open_row (map (noted_row e) (rows_of (take i init))) → drop i old ≡ drop i init → row_of row ≡ noted_row e (row_of (get_or old i d)) → rows_of (take k' new) ≡ rows_of (take k old) ++ filter is_open_row (row_of row ∷ []) → rows_of (take k' new) ≡ filter is_open_row (map (noted_row e) (rows_of (take (i + 1) init)))
 kept_more e i old init new k k' d row less kept rest is now =
     let same : get_or old i d ≡ get_or init i d = at-rest i old init d rest in
     let whole : take (i + 1) init ≡ take i init ++ get_or init i d ∷ [] = rw add-one (take-suc init i d less) in
-    let one = ap (λ (r : Row). filter row_open (r ∷ [])) (is ∙ ap (λ (r : OpenRow). note_row e (row_of r)) same) in
-    let grown = ap (λ (z : List Row). z ++ filter row_open (row_of row ∷ [])) kept ∙ ap (λ (z : List Row). filter row_open (map (note_row e) (rows_of (take i init))) ++ z) one in
-    now ∙ (grown ∙ (sym (split (take i init) (get_or init i d)) ∙ ap (λ (z : List OpenRow). filter row_open (map (note_row e) (rows_of z))) (sym whole)))
+    let one = ap (λ (r : Row). filter is_open_row (r ∷ [])) (is ∙ ap (λ (r : OpenRow). noted_row e (row_of r)) same) in
+    let grown = ap (λ (z : List Row). z ++ filter is_open_row (row_of row ∷ [])) kept ∙ ap (λ (z : List Row). filter is_open_row (map (noted_row e) (rows_of (take i init))) ++ z) one in
+    now ∙ (grown ∙ (sym (split (take i init) (get_or init i d)) ∙ ap (λ (z : List OpenRow). filter is_open_row (map (noted_row e) (rows_of z))) (sym whole)))
   where
-    split : (xs : List OpenRow) (x : OpenRow) → filter row_open (map (note_row e) (rows_of (xs ++ x ∷ []))) ≡ filter row_open (map (note_row e) (rows_of xs)) ++ filter row_open (note_row e (row_of x) ∷ [])
+    split : (xs : List OpenRow) (x : OpenRow) → filter is_open_row (map (noted_row e) (rows_of (xs ++ x ∷ []))) ≡ filter is_open_row (map (noted_row e) (rows_of xs)) ++ filter is_open_row (noted_row e (row_of x) ∷ [])
     split [] x = refl
     split (y ∷ xs) x =
-        elim (cases_Bool (row_open (note_row e (row_of y)))) [
-          | inl yes' ↦ rw yes' (ap (λ (z : List Row). note_row e (row_of y) ∷ z) (split xs x))
+        elim (cases_Bool (is_open_row (noted_row e (row_of y)))) [
+          | inl yes' ↦ rw yes' (ap (λ (z : List Row). noted_row e (row_of y) ∷ z) (split xs x))
           | inr no' ↦ rw no' (split xs x)
         ]
+
+-- one row more
+pub rows_more : (rows : List OpenRow) (r : OpenRow) → rows_of (rows ++ r ∷ []) ≡ rows_of rows ++ row_of r ∷ []
+rows_more rows r = map-append row_of rows (r ∷ [])
 
 -- a row whose view passes
 pub found_of : (p : Row → Bool) (q : OpenRow → Bool) (o : Option OpenRow) (xs : List OpenRow) → ((r : OpenRow) → q r ≡ p (row_of r)) → o ≡ find q xs → option_map row_of o ≡ find p (map row_of xs)

@@ -7,15 +7,15 @@ use Rattle.cam_types.specs.Four.{four_list}
 use Rattle.cam_types.specs.declared.four.Four.{Four}
 use Rattle.trace_model.specs.declared.entry.Entry.{Entry}
 use Rattle.trace_model.specs.declared.entry.Sent.{Sent}
-use Rattle.row_facts.specs.Rows.{Slot, new_slot, note_slot}
+use Rattle.state_facts.specs.Row.{Target, fresh_target}
 use Rattle.judge_rows.specs.declared.slot.OpenSlot.{OpenSlot}
 use Rattle.judge_rows.specs.Views.{slot_of, slots_of}
 
-all-append : (p : Slot → Bool) (xs ys : List Slot) → list_all p (xs ++ ys) ≡ (list_all p xs && list_all p ys)
+all-append : (p : Target → Bool) (xs ys : List Target) → list_all p (xs ++ ys) ≡ (list_all p xs && list_all p ys)
 all-append p [] ys = refl
 all-append p (x ∷ xs) ys = let ih = all-append p xs ys in grind arith
 
-any-append : (p : Slot → Bool) (xs ys : List Slot) → list_any p (xs ++ ys) ≡ (list_any p xs || list_any p ys)
+any-append : (p : Target → Bool) (xs ys : List Target) → list_any p (xs ++ ys) ≡ (list_any p xs || list_any p ys)
 any-append p [] ys = refl
 any-append p (x ∷ xs) ys = let ih = any-append p xs ys in grind arith
 
@@ -32,32 +32,32 @@ pub map-four : {X Y : Type 0} (f : X → Y) (s : Four X) → map f (four_list s)
 map-four f s =
     rw (map-append f (option_to_list s.a) (option_to_list s.b ++ (option_to_list s.c ++ option_to_list s.d)), map-append f (option_to_list s.b) (option_to_list s.c ++ option_to_list s.d), map-append f (option_to_list s.c) (option_to_list s.d), map-one f s.a, map-one f s.b, map-one f s.c, map-one f s.d) refl
 
-pub all_four : (p : Slot → Bool) (s : Four OpenSlot) → list_all p (slots_of s) ≡ (list_all p (option_to_list (option_map slot_of s.a)) && (list_all p (option_to_list (option_map slot_of s.b)) && (list_all p (option_to_list (option_map slot_of s.c)) && list_all p (option_to_list (option_map slot_of s.d)))))
+pub all_four : (p : Target → Bool) (s : Four OpenSlot) → list_all p (slots_of s) ≡ (list_all p (option_to_list (option_map slot_of s.a)) && (list_all p (option_to_list (option_map slot_of s.b)) && (list_all p (option_to_list (option_map slot_of s.c)) && list_all p (option_to_list (option_map slot_of s.d)))))
 all_four p s =
     rw (map-four slot_of s, all-append p (option_to_list (option_map slot_of s.a)) (option_to_list (option_map slot_of s.b) ++ (option_to_list (option_map slot_of s.c) ++ option_to_list (option_map slot_of s.d))), all-append p (option_to_list (option_map slot_of s.b)) (option_to_list (option_map slot_of s.c) ++ option_to_list (option_map slot_of s.d)), all-append p (option_to_list (option_map slot_of s.c)) (option_to_list (option_map slot_of s.d))) refl
 
-pub any_four : (p : Slot → Bool) (s : Four OpenSlot) → list_any p (slots_of s) ≡ (list_any p (option_to_list (option_map slot_of s.a)) || (list_any p (option_to_list (option_map slot_of s.b)) || (list_any p (option_to_list (option_map slot_of s.c)) || list_any p (option_to_list (option_map slot_of s.d)))))
+pub any_four : (p : Target → Bool) (s : Four OpenSlot) → list_any p (slots_of s) ≡ (list_any p (option_to_list (option_map slot_of s.a)) || (list_any p (option_to_list (option_map slot_of s.b)) || (list_any p (option_to_list (option_map slot_of s.c)) || list_any p (option_to_list (option_map slot_of s.d)))))
 any_four p s =
     rw (map-four slot_of s, any-append p (option_to_list (option_map slot_of s.a)) (option_to_list (option_map slot_of s.b) ++ (option_to_list (option_map slot_of s.c) ++ option_to_list (option_map slot_of s.d))), any-append p (option_to_list (option_map slot_of s.b)) (option_to_list (option_map slot_of s.c) ++ option_to_list (option_map slot_of s.d)), any-append p (option_to_list (option_map slot_of s.c)) (option_to_list (option_map slot_of s.d))) refl
 
-all-after : (e : Entry) (n : Slot → Slot) (xs : List Slot) → list_all (λ s. s.settled) (map n xs) ≡ list_all (λ s. (n s).settled) xs
+all-after : (e : Entry) (n : Target → Target) (xs : List Target) → list_all (λ s. s.settled) (map n xs) ≡ list_all (λ s. (n s).settled) xs
 all-after e n [] = refl
 all-after e n (x ∷ xs) = ap (λ b. (n x).settled && b) (all-after e n xs)
 
-pub back_four : (e : Entry) (n : Slot → Slot) (s : Four OpenSlot) → list_all (λ s. s.settled) (map n (slots_of s)) ≡ (list_all (λ s. (n s).settled) (option_to_list (option_map slot_of s.a)) && (list_all (λ s. (n s).settled) (option_to_list (option_map slot_of s.b)) && (list_all (λ s. (n s).settled) (option_to_list (option_map slot_of s.c)) && list_all (λ s. (n s).settled) (option_to_list (option_map slot_of s.d)))))
+pub back_four : (e : Entry) (n : Target → Target) (s : Four OpenSlot) → list_all (λ s. s.settled) (map n (slots_of s)) ≡ (list_all (λ s. (n s).settled) (option_to_list (option_map slot_of s.a)) && (list_all (λ s. (n s).settled) (option_to_list (option_map slot_of s.b)) && (list_all (λ s. (n s).settled) (option_to_list (option_map slot_of s.c)) && list_all (λ s. (n s).settled) (option_to_list (option_map slot_of s.d)))))
 back_four e n s = all-after e n (slots_of s) ∙ all_four (λ s. (n s).settled) s
 
 -- buffers that are changed each in its place
-pub slots_four : (n : Slot → Slot) (s t : Four OpenSlot) → option_map slot_of t.a ≡ option_map n (option_map slot_of s.a) → option_map slot_of t.b ≡ option_map n (option_map slot_of s.b) → option_map slot_of t.c ≡ option_map n (option_map slot_of s.c) → option_map slot_of t.d ≡ option_map n (option_map slot_of s.d) → slots_of t ≡ map n (slots_of s)
+pub slots_four : (n : Target → Target) (s t : Four OpenSlot) → option_map slot_of t.a ≡ option_map n (option_map slot_of s.a) → option_map slot_of t.b ≡ option_map n (option_map slot_of s.b) → option_map slot_of t.c ≡ option_map n (option_map slot_of s.c) → option_map slot_of t.d ≡ option_map n (option_map slot_of s.d) → slots_of t ≡ map n (slots_of s)
 slots_four n s t a b c d =
     map-four slot_of t ∙ rw (a, b, c, d, map-four slot_of s, map-append n (option_to_list (option_map slot_of s.a)) (option_to_list (option_map slot_of s.b) ++ (option_to_list (option_map slot_of s.c) ++ option_to_list (option_map slot_of s.d))), map-append n (option_to_list (option_map slot_of s.b)) (option_to_list (option_map slot_of s.c) ++ option_to_list (option_map slot_of s.d)), map-append n (option_to_list (option_map slot_of s.c)) (option_to_list (option_map slot_of s.d)), map-one n (option_map slot_of s.a), map-one n (option_map slot_of s.b), map-one n (option_map slot_of s.c), map-one n (option_map slot_of s.d)) refl
 
 -- and fresh ones of targets
-pub new_four : (s : Four Sent) (t : Four OpenSlot) → option_map slot_of t.a ≡ option_map new_slot s.a → option_map slot_of t.b ≡ option_map new_slot s.b → option_map slot_of t.c ≡ option_map new_slot s.c → option_map slot_of t.d ≡ option_map new_slot s.d → slots_of t ≡ map new_slot (four_list s)
-new_four s t a b c d = map-four slot_of t ∙ rw (a, b, c, d, map-four new_slot s) refl
+pub new_four : (s : Four Sent) (t : Four OpenSlot) → option_map slot_of t.a ≡ option_map fresh_target s.a → option_map slot_of t.b ≡ option_map fresh_target s.b → option_map slot_of t.c ≡ option_map fresh_target s.c → option_map slot_of t.d ≡ option_map fresh_target s.d → slots_of t ≡ map fresh_target (four_list s)
+new_four s t a b c d = map-four slot_of t ∙ rw (a, b, c, d, map-four fresh_target s) refl
 
 -- what holds of all holds of each
-pub each_four : (p : Slot → Bool) (s : Four OpenSlot) → list_all p (slots_of s) ≡ true → (list_all p (option_to_list (option_map slot_of s.a)) ≡ true) × (list_all p (option_to_list (option_map slot_of s.b)) ≡ true) × (list_all p (option_to_list (option_map slot_of s.c)) ≡ true) × (list_all p (option_to_list (option_map slot_of s.d)) ≡ true)
+pub each_four : (p : Target → Bool) (s : Four OpenSlot) → list_all p (slots_of s) ≡ true → (list_all p (option_to_list (option_map slot_of s.a)) ≡ true) × (list_all p (option_to_list (option_map slot_of s.b)) ≡ true) × (list_all p (option_to_list (option_map slot_of s.c)) ≡ true) × (list_all p (option_to_list (option_map slot_of s.d)) ≡ true)
 each_four p s h = parts (list_all p (option_to_list (option_map slot_of s.a))) (list_all p (option_to_list (option_map slot_of s.b))) (list_all p (option_to_list (option_map slot_of s.c))) (list_all p (option_to_list (option_map slot_of s.d))) (sym (all_four p s) ∙ h)
   where
     parts : (a b c d : Bool) → (a && (b && (c && d))) ≡ true → (a ≡ true) × (b ≡ true) × (c ≡ true) × (d ≡ true)

@@ -5,7 +5,7 @@ use Rattle.cam_types.specs.declared.four.Four.{Four}
 use Rattle.cam_types.specs.declared.number.FenceNo.{FenceNo}
 use Rattle.trace_model.specs.declared.entry.Entry.{Entry}
 use Rattle.trace_model.specs.declared.entry.Entry.TheVariants.{Early}
-use Rattle.row_facts.specs.Rows.{Row, Slot}
+use Rattle.state_facts.specs.Row.{Row, Target}
 use Rattle.judge_rows.specs.declared.row.OpenRow.{OpenRow}
 use Rattle.judge_rows.specs.declared.slot.OpenSlot.{OpenSlot}
 
@@ -14,32 +14,29 @@ use Rattle.judge_rows.specs.declared.slot.OpenSlot.{OpenSlot}
 abbrev pub given_of : Option FenceNo → List ℕ
 given_of given = option_to_list (option_map (λ f. f.0) given)
 
-abbrev pub slot_of : OpenSlot → Slot
+abbrev pub slot_of : OpenSlot → Target
 slot_of s = record {
-  target = s.target;
+  sent = s.target;
+  announced = s.failed;
   returned = s.returned;
-  failed = s.failed;
   given = given_of s.given;
   settled = s.settled;
 }
 
-abbrev pub slots_of : Four OpenSlot → List Slot
+abbrev pub slots_of : Four OpenSlot → List Target
 slots_of slots = map slot_of (four_list slots)
 
 abbrev pub row_of : OpenRow → Row
 row_of r = record {
-  frame = r.frame.0;
+  number = r.frame.0;
   settings = r.settings;
   repeats = r.repeats;
-  time = r.time;
+  targets = slots_of r.slots;
+  shutter = r.time;
   parts = r.parts;
-  ended = r.ended;
-  request_failed = r.request_failed;
-  result_failed = r.result_failed;
-  troubled = r.troubled;
-  touched = r.touched;
+  request_error = r.request_failed;
+  result_error = r.result_failed;
   stopped = r.stopped;
-  slots = slots_of r.slots;
 }
 
 abbrev pub rows_of : List OpenRow → List Row
@@ -52,10 +49,10 @@ is_none_given [] = true
 is_none_given (_ ∷ _) = false
 
 -- the entry doesn't give a device fence to a buffer of frame n that has one
-abbrev pub is_free : Entry → ℕ → Slot → Bool
-is_free (Early m t _ _) n s = not ((m.0 == n) && (t.0 == s.target.stream.0)) || is_none_given s.given
+abbrev pub is_free : Entry → ℕ → Target → Bool
+is_free (Early m t _ _) n s = not ((m.0 == n) && (t.0 == s.sent.stream.0)) || is_none_given s.given
 is_free _ n s = true
 
 -- nor to a buffer of any row
 abbrev pub are_free : Entry → List Row → Bool
-are_free e rows = list_all (λ r. list_all (is_free e r.frame) r.slots) rows
+are_free e rows = list_all (λ r. list_all (is_free e r.number) r.targets) rows

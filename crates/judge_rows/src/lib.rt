@@ -1,11 +1,25 @@
-//! The open frames of a trace, as a table that each entry carries on: a row for each frame, the newest first, with what
-//! stands of it and of its buffers. A frame's row goes with the entry that closes it.
+//! The state of a trace as tables that each entry carries on: where its buffers are and which fences are signalled, and
+//! the open frames.
+//!
+//! Of open frames there is a row for each, the oldest first, with what stands of it and of its buffers. A frame's row
+//! goes with the entry that closes it.
 #![tactic(auto)]
 
+mod captures;
+mod clock;
+mod fences;
+mod homes;
+mod made;
+mod next;
+mod reading;
 mod row;
 mod slot;
 mod table;
+mod tables;
 
-pub use row::OpenRow;
-pub use slot::OpenSlot;
-pub use table::{RowTable, early_row, find_row};
+pub use fences::FenceBook;
+pub use homes::{Home, HomeTable};
+pub use row::{OpenRow, has_something, is_ended};
+pub use slot::{OpenSlot, is_pending};
+pub use table::{RowTable, find_row, pending_row};
+pub use tables::JudgeTables;

@@ -1,21 +1,20 @@
 //! An open frame.
-ghost use Rattle.std.specs.Prelude.{◌≡◌, ◌==◌, map, IsTrue};
+ghost use Rattle.std.specs.Prelude.{◌≡◌, IsTrue};
 ghost use Rattle.std.specs.List.{list_all};
-ghost use Rattle.cam_types.specs.Four.{four_list};
-ghost use Rattle.trace_model.specs.Laws.{ends_metadata};
-ghost use Rattle.past_facts.specs.Times.{note_parts, note_time};
-ghost use Rattle.row_facts.specs.Rows.{all_back, new_row, note_row, row_open};
+ghost use Rattle.trace_laws.specs.Times.{note_parts, note_time};
+ghost use Rattle.state_facts.specs.FrameReadings.{has_something_row};
+ghost use Rattle.state_facts.specs.Row.{is_ended, is_open_row, noted_row, sent_row};
 ghost use Rattle.judge_rows.specs.Views.{is_free, row_of, slots_of};
 
-use crate::slot::{OpenSlot, are_back, are_back_after, new_slots, note_slots};
-use cam_types::{Four, FrameNo, PART_COUNT, Settings};
-use judge_entries::entry::{
-    is_error_of, is_error_request, is_error_result, is_part, is_partial, is_stop, returns_of_frame,
+use crate::slot::{
+    OpenSlot, are_back, are_back_after, has_failed, has_returned, new_slots, note_slots,
 };
+use cam_types::{Four, FrameNo, PART_COUNT, Settings};
+use judge_entries::entry::{is_error_request, is_error_result, is_stop};
 use trace_model::{Entry, Sent};
 
-/// An open frame: its settings and whether its request repeats, the time of its shutter and the parts it has, what
-/// failed of it and what stands of it, whether it was sent when the device stopped, and its buffers.
+/// An open frame: its settings and whether its request repeats, the time of its shutter and the parts it has, whether
+/// its request and its result failed, whether it was sent when the device stopped, and its buffers.
 #[derive(Clone, Copy, Debug, PartialEq, Eq)]
 pub struct OpenRow {
     pub frame: FrameNo,
@@ -23,11 +22,8 @@ pub struct OpenRow {
     pub repeats: bool,
     pub time: Option<u64>,
     pub parts: u8,
-    pub ended: bool,
     pub request_failed: bool,
     pub result_failed: bool,
-    pub troubled: bool,
-    pub touched: bool,
     pub stopped: bool,
     pub slots: Four<OpenSlot>,
 }
@@ -54,17 +50,10 @@ fn parts_after(entry: &Entry, frame: FrameNo, old: u8) -> u8
     }
 }
 
-fn ends_metadata(entry: &Entry, frame: FrameNo) -> bool
-    ensures { result ≡ ends_metadata frame.0 entry.now }
-{
-    is_part(entry, frame, PART_COUNT)
-        || (is_error_result(entry, frame) || is_error_request(entry, frame))
-}
-
 /// The row after an entry, which gives device fences only to buffers that have none.
 pub(crate) fn note_row(entry: &Entry, row: &OpenRow) -> OpenRow
     requires { IsTrue (list_all (is_free entry.now row.now.frame.0) (slots_of row.now.slots)) }
-    ensures { row_of result ≡ note_row entry.now (row_of row.now) }
+    ensures { row_of result ≡ noted_row entry.now (row_of row.now) }
 {
     let frame = row.frame;
     OpenRow {
@@ -73,31 +62,51 @@ pub(crate) fn note_row(entry: &Entry, row: &OpenRow) -> OpenRow
         repeats: row.repeats,
         time: time_after(entry, frame, row.time),
         parts: parts_after(entry, frame, row.parts),
-        ended: ends_metadata(entry, frame) || row.ended,
         request_failed: is_error_request(entry, frame) || row.request_failed,
         result_failed: is_error_result(entry, frame) || row.result_failed,
-        troubled: is_error_of(entry, frame) || row.troubled,
-        touched: (is_partial(entry, frame)
-            || (returns_of_frame(entry, frame) || is_error_of(entry, frame)))
-            || row.touched,
         stopped: is_stop(entry) || row.stopped,
         slots: note_slots(entry, frame, row.slots),
     }
 }
 
+/// Whether the frame's metadata ended.
+pub fn is_ended(row: &OpenRow) -> bool
+    ensures { result ≡ is_ended (row_of row.now) }
+{
+    PART_COUNT <= row.parts || (row.result_failed || row.request_failed)
+}
+
+/// Whether anything came of the frame but its shutter.
+pub fn has_something(row: &OpenRow) -> bool
+    ensures { result ≡ has_something_row (row_of row.now) }
+{
+    0 < row.parts
+        || (has_returned(&row.slots)
+            || (row.request_failed || (row.result_failed || has_failed(&row.slots))))
+}
+
 /// Whether the frame is open.
 pub(crate) fn is_open(row: &OpenRow) -> bool
-    ensures { result ≡ row_open (row_of row.now) }
+    ensures { result ≡ is_open_row (row_of row.now) }
 {
-    !(row.ended && are_back(&row.slots))
+    !(is_ended(row) && are_back(&row.slots))
+}
+
+/// Whether the frame's metadata ended with an entry.
+fn is_ended_after(entry: &Entry, row: &OpenRow) -> bool
+    ensures { result ≡ is_ended (noted_row entry.now (row_of row.now)) }
+{
+    let frame = row.frame;
+    PART_COUNT <= parts_after(entry, frame, row.parts)
+        || ((is_error_result(entry, frame) || row.result_failed)
+            || (is_error_request(entry, frame) || row.request_failed))
 }
 
 /// Whether the frame is open after an entry.
 pub(crate) fn stays_open(entry: &Entry, row: &OpenRow) -> bool
-    ensures { result ≡ row_open (note_row entry.now (row_of row.now)) }
+    ensures { result ≡ is_open_row (noted_row entry.now (row_of row.now)) }
 {
-    let ended = ends_metadata(entry, row.frame) || row.ended;
-    !(ended && are_back_after(entry, row.frame, &row.slots))
+    !(is_ended_after(entry, row) && are_back_after(entry, row.frame, &row.slots))
 }
 
 /// The row of a frame that was just sent.
@@ -107,7 +116,7 @@ pub(crate) fn new_row(
     repeats: bool,
     targets: &Four<Sent>,
 ) -> OpenRow
-    ensures { row_of result ≡ new_row frame.0 settings repeats (four_list targets.now) }
+    ensures { row_of result ≡ sent_row frame settings repeats targets.now }
 {
     OpenRow {
         frame,
@@ -115,11 +124,8 @@ pub(crate) fn new_row(
         repeats,
         time: None,
         parts: 0,
-        ended: false,
         request_failed: false,
         result_failed: false,
-        troubled: false,
-        touched: false,
         stopped: false,
         slots: new_slots(targets),
     }

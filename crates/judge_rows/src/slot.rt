@@ -2,8 +2,9 @@
 ghost use Rattle.std.specs.Prelude.{◌≡◌, ◌==◌, ◌||◌, map, option_map, option_to_list, IsTrue};
 ghost use Rattle.std.specs.List.{list_all, list_any};
 ghost use Rattle.cam_types.specs.Four.{four_list};
-ghost use Rattle.past_facts.specs.Settled.{gives, has_fence, settles};
-ghost use Rattle.row_facts.specs.Rows.{new_slot, note_slot};
+ghost use Rattle.trace_laws.specs.Settled.{gives, has_fence, settles};
+ghost use Rattle.state_facts.specs.FrameReadings.{is_pending};
+ghost use Rattle.state_facts.specs.Row.{fresh_target, noted_target};
 ghost use Rattle.judge_rows.specs.Views.{given_of, is_free, slot_of, slots_of};
 
 use cam_types::{FenceNo, Four, FrameNo};
@@ -44,13 +45,39 @@ fn given_after(entry: &Entry, frame: FrameNo, slot: OpenSlot) -> Option<FenceNo>
 }
 
 /// Whether the device fence is the one that was given.
-pub(crate) fn is_given(given: Option<FenceNo>, fence: FenceNo) -> bool
+fn is_given(given: Option<FenceNo>, fence: FenceNo) -> bool
     ensures { result ≡ has_fence fence.0 (given_of given) }
 {
     match given {
         Some(given) => fence.0 == given.0,
         None => false,
     }
+}
+
+/// Whether the buffer came back early with the device fence, which isn't signalled.
+pub fn is_pending(slot: OpenSlot, fence: FenceNo) -> bool
+    ensures { result ≡ is_pending fence.0 (slot_of slot) }
+{
+    is_given(slot.given, fence) && !slot.settled
+}
+
+fn is_pending_at(slot: Option<OpenSlot>, fence: FenceNo) -> bool
+    ensures { result ≡ list_any (is_pending fence.0) (option_to_list (option_map slot_of slot)) }
+{
+    match slot {
+        Some(slot) => is_pending(slot, fence),
+        None => false,
+    }
+}
+
+/// Whether a buffer waits for the device fence.
+#[tactic(auto, using(crate::proofs::SlotLemmas::any_four))]
+pub(crate) fn has_pending(slots: &Four<OpenSlot>, fence: FenceNo) -> bool
+    ensures { result ≡ list_any (is_pending fence.0) (slots_of slots.now) }
+{
+    is_pending_at(slots.a, fence)
+        || (is_pending_at(slots.b, fence)
+            || (is_pending_at(slots.c, fence) || is_pending_at(slots.d, fence)))
 }
 
 /// Whether the device is done with the buffer by the entry.
@@ -66,7 +93,7 @@ fn settles(entry: &Entry, frame: FrameNo, slot: OpenSlot) -> bool
 /// The buffer after an entry, which gives it a device fence only where it has none.
 pub(crate) fn note_slot(entry: &Entry, frame: FrameNo, slot: OpenSlot) -> OpenSlot
     requires { IsTrue (is_free entry.now frame.0 (slot_of slot)) }
-    ensures { slot_of result ≡ note_slot entry.now frame.0 (slot_of slot) }
+    ensures { slot_of result ≡ noted_target frame.0 entry.now (slot_of slot) }
 {
     let stream = slot.target.stream;
     OpenSlot {
@@ -80,7 +107,7 @@ pub(crate) fn note_slot(entry: &Entry, frame: FrameNo, slot: OpenSlot) -> OpenSl
 
 fn note_slot_at(entry: &Entry, frame: FrameNo, slot: Option<OpenSlot>) -> Option<OpenSlot>
     requires { IsTrue (list_all (is_free entry.now frame.0) (option_to_list (option_map slot_of slot))) }
-    ensures { option_map slot_of result ≡ option_map (note_slot entry.now frame.0) (option_map slot_of slot) }
+    ensures { option_map slot_of result ≡ option_map (noted_target frame.0 entry.now) (option_map slot_of slot) }
 {
     match slot {
         Some(slot) => Some(note_slot(entry, frame, slot)),
@@ -92,7 +119,7 @@ fn note_slot_at(entry: &Entry, frame: FrameNo, slot: Option<OpenSlot>) -> Option
 #[tactic(auto, using(crate::proofs::SlotLemmas::all_four, crate::proofs::SlotLemmas::slots_four))]
 pub(crate) fn note_slots(entry: &Entry, frame: FrameNo, slots: Four<OpenSlot>) -> Four<OpenSlot>
     requires { IsTrue (list_all (is_free entry.now frame.0) (slots_of slots)) }
-    ensures { slots_of result ≡ map (note_slot entry.now frame.0) (slots_of slots) }
+    ensures { slots_of result ≡ map (noted_target frame.0 entry.now) (slots_of slots) }
 {
     Four {
         a: note_slot_at(entry, frame, slots.a),
@@ -119,9 +146,43 @@ pub(crate) fn are_back(slots: &Four<OpenSlot>) -> bool
     is_back(slots.a) && (is_back(slots.b) && (is_back(slots.c) && is_back(slots.d)))
 }
 
+fn is_returned(slot: Option<OpenSlot>) -> bool
+    ensures { result ≡ list_any (λ t. t.returned) (option_to_list (option_map slot_of slot)) }
+{
+    match slot {
+        Some(slot) => slot.returned,
+        None => false,
+    }
+}
+
+/// Whether a buffer came back.
+#[tactic(auto, using(crate::proofs::SlotLemmas::any_four))]
+pub(crate) fn has_returned(slots: &Four<OpenSlot>) -> bool
+    ensures { result ≡ list_any (λ t. t.returned) (slots_of slots.now) }
+{
+    is_returned(slots.a) || (is_returned(slots.b) || (is_returned(slots.c) || is_returned(slots.d)))
+}
+
+fn is_failed(slot: Option<OpenSlot>) -> bool
+    ensures { result ≡ list_any (λ t. t.announced) (option_to_list (option_map slot_of slot)) }
+{
+    match slot {
+        Some(slot) => slot.failed,
+        None => false,
+    }
+}
+
+/// Whether the error of a buffer is announced.
+#[tactic(auto, using(crate::proofs::SlotLemmas::any_four))]
+pub(crate) fn has_failed(slots: &Four<OpenSlot>) -> bool
+    ensures { result ≡ list_any (λ t. t.announced) (slots_of slots.now) }
+{
+    is_failed(slots.a) || (is_failed(slots.b) || (is_failed(slots.c) || is_failed(slots.d)))
+}
+
 fn is_back_after(entry: &Entry, frame: FrameNo, slot: Option<OpenSlot>) -> bool
     ensures { result ≡
-        list_all (λ s. (note_slot entry.now frame.0 s).settled) (option_to_list (option_map slot_of slot)) }
+        list_all (λ s. (noted_target frame.0 entry.now s).settled) (option_to_list (option_map slot_of slot)) }
 {
     match slot {
         Some(slot) => settles(entry, frame, slot) || slot.settled,
@@ -132,7 +193,7 @@ fn is_back_after(entry: &Entry, frame: FrameNo, slot: Option<OpenSlot>) -> bool
 /// Whether the device is done with each buffer after the entry.
 #[tactic(auto, using(crate::proofs::SlotLemmas::back_four))]
 pub(crate) fn are_back_after(entry: &Entry, frame: FrameNo, slots: &Four<OpenSlot>) -> bool
-    ensures { result ≡ list_all (λ s. s.settled) (map (note_slot entry.now frame.0) (slots_of slots.now)) }
+    ensures { result ≡ list_all (λ s. s.settled) (map (noted_target frame.0 entry.now) (slots_of slots.now)) }
 {
     is_back_after(entry, frame, slots.a)
         && (is_back_after(entry, frame, slots.b)
@@ -140,7 +201,7 @@ pub(crate) fn are_back_after(entry: &Entry, frame: FrameNo, slots: &Four<OpenSlo
 }
 
 fn new_slot(target: Option<Sent>) -> Option<OpenSlot>
-    ensures { option_map slot_of result ≡ option_map new_slot target }
+    ensures { option_map slot_of result ≡ option_map fresh_target target }
 {
     match target {
         Some(target) => Some(OpenSlot {
@@ -157,7 +218,7 @@ fn new_slot(target: Option<Sent>) -> Option<OpenSlot>
 /// Buffers that were just sent.
 #[tactic(auto, using(crate::proofs::SlotLemmas::new_four))]
 pub(crate) fn new_slots(targets: &Four<Sent>) -> Four<OpenSlot>
-    ensures { slots_of result ≡ map new_slot (four_list targets.now) }
+    ensures { slots_of result ≡ map fresh_target (four_list targets.now) }
 {
     Four {
         a: new_slot(targets.a),

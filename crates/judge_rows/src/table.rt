@@ -1,18 +1,17 @@
 //! The rows of the open frames.
-ghost use Rattle.std.specs.Prelude.{◌≡◌, ◌==◌, ◌≤◌, ◌<◌, ◌+◌, ◌++◌, ◌∷◌, [], ℕ, IsTrue, OnOk, drop, filter, find, length, map, option_copied, option_map, option_to_list, take, vec_len};
-ghost use Rattle.std.specs.List.{list_any};
-ghost use Rattle.past_facts.specs.Settled.{has_fence};
-ghost use Rattle.row_facts.specs.Rows.{early_row, ends_row, find_row, finishes_in, has_early, new_rows, no_rows, note_row, noted, row_open};
-ghost use Rattle.judge_rows.specs.Views.{are_free, row_of, rows_of, slot_of};
+ghost use Rattle.std.specs.Prelude.{◌≡◌, ◌==◌, ◌≤◌, ◌<◌, ◌+◌, ◌++◌, ◌∷◌, [], ℕ, IsTrue, OnOk, drop, filter, find, length, map, option_copied, option_map, take, vec_len};
+ghost use Rattle.state_facts.specs.FrameReadings.{closes_one, finishes_in, has_pending, is_none_left, row_at};
+ghost use Rattle.state_facts.specs.Row.{is_open_row, new_rows, noted_row, rows_after};
+ghost use Rattle.judge_rows.specs.Views.{are_free, row_of, rows_of};
 
 use crate::row::{OpenRow, is_open, new_row, note_row, stays_open};
-use crate::slot::{OpenSlot, is_given};
+use crate::slot::has_pending;
 use cam_types::{FenceNo, FrameNo, NoMemory, Settings};
 use std::alloc::Global;
 use std::marker::Model;
 use trace_model::Entry;
 
-/// The rows of the open frames, the newest first.
+/// The rows of the open frames, the oldest first.
 #[derive(Drop)]
 pub struct RowTable {
     rows: Vec<OpenRow>,
@@ -20,7 +19,7 @@ pub struct RowTable {
 
 impl Model for RowTable {
     ghost use Rattle.std.specs.Prelude.{List};
-    ghost use Rattle.row_facts.specs.Rows.{Row};
+    ghost use Rattle.state_facts.specs.Row.{Row};
     ghost use Rattle.judge_rows.specs.Views.{rows_of};
 
     ghost Value = { List Row };
@@ -38,7 +37,7 @@ impl RowTable {
         }
     }
 
-    /// The rows, the newest first.
+    /// The rows, the oldest first.
     pub fn rows(&self) -> &[OpenRow]
         ensures { rows_of result.now ≡ self.now }
     {
@@ -54,7 +53,7 @@ impl RowTable {
 
     /// Whether no frame is open.
     pub fn is_empty(&self) -> bool
-        ensures { result ≡ no_rows self.now }
+        ensures { result ≡ is_none_left self.now }
     {
         self.rows.is_empty()
     }
@@ -64,7 +63,7 @@ impl RowTable {
     /// memory runs out.
     pub fn note(&mut self, settings: Settings, repeats: bool, entry: &Entry) -> Result<(), NoMemory>
         requires { IsTrue (are_free entry.now self.old) }
-        ensures { OnOk result (self.new ≡ noted settings repeats entry.now self.old) }
+        ensures { OnOk result (self.new ≡ rows_after settings repeats entry.now self.old) }
     {
         note_rows(&mut self.rows, entry);
         add_row(&mut self.rows, settings, repeats, entry)
@@ -88,7 +87,7 @@ impl RowTable {
 
 // ---- rows that are looked for
 
-fn row_at(rows: &[OpenRow], frame: FrameNo) -> Option<&OpenRow>
+fn row_of_frame(rows: &[OpenRow], frame: FrameNo) -> Option<&OpenRow>
     ensures { option_copied result ≡ find (λ r. r.frame.0 == frame.0) rows.now }
 {
     rows.iter().find(|row| row.frame.0 == frame.0)
@@ -96,38 +95,26 @@ fn row_at(rows: &[OpenRow], frame: FrameNo) -> Option<&OpenRow>
 
 /// The row of the frame, if it is open.
 pub fn find_row(rows: &[OpenRow], frame: FrameNo) -> Option<OpenRow>
-    ensures { option_map row_of result ≡ find_row frame.0 (rows_of rows.now) }
+    ensures { option_map row_of result ≡ row_at frame.0 (rows_of rows.now) }
 {
-    row_at(rows, frame).copied()
+    row_of_frame(rows, frame).copied()
 }
 
-fn has_given(slot: Option<OpenSlot>, fence: FenceNo) -> bool
-    ensures { result ≡ list_any (λ s. has_fence fence.0 s.given) (option_to_list (option_map slot_of slot)) }
+fn waits_for(row: &OpenRow, fence: FenceNo) -> bool
+    ensures { result ≡ has_pending fence.0 (row_of row.now) }
 {
-    match slot {
-        Some(slot) => is_given(slot.given, fence),
-        None => false,
-    }
-}
-
-#[tactic(auto, using(crate::proofs::SlotLemmas::any_four))]
-fn has_early(row: &OpenRow, fence: FenceNo) -> bool
-    ensures { result ≡ has_early fence.0 (row_of row.now) }
-{
-    let slots = &row.slots;
-    has_given(slots.a, fence)
-        || (has_given(slots.b, fence) || (has_given(slots.c, fence) || has_given(slots.d, fence)))
+    has_pending(&row.slots, fence)
 }
 
 fn row_with(rows: &[OpenRow], fence: FenceNo) -> Option<&OpenRow>
-    ensures { option_copied result ≡ find (λ r. has_early fence.0 (row_of r)) rows.now }
+    ensures { option_copied result ≡ find (λ r. has_pending fence.0 (row_of r)) rows.now }
 {
-    rows.iter().find(|row| has_early(row, fence))
+    rows.iter().find(|row| waits_for(row, fence))
 }
 
-/// The row of the frame whose early return has the device fence, if it is open.
-pub fn early_row(rows: &[OpenRow], fence: FenceNo) -> Option<OpenRow>
-    ensures { option_map row_of result ≡ early_row fence.0 (rows_of rows.now) }
+/// The row of the frame that has a buffer waiting for the device fence.
+pub fn pending_row(rows: &[OpenRow], fence: FenceNo) -> Option<OpenRow>
+    ensures { option_map row_of result ≡ find (has_pending fence.0) (rows_of rows.now) }
 {
     row_with(rows, fence).copied()
 }
@@ -135,7 +122,7 @@ pub fn early_row(rows: &[OpenRow], fence: FenceNo) -> Option<OpenRow>
 // ---- what an entry does
 
 fn closes(entry: &Entry, row: Option<OpenRow>) -> bool
-    ensures { result ≡ ends_row entry.now (option_map row_of row) }
+    ensures { result ≡ closes_one entry.now (option_map row_of row) }
 {
     match row {
         Some(row) => row.repeats && !stays_open(entry, &row),
@@ -145,23 +132,23 @@ fn closes(entry: &Entry, row: Option<OpenRow>) -> bool
 
 /// Whether the entry closes the row of the frame, which is of a repeating request.
 fn ends_row(entry: &Entry, rows: &[OpenRow], frame: FrameNo) -> bool
-    ensures { result ≡ ends_row entry.now (find_row frame.0 (rows_of rows.now)) }
+    ensures { result ≡ closes_one entry.now (row_at frame.0 (rows_of rows.now)) }
 {
     closes(entry, find_row(rows, frame))
 }
 
-/// The same of the row of the frame whose early return has the device fence.
+/// The same of the row of the frame that has a buffer waiting for the device fence.
 fn ends_early(entry: &Entry, rows: &[OpenRow], fence: FenceNo) -> bool
-    ensures { result ≡ ends_row entry.now (early_row fence.0 (rows_of rows.now)) }
+    ensures { result ≡ closes_one entry.now (find (has_pending fence.0) (rows_of rows.now)) }
 {
-    closes(entry, early_row(rows, fence))
+    closes(entry, pending_row(rows, fence))
 }
 
 /// Puts a row that is open at a place, and tells the place after it.
 fn keep(rows: &mut Vec<OpenRow>, kept: usize, row: OpenRow) -> usize
     requires { kept < vec_len rows.old }
     ensures rows { rows_of (take result rows.new.items) ≡
-        rows_of (take kept rows.old.items) ++ filter row_open (row_of row ∷ []) }
+        rows_of (take kept rows.old.items) ++ filter is_open_row (row_of row ∷ []) }
     ensures rest { (i : ℕ) → kept < i → drop i rows.new.items ≡ drop i rows.old.items }
     ensures within { result ≤ kept + 1 }
     ensures len { vec_len rows.new ≡ vec_len rows.old }
@@ -177,7 +164,7 @@ fn keep(rows: &mut Vec<OpenRow>, kept: usize, row: OpenRow) -> usize
 /// Notes the entry in each row, and keeps those that are open.
 fn note_rows(rows: &mut Vec<OpenRow>, entry: &Entry)
     requires { IsTrue (are_free entry.now (rows_of rows.old.items)) }
-    ensures { rows_of rows.new.items ≡ filter row_open (map (note_row entry.now) (rows_of rows.old.items)) }
+    ensures { rows_of rows.new.items ≡ filter is_open_row (map (noted_row entry.now) (rows_of rows.old.items)) }
 {
     let mut kept = 0;
     for place in 0..rows.len() {
@@ -188,16 +175,17 @@ fn note_rows(rows: &mut Vec<OpenRow>, entry: &Entry)
 }
 
 /// Adds the row of a frame that an entry sends.
+#[tactic(auto, using(crate::proofs::RowLemmas::rows_more))]
 fn add_row(
     rows: &mut Vec<OpenRow>,
     settings: Settings,
     repeats: bool,
     entry: &Entry,
 ) -> Result<(), NoMemory>
-    ensures { OnOk result (rows_of rows.new.items ≡ new_rows settings repeats entry.now ++ rows_of rows.old.items) }
+    ensures { OnOk result (rows_of rows.new.items ≡ rows_of rows.old.items ++ new_rows settings repeats entry.now) }
 {
     if let Entry::Send { frame, targets, .. } = entry {
-        rows.insert(0, new_row(*frame, settings, repeats, targets))?;
+        rows.push(new_row(*frame, settings, repeats, targets))?;
     }
     Ok(())
 }

@@ -1,9 +1,9 @@
 use Rattle.std.specs.Prelude.{◌≡◌, ◌≢◌, ℕ, List, Result, Ok, Err, length, nat_lt, true, false, ◌⊎◌}
 use Rattle.cam_types.specs.declared.script.Script.{Script}
-use Rattle.line_reading.specs.Causes.{number_of}
+use Rattle.text_parts.specs.Causes.{number_of}
 use Rattle.script_text.specs.Grammar.{script_of}
-use Rattle.line_reading.specs.declared.cause.TextRefused.{TextRefused}
-use Rattle.line_reading.specs.declared.cause.TextRefused.TheVariants.{Bad, NoMemory}
+use Rattle.text_parts.specs.declared.cause.TextRefused.{TextRefused}
+use Rattle.text_parts.specs.declared.cause.TextRefused.TheVariants.{Bad, NoMemory}
 use Rattle.trace_check.specs.Verdict.{IsVerdict}
 use Rattle.trace_check.specs.declared.verdict.Verdict.{Verdict}
 use Rattle.trace_model.specs.declared.entry.Entry.{Entry}

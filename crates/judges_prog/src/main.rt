@@ -9,9 +9,9 @@ mod changed;
 use agreement::{Places, Tally, judge_all};
 use io_edge::{NoMemory, ReadBytes, ReadFault, StdSource, read_all};
 use judge_text::parts_of;
-use line_reading::TextRefused;
 use std::process::ExitCode;
 use std::{env, io};
+use text_parts::TextRefused;
 use trace_reader::{TRACE_BYTES, TraceRefused};
 
 /// The most that is read of the input, in bytes.

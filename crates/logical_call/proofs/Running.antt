@@ -3,19 +3,18 @@ use Rattle.std.proofs.Common.{◌≡◌, ℕ, ◌+◌, ◌*◌, ◌/◌, ◌≤�
 use Rattle.std.proofs.lemmas.List.{append-nil}
 use Rattle.cam_types.specs.declared.script.Script.{Script}
 use Rattle.cam_types.specs.Script.{is_valid}
-use Rattle.logical_camera.specs.Both.{Both, at_first, camera, with_move}
+use Rattle.logical_camera.specs.Both.{Both, camera, with_move}
 use Rattle.logical_camera.specs.Runs.{AreNamed, Deed, both_by, sides_by}
-use Rattle.logical_camera.specs.Turns.{AnswersStep, AreEntries, IsFinished, IsOver, IsTurn, choice, pair_by}
+use Rattle.logical_camera.specs.Turns.{AnswersStep, AreEntries, IsTurn, choice, pair_by}
 use Rattle.logical_camera.specs.declared.logical.LogicalStep.TheVariants.{Did}
 use Rattle.logical_camera.proofs.Joint.{entries-by, long-by, script-by}
-use Rattle.reply_facts.specs.declared.pair.Paired.{Paired}
+use Rattle.logical_camera.specs.declared.pair.Paired.{Paired}
 use Rattle.run_model.specs.Bounds.{move_bound}
 use Rattle.run_model.specs.Played.{pick_at}
-use Rattle.script_bounds.proofs.Few.{few}
+use Rattle.run_model.proofs.Few.{few}
 use Rattle.text_parts.specs.Lines.{line_text}
 use Rattle.trace_model.specs.declared.entry.Entry.{Entry}
 use Rattle.logical_call.specs.Lines.{lines_by, step_text}
-use Rattle.logical_call.specs.Logical.{IsRunText}
 
 abbrev pub front : List ℕ
 front = line_text (codes "logical" ∷ codes "1" ∷ [])
@@ -27,15 +26,6 @@ pub record RunsTo (script : Script) (both : Both) (made : ℕ) (text : List ℕ)
   pub many : length deeds ≡ made
   pub by : both ≡ both_by script deeds
   pub shown : text ≡ front ++ lines_by deeds
-
-pub none-made : (script : Script) (both : Both) (text : List ℕ) → both ≡ at_first script → text ≡ front → RunsTo script both 0 text
-none-made script both text first is = record {
-  deeds = [];
-  named = tt;
-  many = refl;
-  by = first;
-  shown = is ∙ sym (append-nil front);
-}
 
 pub one-more : (script : Script) (both new : Both) (made : ℕ) (text longer : List ℕ) (c : ℕ) (entry : Option Entry) (pair : Option Paired) → RunsTo script both made text → AnswersStep both (pick_at script made) (Did c entry pair) new → longer ≡ text ++ step_text c entry pair → RunsTo script new (made + 1) longer
 one-more script both new made text longer c entry pair so-far answer is =
@@ -52,19 +42,6 @@ one-more script both new made text longer c entry pair so-far answer is =
       many = omega (arith, so-far.many);
       by = step.left ∙ ap (with_move c step.move) so-far.by;
       shown = is ∙ (ap (λ (t : List ℕ). t ++ step_text c entry pair) so-far.shown ∙ (append_assoc front (lines_by deeds) (step_text c entry pair) ∙ ap (λ (t : List ℕ). front ++ (lines_by deeds ++ t)) told));
-    }
-
--- the run is complete, and its text is whole
-pub whole-text : (script : Script) (both new : Both) (made : ℕ) (text : List ℕ) → RunsTo script both made text → IsFinished both new → IsRunText script (text ++ codes "end\n")
-whole-text script both new made text so-far end =
-    record {
-      deeds = so-far.deeds;
-      run = record {
-        named = so-far.named;
-        first = subst (λ (b : Both). IsOver (camera 0 b)) so-far.by end.first;
-        second = subst (λ (b : Both). IsOver (camera 1 b)) so-far.by end.second;
-      };
-      shown = ap (λ (t : List ℕ). t ++ codes "end\n") so-far.shown ∙ append_assoc front (lines_by so-far.deeds) (codes "end\n");
     }
 
 -- ---- how many there are

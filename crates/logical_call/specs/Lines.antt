@@ -3,9 +3,9 @@ use Rattle.std.specs.Prelude.{ℕ, List, [], ◌∷◌, ◌++◌, Option, codes,
 use Rattle.std.specs.List.{flat_map}
 use Rattle.logical_camera.specs.Runs.{Deed, sides_by}
 use Rattle.logical_camera.specs.Turns.{pair_by}
-use Rattle.reply_facts.specs.declared.pair.PairEnd.{PairEnd}
-use Rattle.reply_facts.specs.declared.pair.PairEnd.TheVariants.{Ok, Error, Drop}
-use Rattle.reply_facts.specs.declared.pair.Paired.{Paired}
+use Rattle.logical_camera.specs.declared.pair.PairEnd.{PairEnd}
+use Rattle.logical_camera.specs.declared.pair.PairEnd.TheVariants.{Ok, Error, Drop}
+use Rattle.logical_camera.specs.declared.pair.Paired.{Paired}
 use Rattle.text_parts.specs.Lines.{line_text}
 use Rattle.trace_model.specs.declared.entry.Entry.{Entry}
 use Rattle.trace_text.specs.Spelling.{line_of}

@@ -3,14 +3,12 @@ use Rattle.std.specs.Prelude.{◌≡◌, ℕ, ◌*◌, ◌≤◌, Bool, true, fa
 use Rattle.io_edge.specs.States.{SinkState, Writes}
 use Rattle.cam_types.specs.declared.script.Script.{Script}
 use Rattle.judge_text.specs.Lines.{refused_script_text}
-use Rattle.line_reading.specs.Causes.{number_of}
-use Rattle.line_reading.specs.declared.cause.TextRefused.{TextRefused}
-use Rattle.line_reading.specs.declared.cause.TextRefused.TheVariants.{Bad, NoMemory}
+use Rattle.call_parts.specs.Meanings.{OfScript}
 use Rattle.logical_camera.specs.Runs.{Deed, IsJointRun, both_by, sides_by}
-use Rattle.reply_facts.specs.Courses.{items}
-use Rattle.reply_facts.specs.Orderless.{is_logical, without_faults}
-use Rattle.reply_facts.specs.Sides.{is_pair_of, pairs}
-use Rattle.run_laws.specs.Lawful.{KeepsLaws}
+use Rattle.logical_camera.specs.Courses.{items}
+use Rattle.logical_camera.specs.Orderless.{is_logical, without_faults}
+use Rattle.logical_camera.specs.Sides.{is_pair_of, pairs}
+use Rattle.run_model.specs.Lawful.{KeepsLaws}
 use Rattle.run_model.specs.Bounds.{move_bound}
 use Rattle.run_model.specs.History.{trace_of}
 use Rattle.script_text.specs.Grammar.{script_of}
@@ -34,14 +32,9 @@ TellsWhere false script status told = (status ≡ 1) × (told ≡ refused_script
 abbrev pub TellsOfScript : Script → ℕ → List ℕ → Type 0
 TellsOfScript script status told = TellsWhere (is_logical script) script status told
 
--- to what an input means as a script
-abbrev pub TellsOf : Result Script TextRefused → ℕ → List ℕ → Type 0
-TellsOf (Ok script) status told = TellsOfScript script status told
-TellsOf (Err (Bad line cause)) status told = (status ≡ 1) × (told ≡ refused_script_text line (number_of cause))
-TellsOf (Err NoMemory) status told = ⊥
-
+-- to an input: what its meaning as a script tells
 abbrev pub TellsBoth : List ℕ → ℕ → List ℕ → Type 0
-TellsBoth input status told = TellsOf (script_of input) status told
+TellsBoth input status told = OfScript TellsOfScript input status told
 
 -- the input spells a logical script, and what was written is the joint run that the picks choose: both parts are complete
 -- and keep the laws, each item has one pair, and there are at most twice as many steps as the bound

@@ -2,26 +2,41 @@
 ghost use Rattle.std.specs.Prelude.{◌≡◌, ◌≢◌, ◌≤◌, IfSome, IsTrue};
 ghost use Rattle.std.specs.Io.KnownBytes.{IsAtEnd};
 ghost use Rattle.cam_types.specs.Script.{is_valid};
-ghost use Rattle.call_status.specs.Answers.{Tells, TellsBy};
-ghost use Rattle.call_status.specs.Ends.{CountsSink, CountsSource, ReadsBy};
+ghost use Rattle.call_parts.specs.Answers.{Tells, TellsBy};
+ghost use Rattle.call_parts.specs.Ends.{CountsSink, CountsSource, ReadsBy};
 ghost use Rattle.logical_camera.specs.Both.{at_first};
 ghost use Rattle.logical_call.specs.Logical.{IsLogicalWhole, TellsBoth, TellsOfRun, TellsOfScript};
 
 use crate::text::run_text;
-use call_status::{Status, answer};
+use call_parts::{ScriptWork, Status, answer, answer_script, refuse_script};
 use cam_types::{SCRIPT_BYTES, Script};
-use input_refusals::refuse_script;
-use io_edge::{ReadBytes, ReadFault, Sink, Source, read_all};
-use line_reading::{Cause, TextRefused};
+use io_edge::{Sink, Source};
 use logical_camera::{
     Logical, LogicalRefused, a_joint_run_has_one_pair_for_each_item, a_joint_run_is_a_run_of_both,
     a_joint_run_is_bounded,
 };
-use run_laws::a_complete_run_keeps_the_laws;
+use run_model::a_complete_run_keeps_the_laws;
 use std::alloc::Global;
 
 /// The cause of a script that two cameras may not run side by side.
 const NOT_LOGICAL: u8 = 61;
+
+/// What `logical` makes of a script.
+#[derive(Drop)]
+struct BothCameras;
+
+impl ScriptWork for BothCameras {
+    ghost use Rattle.logical_call.specs.Logical.{TellsOfScript};
+
+    ghost belongs = { λ _. TellsOfScript };
+
+    fn answer_script<K: Sink>(&self, alloc: Global, script: Script, sink: &mut K) -> Status {
+        run_script(alloc, &script, sink)
+    }
+
+    #[tactic(auto, using(crate::proofs::Telling::are_told))]
+    fn keeps_the_law(&self) {}
+}
 
 /// Reads a script, runs it on two cameras side by side, and writes what both did. All memory is taken before the first
 /// write.
@@ -45,23 +60,7 @@ pub fn logical_call<S: Source, K: Sink>(alloc: Global, source: &mut S, sink: &mu
     a_complete_run_keeps_the_laws();
     a_joint_run_is_bounded();
     a_joint_run_has_one_pair_for_each_item();
-    match read_all(alloc, source, SCRIPT_BYTES) {
-        Err(ReadFault::Failed) => Status::SOURCE_FAILED,
-        Err(ReadFault::NoMemory) => Status::NO_MEMORY,
-        Ok(ReadBytes::TooLong) => refuse_script(alloc, 0, Cause::Limit.number(), sink),
-        Ok(ReadBytes::Whole(bytes)) => run_script_text(alloc, bytes.as_slice(), sink),
-    }
-}
-
-/// Reads a script from its text, and runs it on two cameras.
-fn run_script_text<K: Sink>(alloc: Global, input: &[u8], sink: &mut K) -> Status
-    ensures { TellsBy (TellsBoth input.now) result.number (K.state sink.old) (K.state sink.new) }
-{
-    match script_text::read(alloc, input) {
-        Err(TextRefused::NoMemory) => Status::NO_MEMORY,
-        Err(TextRefused::Bad { line, cause }) => refuse_script(alloc, line, cause.number(), sink),
-        Ok(script) => run_script(alloc, &script, sink),
-    }
+    answer_script(alloc, source, sink, &BothCameras)
 }
 
 /// Runs a script on two cameras, where it is logical.

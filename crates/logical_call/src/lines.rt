@@ -5,7 +5,7 @@ ghost use Rattle.trace_model.specs.Printable.{is_printable};
 ghost use Rattle.logical_call.specs.Lines.{camera_line, camera_text, pair_line};
 
 use cam_types::NoMemory;
-use reply_facts::{PairEnd, Paired};
+use logical_camera::{PairEnd, Paired};
 use std::alloc::Global;
 use trace_model::Entry;
 use trace_text::Printer;

@@ -1,19 +1,15 @@
 -- The move of a candidate is one of a run.
 use Rattle.std.proofs.Common.{◌≡◌, ℕ, Bool, true, false, List, Option, Some, None, refl, sym, subst}
 use Rattle.cam_types.specs.declared.script.Script.{Script}
-use Rattle.trace_model.specs.declared.entry.Entry.{Entry}
-use Rattle.room_log.specs.State.{State}
+use Rattle.run_model.specs.State.{State}
 use Rattle.run_model.specs.declared.step.Move.{Move}
 use Rattle.run_model.specs.declared.step.StepName.{StepName}
 use Rattle.run_model.specs.declared.step.StepName.TheVariants.{Send, Release, Signal, Client, DropQueued, Fail, ReturnFailed, Shutter, SensorDone, Partial, TakeFill, FillDone, Deliver, Early, Finish}
 use Rattle.run_model.specs.Played.{move_at}
-use Rattle.run_model.specs.Ready.{adding, move_of, silent}
+use Rattle.run_model.specs.Ready.{move_of, silent}
 use Rattle.settle.specs.Stepping.{picked}
 use Rattle.logical_camera.specs.Turns.{choice}
-
-added : (step : StepName) (o : Option Entry) (m : Move) → adding step o ≡ Some m → m.step ≡ step
-added step None m h = absurd (cc)
-added step (Some e) m h = let same : record { step = step; entry = Some e } ≡ m = cc in rw (← same) refl
+use Rattle.run_rows.proofs.NeverStuckJobs.{added_step}
 
 still : (step : StepName) (t : Bool) (m : Move) → silent step t ≡ Some m → m.step ≡ step
 still step true m h = let same : record { step = step; entry = None } ≡ m = cc in rw (← same) refl
@@ -21,21 +17,21 @@ still step false m h = absurd (cc)
 
 -- the move of a step that is ready is of that step
 pub step-of : (script : Script) (h : List Move) (step : StepName) (m : Move) → move_of script h step ≡ Some m → m.step ≡ step
-step-of script h Send m made = added Send _ m made
-step-of script h (Release b) m made = added (Release b) _ m made
-step-of script h (Signal f) m made = added (Signal f) _ m made
-step-of script h Client m made = added Client _ m made
-step-of script h DropQueued m made = added DropQueued _ m made
-step-of script h (Fail n) m made = added (Fail n) _ m made
-step-of script h (ReturnFailed n s) m made = added (ReturnFailed n s) _ m made
-step-of script h Shutter m made = added Shutter _ m made
+step-of script h Send m made = added_step Send _ m made
+step-of script h (Release b) m made = added_step (Release b) _ m made
+step-of script h (Signal f) m made = added_step (Signal f) _ m made
+step-of script h Client m made = added_step Client _ m made
+step-of script h DropQueued m made = added_step DropQueued _ m made
+step-of script h (Fail n) m made = added_step (Fail n) _ m made
+step-of script h (ReturnFailed n s) m made = added_step (ReturnFailed n s) _ m made
+step-of script h Shutter m made = added_step Shutter _ m made
 step-of script h (SensorDone n) m made = still (SensorDone n) _ m made
-step-of script h (Partial n) m made = added (Partial n) _ m made
+step-of script h (Partial n) m made = added_step (Partial n) _ m made
 step-of script h (TakeFill n s) m made = still (TakeFill n s) _ m made
 step-of script h (FillDone n s) m made = still (FillDone n s) _ m made
-step-of script h (Deliver n s) m made = added (Deliver n s) _ m made
-step-of script h (Early n s) m made = added (Early n s) _ m made
-step-of script h (Finish n s) m made = added (Finish n s) _ m made
+step-of script h (Deliver n s) m made = added_step (Deliver n s) _ m made
+step-of script h (Early n s) m made = added_step (Early n s) _ m made
+step-of script h (Finish n s) m made = added_step (Finish n s) _ m made
 
 by-step : (script : Script) (h : List Move) (o : Option StepName) (m : Move) → move_at script h o ≡ Some m → move_of script h m.step ≡ Some m
 by-step script h None m made = absurd (cc)

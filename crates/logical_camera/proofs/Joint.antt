@@ -5,19 +5,19 @@ use Rattle.cam_types.specs.declared.script.Script.{Script}
 use Rattle.trace_model.specs.declared.entry.Entry.{Entry}
 use Rattle.trace_model.specs.Complete.{IsComplete}
 use Rattle.trace_model.specs.Legal.{IsLegal}
-use Rattle.bounded_runs.proofs.Legal.{runs_legally}
-use Rattle.bounded_runs.proofs.Moves.{moves_bounded}
-use Rattle.reply_facts.specs.declared.pair.Side.{Side}
-use Rattle.reply_facts.specs.Orderless.{is_orderless, without_faults}
-use Rattle.reply_facts.specs.Sides.{AreLegal, first_part, have_ended, second_part}
-use Rattle.reply_facts.proofs.Sides.{each_has_a_pair, pairs_follow}
-use Rattle.reply_facts.proofs.Steady.{faults_aside}
+use Rattle.run_model.proofs.Legal.{runs_legally}
+use Rattle.run_model.proofs.Moves.{moves_bounded}
+use Rattle.logical_camera.specs.declared.pair.Side.{Side}
+use Rattle.logical_camera.specs.Orderless.{is_orderless, without_faults}
+use Rattle.logical_camera.specs.Sides.{AreLegal, first_part, have_ended, second_part}
+use Rattle.logical_camera.proofs.Sides.{each_has_a_pair, pairs_follow}
+use Rattle.logical_camera.proofs.Steady.{faults_aside}
 use Rattle.run_model.specs.declared.step.Move.{Move}
 use Rattle.run_model.specs.Bounds.{move_bound}
 use Rattle.run_model.specs.History.{trace_of, with_entry}
 use Rattle.run_model.specs.Run.{IsRun}
 use Rattle.logical_camera.specs.Both.{Both, camera, with_move}
-use Rattle.logical_camera.specs.Laws.{EachItemHasOnePair, IsBounded, PairsFollowTheSecondEnd, RunsOfBoth, pair_at}
+use Rattle.logical_camera.specs.LogicalLaws.{EachItemHasOnePair, IsBounded, PairsFollowTheSecondEnd, RunsOfBoth, pair_at}
 use Rattle.logical_camera.specs.Runs.{AreNamed, Deed, both_by, sides_by, with_side}
 use Rattle.logical_camera.specs.Turns.{AreEntries, choice, pair_by, side}
 use Rattle.logical_camera.proofs.Choices.{choice-ready}

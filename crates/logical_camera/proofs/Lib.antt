@@ -1,6 +1,15 @@
+pub mod Steady
+pub mod Courses
+pub mod Replies
+pub mod Numbers
+pub mod Frames
+pub mod Ends
+pub mod Sides
+pub mod Whole
+pub mod Settings
 pub mod Choices
 pub mod Joint
 pub mod Stepping
 pub mod Turning
-pub mod Sides
+pub mod LogicalSides
 pub mod Opening

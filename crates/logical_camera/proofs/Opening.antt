@@ -5,7 +5,7 @@ use Rattle.cam_types.specs.declared.script.Script.{Script}
 use Rattle.cam_types.specs.Limits.{fault_limit}
 use Rattle.cam_types.specs.Profile.{profile_fits}
 use Rattle.cam_types.specs.Script.{is_valid}
-use Rattle.reply_facts.specs.Orderless.{without_faults}
+use Rattle.logical_camera.specs.Orderless.{without_faults}
 
 pub valid_without : (script : Script) → is_valid script ≡ true → is_valid (without_faults script) ≡ true
 valid_without script valid =

@@ -1,84 +1,126 @@
--- A step of either camera, and the frame that has ended in the second of the two by it.
-use Rattle.std.proofs.Common.{◌≡◌, ◌↔◌, ℕ, Bool, List, ◌∷◌, Option, Some, None, refl, sym, ap, ◌∙◌, length, reverse, take, subst, IsTrue}
-use Rattle.std.proofs.lemmas.List.{reverse-reverse}
+-- Each frame that has ended in both cameras has one pair.
+use Rattle.std.proofs.Common.{◌≡◌, ℕ, ◌==◌, ◌+◌, ◌≤◌, Bool, true, false, ◌&&◌, ◌||◌, not, List, [], ◌∷◌, ◌++◌, Option, Some, None, refl, sym, ap, ◌∙◌, arith, inl, inr, count_by, nat_lt, if◌then◌else◌}
+use Rattle.std.specs.Option.{option_to_list}
+use Rattle.std.proofs.lemmas.Bool.{and_from, and_parts, both_ways, cases_Bool, eq-eqb, false≢true, lt-ltb, ne_eqb, not-true}
 use Rattle.cam_types.specs.declared.script.Script.{Script}
-use Rattle.trace_model.specs.Complete.{IsComplete}
 use Rattle.trace_model.specs.declared.entry.Entry.{Entry}
-use Rattle.reply_facts.specs.declared.pair.Paired.{Paired}
-use Rattle.reply_facts.specs.declared.pair.Side.{Side}
-use Rattle.reply_facts.specs.declared.pair.Side.TheVariants.{First, Second}
-use Rattle.reply_facts.specs.Orderless.{without_faults}
-use Rattle.reply_facts.specs.Pairs.{frame_of}
-use Rattle.reply_facts.specs.Sides.{first_part, paired_of, second_part}
-use Rattle.room_log.specs.State.{State}
-use Rattle.run_model.specs.History.{trace_of, with_entry}
-use Rattle.logical_camera.specs.Both.{Both, camera}
-use Rattle.logical_camera.specs.Pairing.{frame_after, pair_between}
-use Rattle.logical_camera.specs.Turns.{IsOver, MakesChoice, MakesStep, choice, pair_by}
-use Rattle.logical_camera.proofs.Stepping.{before-it}
+use Rattle.trace_model.specs.Frames.{is_sent}
+use Rattle.trace_model.specs.Legal.{IsLegal}
+use Rattle.trace_model.specs.Numbers.{next_number}
+use Rattle.trace_model.specs.Open.{is_open}
+use Rattle.trace_laws.proofs.Sends.{sent-below}
+use Rattle.basic_lemmas.proofs.Counts.{count-cons, count-one, some-counted}
+use Rattle.logical_camera.specs.declared.pair.Paired.{Paired}
+use Rattle.logical_camera.specs.declared.pair.Side.{Side}
+use Rattle.logical_camera.specs.declared.pair.Side.TheVariants.{First, Second}
+use Rattle.logical_camera.specs.Laws.{EachItemHasAPair, PairsAreOfEndedFrames, PairsFollow}
+use Rattle.logical_camera.specs.Pairs.{is_dropped, is_ended, pair_end}
+use Rattle.logical_camera.specs.Sides.{AreLegal, first_part, frame_by, have_ended, is_pair_of, paired_of, pairs, second_part}
+use Rattle.logical_camera.specs.Taken.{drops, gives_number}
+use Rattle.logical_camera.proofs.Frames.{all_numbered, count-both, ends_stay, frames_agree, numbers_once}
+use Rattle.logical_camera.proofs.Ends.{one_ends}
+use Rattle.basic_lemmas.proofs.Tests.{and-none, two-ways}
 
--- both cameras, as a contract sees them
-abbrev pub view : State → State → Both
-view f s = record { script = f.script; first = f.history; second = s.history }
+-- ---- the frame that ends is the one that is asked for
 
--- ---- pairs
+abbrev pub now_and_not_before : ℕ → Side → List Side → Bool
+now_and_not_before n side sides = have_ended n (side ∷ sides) && not (have_ended n sides)
 
-of-first : (e : Entry) (sides : List Side) (o : Option ℕ) → pair_between (first_part sides) (second_part sides) (e ∷ first_part sides) (second_part sides) o ≡ paired_of (First e) sides o
-of-first e sides None = refl
-of-first e sides (Some n) = refl
+-- where the other had ended, this one hadn't
+not-before : (a b : Bool) → (a && b) ≡ false → b ≡ true → a ≡ false
+not-before true b h k = absurd (both_ways b h k)
+not-before false b h k = refl
 
-of-second : (e : Entry) (sides : List Side) (o : Option ℕ) → pair_between (first_part sides) (second_part sides) (first_part sides) (e ∷ second_part sides) o ≡ paired_of (Second e) sides o
-of-second e sides None = refl
-of-second e sides (Some n) = refl
+pub frame-by : (one two : Script) (sides : List Side) (side : Side) (n : ℕ) → AreLegal one two (side ∷ sides) → now_and_not_before n side sides ≡ true → frame_by side sides ≡ Some n
+frame-by one two sides (First e) n legal h =
+    let parts = and_parts (have_ended n (First e ∷ sides)) (not (have_ended n sides)) h in
+    let both = and_parts (is_ended n (e ∷ first_part sides)) (is_ended n (second_part sides)) parts.0 in
+    let before = not-before (is_ended n (first_part sides)) (is_ended n (second_part sides)) (not-true (have_ended n sides) parts.1) both.1 in
+    one_ends one (first_part sides) e n legal.0 before both.0
+frame-by one two sides (Second e) n legal h =
+    let parts = and_parts (have_ended n (Second e ∷ sides)) (not (have_ended n sides)) h in
+    let both = and_parts (is_ended n (first_part sides)) (is_ended n (e ∷ second_part sides)) parts.0 in
+    let before = and-none (is_ended n (first_part sides)) (is_ended n (second_part sides)) (not-true (have_ended n sides) parts.1) both.0 in
+    one_ends two (second_part sides) e n legal.1 before both.1
 
-pair-first : (past other : List Entry) (o : Option Entry) (sides : List Side) → first_part sides ≡ past → second_part sides ≡ other → pair_between past other (with_entry o past) other (frame_after past o) ≡ pair_by 0 o sides
-pair-first past other None sides f s = refl
-pair-first past other (Some e) sides f s = rw (← f, ← s) (of-first e sides (frame_of (first_part sides) e))
+pub pairs_follow : (one two : Script) (sides : List Side) → PairsFollow one two sides
+pairs_follow one two sides side n legal h = rw (frame-by one two sides side n legal h, h) refl
 
-pair-second : (other past : List Entry) (o : Option Entry) (sides : List Side) → first_part sides ≡ other → second_part sides ≡ past → pair_between other past other (with_entry o past) (frame_after past o) ≡ pair_by 1 o sides
-pair-second other past None sides f s = refl
-pair-second other past (Some e) sides f s = rw (← f, ← s) (of-second e sides (frame_of (second_part sides) e))
+-- ---- what has ended stays so
 
--- ---- steps
+pub tail-legal : (one two : Script) (side : Side) (sides : List Side) → AreLegal one two (side ∷ sides) → AreLegal one two sides
+tail-legal one two (First e) sides legal = (legal.0.1, legal.1)
+tail-legal one two (Second e) sides legal = (legal.0, legal.1.1)
 
-pub step-first : (f s f' : State) (number : ℕ) (entry : Option Entry) (pair : Option Paired) (before first second : List Entry) → MakesChoice f f' number entry → before ≡ take (length (reverse (trace_of f.history))) (reverse (trace_of f'.history)) → first ≡ reverse (trace_of f'.history) → second ≡ reverse (trace_of s.history) → pair ≡ pair_between (reverse before) (reverse second) (reverse first) (reverse second) (frame_after (reverse before) entry) → MakesStep 0 (view f s) (view f' s) number entry pair
-step-first f s f' number entry pair before first second made hb hf hs is =
-    let past = trace_of f.history in
-    let o = made.move.entry in
-    let grown : trace_of f'.history ≡ with_entry o past = ap (λ (x : State). trace_of x.history) made.left in
-    let before-is : reverse before ≡ past = ap reverse hb ∙ (ap (λ (t : List Entry). reverse (take (length (reverse past)) (reverse t))) grown ∙ before-it o past) in
-    let first-is : reverse first ≡ with_entry o past = ap reverse hf ∙ (reverse-reverse (trace_of f'.history) ∙ grown) in
-    let second-is : reverse second ≡ trace_of s.history = ap reverse hs ∙ reverse-reverse (trace_of s.history) in
-    let whole : pair ≡ pair_between past (trace_of s.history) (with_entry o past) (trace_of s.history) (frame_after past o) = is ∙ rw (before-is, first-is, second-is, made.of) refl in
-    record {
-      move = made.move;
-      chosen = made.chosen;
-      left = ap (λ (x : State). view x s) made.left;
-      of = made.of;
-      paired = λ sides are. whole ∙ (pair-first past (trace_of s.history) o sides are.first are.second ∙ ap (λ (e : Option Entry). pair_by 0 e sides) (sym made.of));
-    }
+pub both-stay : (one two : Script) (side : Side) (sides : List Side) (n : ℕ) → AreLegal one two (side ∷ sides) → have_ended n sides ≡ true → have_ended n (side ∷ sides) ≡ true
+both-stay one two (First e) sides n legal h =
+    let both = and_parts (is_ended n (first_part sides)) (is_ended n (second_part sides)) h in
+    and_from (is_ended n (e ∷ first_part sides)) (is_ended n (second_part sides)) (ends_stay one (first_part sides) e n legal.0 both.0) both.1
+both-stay one two (Second e) sides n legal h =
+    let both = and_parts (is_ended n (first_part sides)) (is_ended n (second_part sides)) h in
+    and_from (is_ended n (first_part sides)) (is_ended n (e ∷ second_part sides)) both.0 (ends_stay two (second_part sides) e n legal.1 both.1)
 
-pub step-second : (f s s' : State) (number : ℕ) (entry : Option Entry) (pair : Option Paired) (before first second : List Entry) → s.script ≡ without_faults f.script → MakesChoice s s' number entry → before ≡ take (length (reverse (trace_of s.history))) (reverse (trace_of s'.history)) → first ≡ reverse (trace_of f.history) → second ≡ reverse (trace_of s'.history) → pair ≡ pair_between (reverse first) (reverse before) (reverse first) (reverse second) (frame_after (reverse before) entry) → MakesStep 1 (view f s) (view f s') number entry pair
-step-second f s s' number entry pair before first second script made hb hf hs is =
-    let past = trace_of s.history in
-    let o = made.move.entry in
-    let grown : trace_of s'.history ≡ with_entry o past = ap (λ (x : State). trace_of x.history) made.left in
-    let before-is : reverse before ≡ past = ap reverse hb ∙ (ap (λ (t : List Entry). reverse (take (length (reverse past)) (reverse t))) grown ∙ before-it o past) in
-    let second-is : reverse second ≡ with_entry o past = ap reverse hs ∙ (reverse-reverse (trace_of s'.history) ∙ grown) in
-    let first-is : reverse first ≡ trace_of f.history = ap reverse hf ∙ reverse-reverse (trace_of f.history) in
-    let whole : pair ≡ pair_between (trace_of f.history) past (trace_of f.history) (with_entry o past) (frame_after past o) = is ∙ rw (before-is, first-is, second-is, made.of) refl in
-    record {
-      move = made.move;
-      chosen = subst (λ (t : Script). choice (record { script = t; history = s.history }) number ≡ Some made.move) script made.chosen;
-      left = ap (λ (x : State). view f x) made.left;
-      of = made.of;
-      paired = λ sides are. whole ∙ (pair-second (trace_of f.history) past o sides are.first are.second ∙ ap (λ (e : Option Entry). pair_by 1 e sides) (sym made.of));
-    }
+-- ---- how many pairs a frame has
 
--- ---- which runs are complete
+-- of an entry, by the frame that it may end
+count-paired : (side : Side) (sides : List Side) (n : ℕ) (o : Option ℕ) (b : Bool) → now_and_not_before n side sides ≡ b → (b ≡ true → o ≡ Some n) → count_by (is_pair_of n) (option_to_list (paired_of side sides o) ++ pairs sides) ≡ (if b then 1 else 0) + count_by (is_pair_of n) (pairs sides)
+count-paired side sides n None true at h = absurd (let wrong = h refl in cc)
+count-paired side sides n None false at h = omega arith
+count-paired side sides n (Some m) true at h =
+    let same : m ≡ n = (let at' = h refl in cc) in
+    let p : Paired = record { frame = record { 0 = n }; end = pair_end n (first_part (side ∷ sides)) (second_part (side ∷ sides)) } in
+    rw (same, at) (count-one (is_pair_of n) p (pairs sides) (eq-eqb n n refl))
+count-paired side sides n (Some m) false at h =
+    elim (cases_Bool (now_and_not_before m side sides)) [
+      | inl yes' ↦ (
+          let other : (m == n) ≡ false = ne_eqb m n (λ same. both_ways (now_and_not_before n side sides) at (rw same at yes')) in
+          let p : Paired = record { frame = record { 0 = m }; end = pair_end m (first_part (side ∷ sides)) (second_part (side ∷ sides)) } in
+          rw yes' (count-cons (is_pair_of n) p (pairs sides) ∙ rw other refl)
+          )
+      | inr no' ↦ rw no' (omega arith)
+    ]
 
-pub first-done : (f s : State) (b : Bool) → (IsTrue b ↔ IsComplete f.script (trace_of f.history)) → (IsTrue b ↔ IsOver (camera 0 (view f s)))
-first-done f s b h = h
+by-change : (old new : Bool) → (old ≡ true → new ≡ true) → (if new && not old then 1 else 0) + (if old then 1 else 0) ≡ (if new then 1 else 0)
+by-change true true stays = refl
+by-change true false stays = absurd (false≢true (stays refl))
+by-change false true stays = refl
+by-change false false stays = refl
 
-pub second-done : (f s : State) (b : Bool) → s.script ≡ without_faults f.script → (IsTrue b ↔ IsComplete s.script (trace_of s.history)) → (IsTrue b ↔ IsOver (camera 1 (view f s)))
-second-done f s b script h = subst (λ (t : Script). IsTrue b ↔ IsComplete t (trace_of s.history)) script h
+pub pairs_once : (one two : Script) (sides : List Side) → PairsAreOfEndedFrames one two sides
+pairs_once one two [] legal n = refl
+pairs_once one two (side ∷ sides) legal n =
+    let ih = pairs_once one two sides (tail-legal one two side sides legal) n in
+    count-paired side sides n (frame_by side sides) (now_and_not_before n side sides) refl (frame-by one two sides side n legal)
+    ∙ rw ih (by-change (have_ended n sides) (have_ended n (side ∷ sides)) (both-stay one two side sides n legal))
+
+-- ---- complete runs
+
+given-below : (k n : ℕ) (b : Bool) → k ≡ (if b then 1 else 0) → 1 ≤ k → b ≡ true
+given-below k n true h some = refl
+given-below k n false h some = absurd (omega (arith, h, some))
+
+-- no frame ends whose number wasn't given away
+pub ended-below : (script : Script) (past : List Entry) (n : ℕ) → IsLegal script past → is_ended n past ≡ true → nat_lt n (next_number past) ≡ true
+ended-below script past n legal h =
+    elim (cases_Bool (is_sent n past)) [
+      | inl sent ↦ lt-ltb n (next_number past) (sent-below script past n legal sent)
+      | inr no' ↦ (
+          let dropped : is_dropped n past ≡ true = alone (is_dropped n past) (is_sent n past) (not (is_open n past)) no' h in
+          let both = count-both n past in
+          let one = some-counted (drops n) past dropped in
+          given-below (count_by (gives_number n) past) n (nat_lt n (next_number past)) (numbers_once script past legal n) (omega (arith, both, one))
+          )
+    ]
+  where
+    alone : (d s o : Bool) → s ≡ false → (d || (s && o)) ≡ true → d ≡ true
+    alone true s o no' h = refl
+    alone false false o no' h = absurd (false≢true h)
+    alone false true o no' h = absurd (false≢true (sym no'))
+
+pub each_has_a_pair : (one two : Script) (sides : List Side) → EachItemHasAPair one two sides
+each_has_a_pair one two sides twins ok ok' complete complete' n =
+    let agree = frames_agree one two (first_part sides) (second_part sides) twins ok ok' complete complete' in
+    let count = all_numbered one (first_part sides) ok complete in
+    let test = two-ways (have_ended n sides) (nat_lt n (next_number (first_part sides)))
+    (λ h. ended-below one (first_part sides) n complete.legal (and_parts (is_ended n (first_part sides)) (is_ended n (second_part sides)) h).0) (agree.ended n) in
+    pairs_once one two sides (complete.legal, complete'.legal) n ∙ (ap (λ (b : Bool). if b then 1 else 0) test ∙ ap (λ k. if nat_lt n k then 1 else 0) count)

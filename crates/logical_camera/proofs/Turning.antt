@@ -32,17 +32,14 @@ second-turn both pick going (inl over) = elim (cases_eq (pick % 2) 0) [
 
 -- ---- by which runs are complete
 
-by-both : (pick : ℕ) (both : Both) (a b : Bool) → (IsTrue a ↔ IsOver (camera 0 both)) → (IsTrue b ↔ IsOver (camera 1 both)) → turn_of pick a b ≡ First → IsTurn both pick 0
-by-both pick both true true f s is = absurd (cc)
-by-both pick both true false f s is = absurd (cc)
-by-both pick both false true f s is = first-turn both pick (λ over. false≢true (f.1 over)) (inl (s.0 refl))
-by-both pick both false false f s is = elim (cases_Bool (pick % 2 == 0)) [
+pub turn-first : (pick : ℕ) (both : Both) (a b : Bool) → (IsTrue a ↔ IsOver (camera 0 both)) → (IsTrue b ↔ IsOver (camera 1 both)) → turn_of pick a b ≡ First → IsTurn both pick 0
+turn-first pick both true true f s is = absurd (cc)
+turn-first pick both true false f s is = absurd (cc)
+turn-first pick both false true f s is = first-turn both pick (λ over. false≢true (f.1 over)) (inl (s.0 refl))
+turn-first pick both false false f s is = elim (cases_Bool (pick % 2 == 0)) [
   | inl even ↦ first-turn both pick (λ over. false≢true (f.1 over)) (inr (eqb-true (pick % 2) 0 even))
   | inr other ↦ (let is' = rw other at is in absurd (cc))
 ]
-
-pub turn-first : (pick : ℕ) (both : Both) (a b : Bool) → (IsTrue a ↔ IsOver (camera 0 both)) → (IsTrue b ↔ IsOver (camera 1 both)) → turn_of pick a b ≡ First → IsTurn both pick 0
-turn-first pick both a b f s is = by-both pick both a b f s is
 
 pub turn-second : (pick : ℕ) (both : Both) (a b : Bool) → (IsTrue a ↔ IsOver (camera 0 both)) → (IsTrue b ↔ IsOver (camera 1 both)) → turn_of pick a b ≡ Second → IsTurn both pick 1
 turn-second pick both true true f s is = absurd (cc)

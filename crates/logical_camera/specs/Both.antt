@@ -1,8 +1,8 @@
 -- Two cameras that run one script side by side. (docs/FORMATS.md, logical camera)
 use Rattle.std.specs.Prelude.{ℕ, zero, suc, List, [], ◌∷◌}
 use Rattle.cam_types.specs.declared.script.Script.{Script}
-use Rattle.reply_facts.specs.Orderless.{without_faults}
-use Rattle.room_log.specs.State.{State}
+use Rattle.logical_camera.specs.Orderless.{without_faults}
+use Rattle.run_model.specs.State.{State}
 use Rattle.run_model.specs.declared.step.Move.{Move}
 
 -- the script, and the moves of camera 0 and of camera 1, the newest first

@@ -1,6 +1,12 @@
+pub mod Orderless
+pub mod Courses
+pub mod Taken
+pub mod Pairs
+pub mod Sides
+pub mod Laws
 pub mod Both
 pub mod Turns
 pub mod Pairing
 pub mod Whose
 pub mod Runs
-pub mod Laws
+pub mod LogicalLaws

@@ -1,9 +1,9 @@
 -- The frame that has ended in the second of two cameras, by what each did before and now. (Our own choice; the same as
--- `paired` of reply_facts/specs/Sides.antt.)
+-- `paired` of specs/Sides.antt.)
 use Rattle.std.specs.Prelude.{ℕ, ◌&&◌, not, List, Option, Some, None, if◌then◌else◌}
 use Rattle.cam_types.specs.declared.number.FrameNo.{FrameNo}
-use Rattle.reply_facts.specs.declared.pair.Paired.{Paired}
-use Rattle.reply_facts.specs.Pairs.{frame_of, is_ended, pair_end}
+use Rattle.logical_camera.specs.declared.pair.Paired.{Paired}
+use Rattle.logical_camera.specs.Pairs.{frame_of, is_ended, pair_end}
 use Rattle.trace_model.specs.declared.entry.Entry.{Entry}
 
 -- the one frame that may end by an entry, if there is one

@@ -2,7 +2,7 @@
 use Rattle.std.specs.Prelude.{◌≡◌, ℕ, ◌/◌, List, [], ◌∷◌, Option, Some, None, length}
 use Rattle.cam_types.specs.declared.script.Script.{Script}
 use Rattle.trace_model.specs.declared.entry.Entry.{Entry}
-use Rattle.reply_facts.specs.declared.pair.Side.{Side}
+use Rattle.logical_camera.specs.declared.pair.Side.{Side}
 use Rattle.run_model.specs.declared.step.Move.{Move}
 use Rattle.run_model.specs.Played.{pick_at}
 use Rattle.logical_camera.specs.Both.{Both, at_first, camera, with_move}

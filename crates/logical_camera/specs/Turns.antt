@@ -4,12 +4,12 @@ use Rattle.cam_types.specs.declared.script.Script.{Script}
 use Rattle.trace_model.specs.declared.entry.Entry.{Entry}
 use Rattle.trace_model.specs.Complete.{IsComplete}
 use Rattle.trace_model.specs.Printable.{is_printable}
-use Rattle.reply_facts.specs.declared.pair.Paired.{Paired}
-use Rattle.reply_facts.specs.declared.pair.Side.{Side}
-use Rattle.reply_facts.specs.declared.pair.Side.TheVariants.{First, Second}
-use Rattle.reply_facts.specs.Orderless.{is_logical}
-use Rattle.reply_facts.specs.Sides.{first_part, paired, second_part}
-use Rattle.room_log.specs.State.{State}
+use Rattle.logical_camera.specs.declared.pair.Paired.{Paired}
+use Rattle.logical_camera.specs.declared.pair.Side.{Side}
+use Rattle.logical_camera.specs.declared.pair.Side.TheVariants.{First, Second}
+use Rattle.logical_camera.specs.Orderless.{is_logical}
+use Rattle.logical_camera.specs.Sides.{first_part, paired, second_part}
+use Rattle.run_model.specs.State.{State}
 use Rattle.run_model.specs.declared.step.Move.{Move}
 use Rattle.run_model.specs.History.{trace_of}
 use Rattle.run_model.specs.Played.{move_at}

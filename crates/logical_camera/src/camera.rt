@@ -11,9 +11,9 @@ ghost use Rattle.trace_model.specs.Printable.{is_printable};
 ghost use Rattle.logical_camera.specs.Turns.{MakesChoice};
 
 use cam_types::{NoMemory, Script};
-use job_hands::Hands;
-use job_moves::no_job_is_out_at_first;
+use fill_jobs::Hands;
 use service_core::Service;
+use service_parts::no_job_is_out_at_first;
 use settle::{Stepped, close, finish, step_at};
 use std::alloc::Global;
 use std::marker::Model;
@@ -27,7 +27,7 @@ pub(crate) struct Camera {
 }
 
 impl Model for Camera {
-    ghost use Rattle.room_log.specs.State.{State};
+    ghost use Rattle.run_model.specs.State.{State};
     ghost use Rattle.settle.specs.Stepping.{HoldsJobs};
 
     ghost Value = { State };

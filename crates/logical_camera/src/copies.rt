@@ -1,6 +1,6 @@
 //! Copies of a script's parts: each of the two cameras has its own.
 ghost use Rattle.std.specs.Prelude.{◌≡◌, IfOk};
-ghost use Rattle.reply_facts.specs.Orderless.{without_faults};
+ghost use Rattle.logical_camera.specs.Orderless.{without_faults};
 
 use cam_types::{Command, CommandList, FaultList, ItemList, NoMemory, PickList, Script, SpecList};
 use std::alloc::Global;

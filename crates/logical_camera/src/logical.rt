@@ -7,7 +7,7 @@ ghost use Rattle.run_model.specs.History.{trace_of};
 ghost use Rattle.run_model.specs.Run.{IsRun};
 ghost use Rattle.trace_model.specs.Complete.{IsComplete};
 ghost use Rattle.trace_model.specs.Printable.{is_printable};
-ghost use Rattle.reply_facts.specs.Orderless.{is_logical, without_faults};
+ghost use Rattle.logical_camera.specs.Orderless.{is_logical, without_faults};
 ghost use Rattle.logical_camera.specs.Both.{at_first};
 ghost use Rattle.logical_camera.specs.Turns.{AnswersStep, HasLine, IsRefused, IsStepOf};
 
@@ -15,8 +15,8 @@ use crate::camera::Camera;
 use crate::copies::{copied, copied_without_faults};
 use crate::pairing::{pair_by_first, pair_by_second};
 use crate::turn::{Turn, turn_of};
+use crate::{Paired, is_logical};
 use cam_types::{NoMemory, Script};
-use reply_facts::{Paired, is_logical};
 use std::alloc::Global;
 use std::marker::Model;
 use trace_model::Entry;
@@ -54,7 +54,7 @@ pub struct Logical {
 impl Model for Logical {
     ghost use Rattle.std.specs.Prelude.{◌≡◌, IsTrue};
     ghost use Rattle.logical_camera.specs.Both.{Both};
-    ghost use Rattle.reply_facts.specs.Orderless.{is_logical, without_faults};
+    ghost use Rattle.logical_camera.specs.Orderless.{is_logical, without_faults};
 
     ghost Value = { Both };
 

@@ -4,15 +4,15 @@ ghost use Rattle.std.specs.List.{list_all, list_any};
 ghost use Rattle.std.specs.Option.{option_map};
 ghost use Rattle.cam_types.specs.Four.{four_list};
 ghost use Rattle.logical_camera.specs.Pairing.{frame_after, pair_at, pair_between};
-ghost use Rattle.reply_facts.specs.Pairs.{all_filled, early_frame, fills, frame_of, is_dropped, is_ended, is_whole, pair_end};
-ghost use Rattle.reply_facts.specs.Taken.{drops};
+ghost use Rattle.logical_camera.specs.Pairs.{all_filled, early_frame, fills, frame_of, is_dropped, is_ended, is_whole, pair_end};
+ghost use Rattle.logical_camera.specs.Taken.{drops};
 ghost use Rattle.trace_model.specs.Entry.{is_early_with};
 
+use crate::{PairEnd, Paired};
 use cam_types::{FenceNo, Four, FrameNo, StreamIx};
 use judge_entries::entry::is_early_with;
 use judge_filters::frame::{is_sent, targets_of};
 use judge_filters::open::{has_part, is_open};
-use reply_facts::{PairEnd, Paired};
 use trace_model::{Entry, Sent};
 
 /// Whether the entry drops an item under the frame's number.

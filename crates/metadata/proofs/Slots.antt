@@ -17,6 +17,7 @@ use Rattle.metadata.specs.Spelling.{u32_bytes, rounded, filled, is_short, data_o
 use Rattle.metadata.specs.Reading.{u32_at, all_zero, tag_in, count_in, field_in, place_in, type_in, reserved_in, payload_before_zeros, with_end, payload_at, order_refusal, unless, placed_entry, typed_entry, entry_of}
 use Rattle.metadata.proofs.Bytes.{IsBytes, IsBytes-drop, IsBytes-take}
 use Rattle.metadata.proofs.Payload.{AreFrom, values_from-are, values_again, numbered, numbered_again, length-payload}
+use Rattle.basic_lemmas.proofs.Tests.{not-false, and-parts}
 
 -- ---- numbers of four bytes
 
@@ -32,10 +33,6 @@ u32_below place bytes fits =
     omega (arith, four 0, four 1, four 2, four 3)
 
 -- ---- tests that came out
-
-pub and_parts : (a b : Bool) → (a && b) ≡ true → (a ≡ true) × (b ≡ true)
-and_parts true b h = (refl, h)
-and_parts false b h = absurd (false≢true h)
 
 pub some_guard : {A : Type 0} (b : Bool) (x y : A) → cond b (Some x) None ≡ Some y → (b ≡ true) × (x ≡ y)
 some_guard true x y h = (refl, cc)
@@ -53,7 +50,7 @@ cases_leb a b = elim (leb a b) as (λ v. (v ≡ true) ⊎ (v ≡ false)) [ true 
 pub zeros : (bytes : List ℕ) → all_zero bytes ≡ true → bytes ≡ replicate (length bytes) 0
 zeros [] h = refl
 zeros (b ∷ bytes) h =
-    let parts = and_parts (eqb b 0) (all_zero bytes) h in
+    let parts = and-parts (eqb b 0) (all_zero bytes) h in
     ap (λ (x : ℕ). x ∷ bytes) (eqb-true b 0 parts.0) ∙ ap (λ (xs : List ℕ). 0 ∷ xs) (zeros bytes parts.1)
 
 pub all_zero-replicate : (n : ℕ) → all_zero (replicate n 0) ≡ true
@@ -149,7 +146,7 @@ payload_takes slot area size tiled p slot-len slot-fits area-fits within h =
     elim (chosen (leb size 4) (with_end tiled (payload_before_zeros size (field_in slot))) (cond (eqb (place_in slot) tiled && leb (tiled + rounded size) (length area)) (with_end (tiled + rounded size) (payload_before_zeros size (take (rounded size) (drop tiled area)))) None) (Some p) h) [
       | inl short ↦ (let w = with_end_some tiled (payload_before_zeros size (field_in slot)) p short.1 in short_takes slot area size tiled p slot-len slot-fits within (leb-true size 4 short.0) w.0 w.1)
       | inr long ↦ elim (chosen (eqb (place_in slot) tiled && leb (tiled + rounded size) (length area)) (with_end (tiled + rounded size) (payload_before_zeros size (take (rounded size) (drop tiled area)))) None (Some p) long.1) [
-        | inl placed ↦ (let tests = and_parts (eqb (place_in slot) tiled) (leb (tiled + rounded size) (length area)) placed.0 in
+        | inl placed ↦ (let tests = and-parts (eqb (place_in slot) tiled) (leb (tiled + rounded size) (length area)) placed.0 in
             let w = with_end_some (tiled + rounded size) (payload_before_zeros size (take (rounded size) (drop tiled area))) p placed.1 in
             long_takes slot area size tiled p slot-len slot-fits area-fits (leb-false size 4 long.0) (eqb-true (place_in slot) tiled tests.0) (leb-true (tiled + rounded size) (length area) tests.1) w.0 w.1)
         | inr bad ↦ absurd (cc)
@@ -190,10 +187,6 @@ payload_again slot area found rest tiled field small tiles within =
 pub guard_ok : {A : Type 0} (b : Bool) (d : PackedRefused) (r : Result A PackedRefused) (y : A) → cond b (Err d) r ≡ Ok y → (b ≡ false) × (r ≡ Ok y)
 guard_ok true d r y h = absurd (cc)
 guard_ok false d r y h = (refl, h)
-
-pub not_false : (b : Bool) → not b ≡ false → b ≡ true
-not_false true h = refl
-not_false false h = absurd (true≢false h)
 
 pub or_parts : (a b : Bool) → (a || b) ≡ false → (a ≡ false) × (b ≡ false)
 or_parts true b h = absurd (true≢false h)
@@ -264,7 +257,7 @@ typed_takes slot area tiled last x len fits area-fits within (Some t) kind h =
     let b = guard_ok (eqb (count_in slot) 0 || ltb 1024 (count_in slot)) BadCount placed x a.1 in
     let counts = or_parts (eqb (count_in slot) 0) (ltb 1024 (count_in slot)) b.0 in
     let some : 0 < count_in slot = grind (arith, nat_tests) in
-    placed_some slot area tiled last t (payload_at slot (count_in slot * element_len t) area tiled) x len fits area-fits within kind (not_false (all_zero (reserved_in slot)) a.0) some (ltb-false 1024 (count_in slot) counts.1) refl b.1
+    placed_some slot area tiled last t (payload_at slot (count_in slot * element_len t) area tiled) x len fits area-fits within kind (not-false (all_zero (reserved_in slot)) a.0) some (ltb-false 1024 (count_in slot) counts.1) refl b.1
 
 pub entry_takes : (slot area : List ℕ) (tiled : ℕ) (last : Option ℕ) (x : Entry × ℕ) → length slot ≡ 16 → IsBytes slot → IsBytes area → tiled ≤ length area → entry_of slot area tiled last ≡ Ok x → Took slot area tiled last x
 unfolding entry_of

@@ -15,8 +15,9 @@ use Rattle.metadata.specs.Values.{payload}
 use Rattle.metadata.specs.Spelling.{u32_bytes, rounded, data_of, data_area, entry_bytes, entries_bytes, bytes_of}
 use Rattle.metadata.specs.Reading.{◌>>=◌, order_refusal, entry_of, entries_of, is_header, entry_count, area_len, whole_len, version_in, slots_in, area_in, list_of}
 use Rattle.metadata.proofs.Bytes.{IsBytes, IsBytes-drop, IsBytes-take}
-use Rattle.metadata.proofs.Slots.{u32_takes, and_parts, Took, entry_takes, entry_holds, entry_again, four_parts, guard_ok, not_false, cases_leb, short_is, long_is, length-filled, rounded_up}
+use Rattle.metadata.proofs.Slots.{u32_takes, Took, entry_takes, entry_holds, entry_again, four_parts, guard_ok, cases_leb, short_is, long_is, length-filled, rounded_up}
 use Rattle.metadata.proofs.Loop.{read_from}
+use Rattle.basic_lemmas.proofs.Tests.{not-false, and-parts}
 
 -- the least tag that may follow
 abbrev pub floor : Option ℕ → ℕ
@@ -106,10 +107,10 @@ record IsHeader (bytes : List ℕ) : Type 0 where
 
 header_is : (bytes : List ℕ) → is_header bytes ≡ true → IsHeader bytes
 header_is bytes h =
-    let a = and_parts (eqb (version_in bytes) 1) (leb (entry_count bytes) 64 && (eqb (area_len bytes % 8) 0 && (leb (area_len bytes) 4096 && eqb (whole_len bytes) (16 + 16 * entry_count bytes + area_len bytes)))) h in
-    let b = and_parts (leb (entry_count bytes) 64) (eqb (area_len bytes % 8) 0 && (leb (area_len bytes) 4096 && eqb (whole_len bytes) (16 + 16 * entry_count bytes + area_len bytes))) a.1 in
-    let c = and_parts (eqb (area_len bytes % 8) 0) (leb (area_len bytes) 4096 && eqb (whole_len bytes) (16 + 16 * entry_count bytes + area_len bytes)) b.1 in
-    let d = and_parts (leb (area_len bytes) 4096) (eqb (whole_len bytes) (16 + 16 * entry_count bytes + area_len bytes)) c.1 in
+    let a = and-parts (eqb (version_in bytes) 1) (leb (entry_count bytes) 64 && (eqb (area_len bytes % 8) 0 && (leb (area_len bytes) 4096 && eqb (whole_len bytes) (16 + 16 * entry_count bytes + area_len bytes)))) h in
+    let b = and-parts (leb (entry_count bytes) 64) (eqb (area_len bytes % 8) 0 && (leb (area_len bytes) 4096 && eqb (whole_len bytes) (16 + 16 * entry_count bytes + area_len bytes))) a.1 in
+    let c = and-parts (eqb (area_len bytes % 8) 0) (leb (area_len bytes) 4096 && eqb (whole_len bytes) (16 + 16 * entry_count bytes + area_len bytes)) b.1 in
+    let d = and-parts (leb (area_len bytes) 4096) (eqb (whole_len bytes) (16 + 16 * entry_count bytes + area_len bytes)) c.1 in
     record {
       version = eqb-true (version_in bytes) 1 a.0;
       few = leb-true (entry_count bytes) 64 b.0;
@@ -146,7 +147,7 @@ all_takes bytes es fits h =
     let four = guard_ok (ltb (whole_len bytes) (length bytes)) BadHeader read es three.1 in
     let no_less = ltb-false (length bytes) (whole_len bytes) three.0 in
     let no_more = ltb-false (whole_len bytes) (length bytes) four.0 in
-    whole_takes bytes es fits (header_is bytes (not_false (is_header bytes) two.0)) (omega (arith, no_less, no_more)) four.1
+    whole_takes bytes es fits (header_is bytes (not-false (is_header bytes) two.0)) (omega (arith, no_less, no_more)) four.1
 
 -- ---- what is written is read
 
@@ -157,7 +158,7 @@ entries_again [] area tiled last each fit ascending tiles ends small = let all :
 entries_again (e ∷ es) area tiled last each fit ascending tiles ends small =
     let p = payload e.values in
     let next = tiled + length (data_of p) in
-    let order = and_parts (leb (floor last) e.tag) (ascends_from (e.tag + 1) es) ascending in
+    let order = and-parts (leb (floor last) e.tag) (ascends_from (e.tag + 1) es) ascending in
     let sum = length-append (data_of p) (data_area es) in
     let here = entry_again area (data_area es) tiled last e each.0 fit.0 (order_from e.tag last order.0) (omega (arith, sum)) tiles (omega (arith, sum)) in
     let left : drop next area ≡ data_area es = sym (drop-drop (length (data_of p)) tiled area) ∙ ap (drop (length (data_of p))) tiles ∙ drop_at (data_of p) (data_area es) (length (data_of p)) refl in

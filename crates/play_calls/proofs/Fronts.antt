@@ -4,7 +4,7 @@ use Rattle.std.proofs.KnownBytes.{Appends-trans}
 use Rattle.std.proofs.Math.Seq.{take-append-add}
 use Rattle.std.proofs.lemmas.List.{length-append, take-append-le}
 use Rattle.io_edge.specs.States.{Breaks, SinkState, Writes}
-use Rattle.call_status.specs.Answers.{Answers}
+use Rattle.call_parts.specs.Answers.{Answers}
 
 -- the front is there, and the text behind it is answered
 pub behind : (front text : List ℕ) (status : ℕ) (before mid after : SinkState) → Writes before mid front → mid.faults ≡ before.faults → Answers 0 text status mid after → Answers 0 (front ++ text) status before after

@@ -1,1 +1,3 @@
 pub mod Says
+pub mod Judging
+pub mod Converting

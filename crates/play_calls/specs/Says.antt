@@ -1,21 +1,18 @@
 -- The status and the whole text that belong to an input: what `play` and `gen` write. (docs/FORMATS.md)
-use Rattle.std.specs.Prelude.{◌≡◌, ℕ, List, ◌++◌, Result, Ok, Err}
+use Rattle.std.specs.Prelude.{◌≡◌, ℕ, List, ◌++◌, Ok}
 use Rattle.io_edge.specs.States.{SinkState, Writes}
 use Rattle.cam_types.specs.declared.script.Script.{Script}
 use Rattle.generated_scripts.specs.Generated.{generated}
-use Rattle.run_laws.specs.Lawful.{KeepsLaws}
-use Rattle.line_reading.specs.Causes.{number_of}
+use Rattle.run_model.specs.Lawful.{KeepsLaws}
 use Rattle.script_text.specs.Grammar.{script_of}
-use Rattle.line_reading.specs.declared.cause.TextRefused.{TextRefused}
-use Rattle.line_reading.specs.declared.cause.TextRefused.TheVariants.{Bad, NoMemory}
 use Rattle.run_model.specs.History.{trace_of}
 use Rattle.run_model.specs.Played.{IsPlayedRun}
 use Rattle.run_model.specs.declared.step.Move.{Move}
-use Rattle.judge_text.specs.Lines.{refused_script_text}
-use Rattle.call_status.specs.Answers.{Answers}
-use Rattle.run_output.specs.Texts.{text_in}
-use Rattle.run_output.specs.declared.output.Output.{Output}
-use Rattle.run_output.specs.declared.output.Output.TheVariants.{Trace, Summary}
+use Rattle.call_parts.specs.Answers.{Answers}
+use Rattle.call_parts.specs.Meanings.{OfScript}
+use Rattle.call_parts.specs.Texts.{text_in}
+use Rattle.call_parts.specs.declared.output.Output.{Output}
+use Rattle.call_parts.specs.declared.output.Output.TheVariants.{Trace, Summary}
 
 -- the text is that of the played run of the script, which is complete
 pub record IsPlayedText (output : Output) (script : Script) (text : List ℕ) : Type 0 where
@@ -39,14 +36,9 @@ pub record PlaysBehind (front : List ℕ) (output : Output) (script : Script) (s
 abbrev pub SaysOfScript : Output → Script → ℕ → List ℕ → Type 0
 SaysOfScript output script status text = (status ≡ 0) × IsPlayedText output script text
 
-abbrev pub SaysOf : Result Script TextRefused → ℕ → List ℕ → Type 0
-SaysOf (Ok script) status text = SaysOfScript Trace script status text
-SaysOf (Err (Bad line cause)) status text = (status ≡ 1) × (text ≡ refused_script_text line (number_of cause))
-SaysOf (Err NoMemory) status text = ⊥
-
 -- of an input: what its meaning as a script says
 abbrev pub Says : List ℕ → ℕ → List ℕ → Type 0
-Says input status text = SaysOf (script_of input) status text
+Says input status text = OfScript (SaysOfScript Trace) input status text
 
 -- of a seed and a count: the summary of the script that they generate
 abbrev pub SaysOfSeed : ℕ → ℕ → ℕ → List ℕ → Type 0

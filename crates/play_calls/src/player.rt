@@ -4,20 +4,34 @@ ghost use Rattle.std.specs.Prelude.{◌≡◌, ◌≢◌, ◌≤◌, ◌⊎◌, 
 ghost use Rattle.std.specs.Io.KnownBytes.{IsAtEnd};
 ghost use Rattle.cam_types.specs.Script.{is_valid};
 ghost use Rattle.generated_scripts.specs.Generated.{generated};
-ghost use Rattle.call_status.specs.Answers.{Tells, TellsBy};
-ghost use Rattle.call_status.specs.Ends.{CountsSink, CountsSource, ReadsBy};
+ghost use Rattle.call_parts.specs.Answers.{Tells, TellsBy};
+ghost use Rattle.call_parts.specs.Ends.{CountsSink, CountsSource, ReadsBy};
 ghost use Rattle.play_calls.specs.Says.{IsWhole, IsWholeRun, Says, SaysOfScript, SaysOfSeed};
 
 use crate::prepared::{play_prepared, prepare};
-use call_status::Status;
+use call_parts::{Output, ScriptWork, Status, answer_script};
 use cam_types::{SCRIPT_BYTES, Script};
 use generated_scripts::{generate, generated_scripts_are_valid};
-use input_refusals::refuse_script;
-use io_edge::{ReadBytes, ReadFault, Sink, Source, read_all};
-use line_reading::{Cause, TextRefused};
-use run_laws::a_complete_run_keeps_the_laws;
-use run_output::Output;
+use io_edge::{Sink, Source};
+use run_model::a_complete_run_keeps_the_laws;
 use std::alloc::Global;
+
+/// What `play` makes of a script.
+#[derive(Drop)]
+struct Play;
+
+impl ScriptWork for Play {
+    ghost use Rattle.call_parts.specs.declared.output.Output.TheVariants.{Trace};
+    ghost use Rattle.play_calls.specs.Says.{SaysOfScript};
+
+    ghost belongs = { λ _. SaysOfScript Trace };
+
+    fn answer_script<K: Sink>(&self, alloc: Global, script: Script, sink: &mut K) -> Status {
+        play_script(alloc, script, Output::Trace, sink)
+    }
+
+    fn keeps_the_law(&self) {}
+}
 
 /// Reads a script, plays it and writes its trace.
 pub fn play_call<S: Source, K: Sink>(alloc: Global, source: &mut S, sink: &mut K) -> Status
@@ -37,12 +51,7 @@ pub fn play_call<S: Source, K: Sink>(alloc: Global, source: &mut S, sink: &mut K
     ensures no_usage { result.number ≢ 2 }
 {
     a_complete_run_keeps_the_laws();
-    match read_all(alloc, source, SCRIPT_BYTES) {
-        Err(ReadFault::Failed) => Status::SOURCE_FAILED,
-        Err(ReadFault::NoMemory) => Status::NO_MEMORY,
-        Ok(ReadBytes::TooLong) => refuse_script(alloc, 0, Cause::Limit.number(), sink),
-        Ok(ReadBytes::Whole(bytes)) => play_text(alloc, bytes.as_slice(), sink),
-    }
+    answer_script(alloc, source, sink, &Play)
 }
 
 /// Plays the script of so many commands that the seed generates, and writes the summary of its trace.
@@ -61,17 +70,6 @@ pub fn gen_call<K: Sink>(alloc: Global, seed: u64, count: u32, sink: &mut K) -> 
     match generate(alloc, seed, count) {
         Ok(script) => play_script(alloc, script, Output::Summary, sink),
         Err(_) => Status::NO_MEMORY,
-    }
-}
-
-/// Reads a script from its text, plays it and writes its trace.
-fn play_text<K: Sink>(alloc: Global, input: &[u8], sink: &mut K) -> Status
-    ensures { TellsBy (Says input.now) result.number (K.state sink.old) (K.state sink.new) }
-{
-    match script_text::read(alloc, input) {
-        Err(TextRefused::NoMemory) => Status::NO_MEMORY,
-        Err(TextRefused::Bad { line, cause }) => refuse_script(alloc, line, cause.number(), sink),
-        Ok(script) => play_script(alloc, script, Output::Trace, sink),
     }
 }
 

@@ -2,23 +2,22 @@
 ghost use Rattle.std.specs.Prelude.{◌≡◌, ◌++◌, IfOk, IsTrue};
 ghost use Rattle.cam_types.specs.Script.{is_valid};
 ghost use Rattle.io_edge.specs.States.{Writes};
-ghost use Rattle.call_status.specs.Answers.{Answers};
+ghost use Rattle.call_parts.specs.Answers.{Answers};
 ghost use Rattle.play_calls.specs.Says.{PlaysAs, PlaysBehind};
-ghost use Rattle.run_output.specs.Texts.{named_profile, text_in};
+ghost use Rattle.call_parts.specs.Texts.{named_profile, text_in};
 
-use call_status::Status;
+use call_parts::{Output, Status, named_profile, write_run};
 use cam_types::{NoMemory, Script};
 use digest_memory::DigestMemory;
+use fill_jobs::Hands;
 use io_edge::Sink;
-use job_hands::Hands;
-use job_moves::no_job_is_out_at_first;
-use run_output::{Output, named_profile, write_run};
-use script_bounds::early_bound;
+use run_model::early_bound;
 use service_core::Service;
+use service_parts::no_job_is_out_at_first;
 use settle::{close, play};
 use std::alloc::Global;
 use std::marker::Model;
-use trace_writer::TraceWriter;
+use trace_text::TraceWriter;
 
 /// A run that isn't begun, with all the memory that it and its printing need. A contract sees its script. It can't be
 /// let go: `play_prepared` or `scrap` ends it.
@@ -31,7 +30,7 @@ pub struct Prepared {
 impl Model for Prepared {
     ghost use Rattle.std.specs.Prelude.{◌≡◌, []};
     ghost use Rattle.cam_types.specs.declared.script.Script.{Script as AScript};
-    ghost use Rattle.run_output.specs.Texts.{named_profile};
+    ghost use Rattle.call_parts.specs.Texts.{named_profile};
 
     ghost Value = { AScript };
 

@@ -1,1 +1,4 @@
+pub mod Begun
+pub mod Grammar
+pub mod Lines
 pub mod Reprocess

@@ -1,14 +1,14 @@
 -- What `reprocess` answers and writes. (docs/FORMATS.md, reprocessing)
-use Rattle.std.specs.Prelude.{◌≡◌, ℕ, List, Result, Ok, Err, reverse}
+use Rattle.std.specs.Prelude.{◌≡◌, ℕ, List, Result, Ok, reverse}
 use Rattle.io_edge.specs.States.{SinkState, Writes}
-use Rattle.call_status.specs.Answers.{Answers}
+use Rattle.call_parts.specs.Answers.{Answers}
+use Rattle.call_parts.specs.Meanings.{OfMeaning}
 use Rattle.reprocess_model.specs.Run.{IsPlayedRun, IsRun}
 use Rattle.reprocess_model.specs.declared.entry.ReEntry.{ReEntry}
 use Rattle.reprocess_model.specs.declared.plan.Plan.{Plan}
-use Rattle.reprocess_text.specs.Grammar.{plan_of}
-use Rattle.line_reading.specs.declared.cause.TextRefused.{TextRefused}
-use Rattle.line_reading.specs.declared.cause.TextRefused.TheVariants.{Bad, NoMemory}
-use Rattle.reprocess_output.specs.Lines.{refused_text, run_text}
+use Rattle.reprocess_call.specs.Grammar.{plan_of}
+use Rattle.text_parts.specs.declared.cause.TextRefused.{TextRefused}
+use Rattle.reprocess_call.specs.Lines.{refused_text, run_text}
 
 -- the complete run that a plan's picks choose
 pub record IsWholeRun (plan : Plan) (past : List ReEntry) : Type 0 where
@@ -29,9 +29,8 @@ pub record PlaysPlan (plan : Plan) (status : ℕ) (before after : SinkState) : T
 
 -- the status and the whole text that belong to what an input means
 abbrev pub TellsOfPlan : Result Plan TextRefused → ℕ → List ℕ → Type 0
-TellsOfPlan (Ok plan) status told = (status ≡ 0) × IsRunText plan told
-TellsOfPlan (Err (Bad line cause)) status told = (status ≡ 1) × (told ≡ refused_text line cause)
-TellsOfPlan (Err NoMemory) status told = ⊥
+TellsOfPlan meaning status told =
+    OfMeaning refused_text (λ plan number said. (number ≡ 0) × IsRunText plan said) meaning status told
 
 abbrev pub Reprocesses : List ℕ → ℕ → List ℕ → Type 0
 Reprocesses input status told = TellsOfPlan (plan_of input) status told

@@ -1,20 +1,46 @@
 //! `reprocess`: a plan is read, played and its run written.
 ghost use Rattle.std.specs.Prelude.{◌≡◌, ◌≢◌, ◌≤◌, IfSome, IsTrue, Result};
 ghost use Rattle.std.specs.Io.KnownBytes.{IsAtEnd};
-ghost use Rattle.call_status.specs.Answers.{AnswersWithMemory, Tells, TellsBy};
-ghost use Rattle.call_status.specs.Ends.{CountsSink, CountsSource, ReadsBy};
+ghost use Rattle.call_parts.specs.Answers.{AnswersWithMemory, Tells, TellsBy};
+ghost use Rattle.call_parts.specs.Ends.{CountsSink, CountsSource, ReadsBy};
 ghost use Rattle.reprocess_model.specs.Plan.{is_plan};
-ghost use Rattle.reprocess_output.specs.Lines.{refused_text};
+ghost use Rattle.reprocess_call.specs.Lines.{refused_text};
 ghost use Rattle.reprocess_call.specs.Reprocess.{IsReprocessed, Reprocesses, TellsOfPlan};
 
 use crate::prepared::{play_prepared, prepare};
-use call_status::{Status, answer};
-use io_edge::{ReadBytes, ReadFault, Sink, Source, read_all};
-use line_reading::{Cause, TextRefused};
+use crate::{read, refused_text};
+use call_parts::{InputWork, Status, answer, answer_input};
+use io_edge::{Sink, Source};
 use reprocess_model::{PLAN_BYTES, Plan};
-use reprocess_output::refused_text;
-use reprocess_text::read;
 use std::alloc::Global;
+use text_parts::{Cause, TextRefused};
+
+/// What `reprocess` makes of its input.
+#[derive(Drop)]
+struct Reprocess;
+
+impl InputWork for Reprocess {
+    ghost use Rattle.text_parts.specs.declared.cause.Cause.TheVariants.{Limit};
+    ghost use Rattle.reprocess_call.specs.Lines.{refused_text};
+    ghost use Rattle.reprocess_call.specs.Reprocess.{Reprocesses};
+
+    ghost limit = { 65536 };
+
+    ghost belongs = { λ _. Reprocesses };
+
+    ghost refusal = { λ _. refused_text 0 Limit };
+
+    fn refuse_long<K: Sink>(&self, alloc: Global, sink: &mut K) -> Status {
+        refuse(alloc, 0, Cause::Limit, sink)
+    }
+
+    fn answer_whole<K: Sink>(&self, alloc: Global, input: &[u8], sink: &mut K) -> Status {
+        play_text(alloc, input, sink)
+    }
+
+    #[tactic(auto, using(crate::proofs::Telling::are_told, crate::proofs::Telling::long_refused))]
+    fn keeps_the_laws(&self) {}
+}
 
 /// Reads a plan, plays it by its picks, and writes its run. All memory is taken before the first step.
 pub fn reprocess_call<S: Source, K: Sink>(alloc: Global, source: &mut S, sink: &mut K) -> Status
@@ -33,12 +59,7 @@ pub fn reprocess_call<S: Source, K: Sink>(alloc: Global, source: &mut S, sink: &
     ensures known { result.number ≤ 5 }
     ensures no_usage { result.number ≢ 2 }
 {
-    match read_all(alloc, source, PLAN_BYTES) {
-        Err(ReadFault::Failed) => Status::SOURCE_FAILED,
-        Err(ReadFault::NoMemory) => Status::NO_MEMORY,
-        Ok(ReadBytes::TooLong) => refuse(alloc, 0, Cause::Limit, sink),
-        Ok(ReadBytes::Whole(bytes)) => play_text(alloc, bytes.as_slice(), sink),
-    }
+    answer_input(alloc, source, sink, PLAN_BYTES, &Reprocess)
 }
 
 /// Plays the plan that a text means, and writes its run.

@@ -4,7 +4,7 @@ ghost use Rattle.reprocess_model.specs.Run.{pick_at};
 ghost use Rattle.reprocess_call.specs.Reprocess.{IsWholeRun};
 
 use reprocess_core::{ReStep, Reprocess};
-use reprocess_laws::a_run_has_eight_lines_for_a_request;
+use reprocess_model::a_run_has_eight_lines_for_a_request;
 
 /// The pick of the next step: that of the plan at the place of the step, and 0 behind the last.
 fn next_pick(device: &Reprocess) -> u32

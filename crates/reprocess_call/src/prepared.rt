@@ -1,17 +1,17 @@
 //! A run with all its memory taken: the device is opened, and room for printing is there, before the first step.
 ghost use Rattle.std.specs.Prelude.{◌≡◌, IfOk, IsTrue};
-ghost use Rattle.call_status.specs.Answers.{Answers};
+ghost use Rattle.call_parts.specs.Answers.{Answers};
 ghost use Rattle.reprocess_model.specs.Plan.{is_plan};
-ghost use Rattle.reprocess_output.specs.Lines.{run_text};
+ghost use Rattle.reprocess_call.specs.Lines.{run_text};
 ghost use Rattle.reprocess_call.specs.Reprocess.{PlaysPlan};
 
+use crate::RunWriter;
 use crate::player::play;
-use call_status::Status;
+use call_parts::Status;
 use cam_types::NoMemory;
 use io_edge::Sink;
 use reprocess_core::Reprocess;
 use reprocess_model::{Plan, ReEntry};
-use reprocess_output::RunWriter;
 use std::alloc::Global;
 use std::marker::Model;
 

@@ -7,22 +7,20 @@ use Rattle.reprocess_model.specs.declared.entry.ReEntry.{ReEntry}
 use Rattle.reprocess_model.specs.declared.entry.ReEntry.TheVariants.{Called, BeginFlush, Flushed, Take, Dropped, Error, Failed, Fill, Input}
 use Rattle.reprocess_model.specs.declared.entry.ReOut.{ReOut}
 use Rattle.reprocess_model.specs.declared.plan.Plan.{Plan}
-use Rattle.reprocess_model.specs.declared.step.ReStepName.{ReStepName}
 use Rattle.reprocess_model.specs.declared.step.ReStepName.TheVariants.{TakeNext, ReturnInput}
 use Rattle.reprocess_model.specs.Due.{due, input_due, step_of, take_due}
 use Rattle.reprocess_model.specs.Past.{input_holder}
 use Rattle.reprocess_model.specs.Plan.{requests}
 use Rattle.reprocess_model.specs.Run.{IsRun}
-use Rattle.reprocess_laws.proofs.Calls.{requests-within}
-use Rattle.reprocess_laws.proofs.Facts.{inputting-of, taking-of}
-use Rattle.reprocess_laws.proofs.Held.{input_of-taken, least_input-home, queued-fresh, taken-input}
-use Rattle.reprocess_course.proofs.Room.{step-of-due}
+use Rattle.reprocess_model.proofs.Calls.{requests-within}
+use Rattle.reprocess_model.proofs.Facts.{inputting-of, taking-of}
+use Rattle.reprocess_model.proofs.Held.{input_of-taken, least_input-home, queued-fresh, taken-input}
+use Rattle.reprocess_core.proofs.Room.{step-of-due}
 use Rattle.reprocess_core.specs.declared.input.Place.{Place}
 use Rattle.reprocess_core.specs.declared.input.Place.TheVariants.{Out}
-use Rattle.reprocess_core.specs.Device.{is_plain}
 use Rattle.reprocess_core.specs.Inputs.{ArePlaces, IsHomeWith, IsTicket, is_home, is_out}
 use Rattle.reprocess_core.specs.Tickets.{TicketView}
-use Rattle.reprocess_core.proofs.Places.{filled-places, home-place, out-place, plain-holder, ticket-place}
+use Rattle.reprocess_core.proofs.Places.{home-place, out-place, ticket-place}
 
 -- ---- which lines steps have
 
@@ -122,9 +120,3 @@ returnable plan past places n i run are due =
     outside plan past places n.0 i.0 are low inputting.1
 
 -- ---- what a step that needs no picture leaves
-
-pub plain-places : (plan : Plan) (past : List ReEntry) (step : ReStepName) (line : ReEntry) (xs : List (Option Place)) → due plan past step ≡ Some line → is_plain step ≡ true → ArePlaces plan past xs → ArePlaces plan (line ∷ past) xs
-plain-places plan past step line xs h plain are =
-    let is = step-of-due plan past step line h in
-    let plain' : is_plain (step_of line) ≡ true = rw is plain in
-    filled-places plan past xs line (λ k. plain-holder line past k plain') are

@@ -1,3 +1,6 @@
+pub mod Reduced
+pub mod Below
+pub mod Room
 pub mod Places
 pub mod Ready
 pub mod Yuv

@@ -4,19 +4,15 @@ use Rattle.std.proofs.lemmas.Bool.{cases_eq, eq-eqb, ne_eqb, false≢true}
 use Rattle.std.proofs.lemmas.Grind.{common_steps}
 use Rattle.std.proofs.lemmas.List.{get_or_default}
 use Rattle.cam_types.specs.Shown.{Shown}
-use Rattle.cam_types.specs.declared.four.Four.{Four}
 use Rattle.cam_types.specs.declared.number.FrameNo.{FrameNo}
 use Rattle.cam_types.specs.declared.stream.StreamSpec.{StreamSpec}
 use Rattle.reprocess_model.specs.declared.entry.InputId.{InputId}
 use Rattle.reprocess_model.specs.declared.entry.ReEntry.{ReEntry}
-use Rattle.reprocess_model.specs.declared.entry.ReEntry.TheVariants.{Called, BeginFlush, Flushed, Take, Dropped, Error, Failed, Fill, Input}
-use Rattle.reprocess_model.specs.declared.entry.ReOut.{ReOut}
+use Rattle.reprocess_model.specs.declared.entry.ReEntry.TheVariants.{Input}
 use Rattle.reprocess_model.specs.declared.plan.Plan.{Plan}
-use Rattle.reprocess_model.specs.Due.{step_of}
 use Rattle.reprocess_model.specs.Past.{input_holder}
 use Rattle.reprocess_core.specs.declared.input.Place.{Place}
 use Rattle.reprocess_core.specs.declared.input.Place.TheVariants.{Home, Out}
-use Rattle.reprocess_core.specs.Device.{is_plain}
 use Rattle.reprocess_core.specs.Inputs.{AreHome, ArePlaces, HasRoom, IsHomeWith, IsPlace, IsTicket, is_home, is_out}
 use Rattle.reprocess_core.specs.Tickets.{TicketView}
 
@@ -34,14 +30,6 @@ home-at spec x y z hx hy hz (suc (suc (suc i))) l = absurd (omega arith)
 
 pub three-home : (spec : StreamSpec) (x y z : Option Place) → IsHomeWith spec x → IsHomeWith spec y → IsHomeWith spec z → AreHome spec (x ∷ y ∷ z ∷ [])
 three-home spec x y z hx hy hz = record { three = refl; each = home-at spec x y z hx hy hz }
-
-home-there : (plan : Plan) (p : Option Place) → IsHomeWith plan.input p → IsPlace plan None p
-home-there plan (Some (Home pixels)) h = h
-home-there plan (Some (Out ticket)) h = absurd h
-home-there plan None h = absurd h
-
-pub home-places : (plan : Plan) (xs : List (Option Place)) → AreHome plan.input xs → ArePlaces plan [] xs
-home-places plan xs are = record { three = are.three; each = λ k l. home-there plan (get_or xs k None) (are.each k l) }
 
 -- ---- where a buffer is
 
@@ -87,12 +75,6 @@ changed plan e past xs i p are low here others =
       ];
     }
 
-pub taken-places : (plan : Plan) (past : List ReEntry) (xs : List (Option Place)) (n : FrameNo) (i : InputId) (outs : Four ReOut) (ticket : TicketView) → ArePlaces plan past xs → i.0 < 3 → IsTicket plan n.0 ticket → ArePlaces plan (Take n i outs ∷ past) (set (set xs i.0 None) i.0 (Some (Out ticket)))
-taken-places plan past xs n i outs ticket are low is =
-    let held : input_holder i.0 (Take n i outs ∷ past) ≡ Some n.0 = rw (eq-eqb i.0 i.0 refl) refl in
-    changed plan (Take n i outs) past xs i.0 (Some (Out ticket)) are low (subst (λ (o : Option ℕ). IsPlace plan o (Some (Out ticket))) (sym held) is)
-    (λ k other. rw (ne_eqb i.0 k (λ same. other (sym same))) refl)
-
 pub returned-places : (plan : Plan) (past : List ReEntry) (xs : List (Option Place)) (n : FrameNo) (i : InputId) (pixels : Shown) → ArePlaces plan past xs → i.0 < 3 → HasRoom plan.input pixels → ArePlaces plan (Input n i ∷ past) (set (set xs i.0 None) i.0 (Some (Home pixels)))
 returned-places plan past xs n i pixels are low room =
     let free : input_holder i.0 (Input n i ∷ past) ≡ None = rw (eq-eqb i.0 i.0 refl) refl in
@@ -104,15 +86,3 @@ filled-places plan past xs e same are = record {
   three = are.three;
   each = λ k l. subst (λ (o : Option ℕ). IsPlace plan o (get_or xs k None)) (sym (same k)) (are.each k l);
 }
-
--- a line of a step that needs no picture moves no input
-pub plain-holder : (e : ReEntry) (past : List ReEntry) (k : ℕ) → is_plain (step_of e) ≡ true → input_holder k (e ∷ past) ≡ input_holder k past
-plain-holder (Take n i outs) past k h = absurd (false≢true h)
-plain-holder (Input n i) past k h = absurd (false≢true h)
-plain-holder (Called i) past k h = refl
-plain-holder BeginFlush past k h = refl
-plain-holder (Flushed i) past k h = refl
-plain-holder (Dropped n) past k h = refl
-plain-holder (Error n) past k h = refl
-plain-holder (Failed n s c) past k h = refl
-plain-holder (Fill n s c d) past k h = refl

@@ -20,11 +20,11 @@ use Rattle.reprocess_model.specs.Places.{at_place}
 use Rattle.reprocess_model.specs.Plan.{are_outputs, are_outputs_at, command_fits, is_output, is_plan, is_yuv, requests}
 use Rattle.reprocess_model.specs.Reduce.{reduced}
 use Rattle.reprocess_model.specs.Run.{IsRun}
-use Rattle.reprocess_laws.proofs.Facts.{filling-of}
-use Rattle.reprocess_laws.proofs.Held.{input-holds, output-range, output_of-taken, taken-input}
-use Rattle.reprocess_laws.proofs.Back.{each-at, input-returned}
-use Rattle.reprocess_laws.proofs.Bound.{return-fresh, return-low}
-use Rattle.reprocess_laws.proofs.Stuck.{plan-outputs}
+use Rattle.reprocess_model.proofs.Facts.{filling-of}
+use Rattle.reprocess_model.proofs.Held.{input-holds, output-range, output_of-taken, taken-input}
+use Rattle.reprocess_model.proofs.Back.{each-at, input-returned}
+use Rattle.reprocess_model.proofs.Bound.{return-fresh, return-low}
+use Rattle.reprocess_model.proofs.Stuck.{plan-outputs}
 use Rattle.reprocess_core.specs.Inputs.{IsTicket}
 use Rattle.reprocess_core.specs.Tickets.{TicketView}
 use Rattle.sha2.specs.Sha256.{sha256}
@@ -93,20 +93,6 @@ output-fits plan s spec valid at =
         ]
       ]
     ]
-
--- the input of a plan is YUV
-pub input-yuv : (plan : Plan) → is_plan plan ≡ true → is_yuv plan.input ≡ true
-input-yuv plan h =
-    let yuv = is_yuv plan.input in
-    let outs = are_outputs plan.input plan.outputs in
-    let faults = nat_le (length plan.faults) 64 in
-    let picks = nat_le (length plan.picks) 1024 in
-    let commands = nat_le (length plan.commands) 64 in
-    let e = and_parts ((((yuv && outs) && faults) && picks) && commands) (list_all command_fits plan.commands) h in
-    let d = and_parts (((yuv && outs) && faults) && picks) commands e.0 in
-    let c = and_parts ((yuv && outs) && faults) picks d.0 in
-    let b = and_parts (yuv && outs) faults c.0 in
-    (and_parts yuv outs b.0).0
 
 -- what a fill of the ticket of the request makes is the picture that is due
 pub digest-is : (plan : Plan) (n s : ℕ) (to : StreamSpec) (ticket : TicketView) → IsTicket plan n ticket → at_place plan.outputs s ≡ Some to → sha256 (reduced ticket.spec to (picture ticket.spec ticket.settings ticket.frame.0)) ≡ digest_of plan n s

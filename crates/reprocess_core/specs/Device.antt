@@ -4,7 +4,7 @@ use Rattle.cam_types.specs.declared.number.StreamIx.{StreamIx}
 use Rattle.reprocess_model.specs.declared.step.ReStepName.{ReStepName}
 use Rattle.reprocess_model.specs.declared.step.ReStepName.TheVariants as step
 use Rattle.reprocess_model.specs.Run.{chosen_line, is_complete}
-use Rattle.reprocess_course.specs.State.{State, with_line}
+use Rattle.reprocess_core.specs.State.{State, with_line}
 use Rattle.reprocess_core.specs.declared.candidates.OfOutput.{OfOutput}
 use Rattle.reprocess_core.specs.declared.candidates.OfOutput.TheVariants.{ReturnFailed, ReturnFilled}
 use Rattle.reprocess_core.specs.declared.candidates.OfRequest.{OfRequest}

@@ -2,7 +2,7 @@ use Rattle.std.specs.Prelude.{◌≡◌, ℕ, ◌≤◌, List, Option, true, is_
 use Rattle.reprocess_model.specs.Plan.{requests}
 use Rattle.reprocess_model.specs.Run.{steps as all_steps}
 use Rattle.reprocess_model.specs.declared.step.ReStepName.{ReStepName}
-use Rattle.reprocess_course.specs.State.{State}
+use Rattle.reprocess_core.specs.State.{State}
 use Rattle.reprocess_core.specs.Inputs.{ArePlaces}
 use Rattle.reprocess_core.specs.declared.input.Place.{Place}
 

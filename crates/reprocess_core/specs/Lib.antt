@@ -1,3 +1,4 @@
+pub mod State
 pub mod Tickets
 pub mod Inputs
 pub mod Inside

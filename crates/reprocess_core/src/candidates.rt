@@ -3,8 +3,8 @@ ghost use Rattle.std.specs.Prelude.{◌≡◌, ◌+◌, ◌*◌, ◌<◌, ◌≤
 ghost use Rattle.reprocess_model.specs.Run.{candidates as candidates_of, for_outputs, for_requests, is_ready, steps};
 ghost use Rattle.reprocess_core.specs.Device.{output_step, request_step};
 
+use crate::Course;
 use cam_types::{FrameNo, NoMemory, StreamIx};
-use reprocess_course::Course;
 use reprocess_model::ReStepName;
 use std::alloc::Global;
 

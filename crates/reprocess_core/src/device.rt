@@ -3,17 +3,17 @@ ghost use Rattle.std.specs.Prelude.{◌≡◌, ℕ, ◌<◌, [], IfOk, IsTrue, N
 ghost use Rattle.reprocess_model.specs.Due.{due};
 ghost use Rattle.reprocess_model.specs.Plan.{is_plan, is_yuv, requests};
 ghost use Rattle.reprocess_model.specs.Run.{IsRun, is_ready};
-ghost use Rattle.reprocess_course.specs.State.{with_line};
+ghost use Rattle.reprocess_core.specs.State.{with_line};
 ghost use Rattle.reprocess_core.specs.Device.{Steps};
 ghost use Rattle.reprocess_core.specs.Inputs.{AreHome, IsHomeWith};
 
+use crate::Course;
 use crate::candidates::all_steps;
 use crate::input::{Place, Places, end_places};
 use crate::memory::OutputMemory;
 use crate::output::OutputBlock;
 use crate::steps::{choose, make_fill, make_plain, make_return, make_take};
 use cam_types::{BufferId, NoMemory, PixelBuf, Readout, StreamSpec, YUV_BLOCK};
-use reprocess_course::Course;
 use reprocess_model::{Plan, ReCommand, ReEntry, ReStepName};
 use std::alloc::Global;
 use std::marker::Model;
@@ -44,7 +44,7 @@ pub struct Reprocess {
 
 impl Model for Reprocess {
     ghost use Rattle.std.specs.Prelude.{vec_capacity};
-    ghost use Rattle.reprocess_course.specs.State.{State};
+    ghost use Rattle.reprocess_core.specs.State.{State};
     ghost use Rattle.reprocess_core.specs.Inside.{IsDevice};
 
     ghost Value = { State };

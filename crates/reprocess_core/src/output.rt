@@ -8,8 +8,8 @@ ghost use Rattle.sha2.specs.Sha256.{sha256};
 
 use crate::memory::OutputMemory;
 use crate::ticket::InputTicket;
+use crate::{draw_reduced, reduce};
 use cam_types::{BufferId, NoMemory, PixelBuf, StreamSpec, YUV_BLOCK};
-use reduce_stage::{draw_reduced, reduce};
 use std::alloc::Global;
 use std::marker::Model;
 

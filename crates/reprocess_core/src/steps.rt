@@ -4,19 +4,18 @@ ghost use Rattle.reprocess_model.specs.Due.{due};
 ghost use Rattle.reprocess_model.specs.Places.{at_place};
 ghost use Rattle.reprocess_model.specs.Plan.{requests};
 ghost use Rattle.reprocess_model.specs.Run.{chosen, is_complete, is_ready, steps};
-ghost use Rattle.reprocess_course.specs.State.{with_line};
+ghost use Rattle.reprocess_core.specs.State.{with_line};
 ghost use Rattle.reprocess_core.specs.Device.{is_plain};
 ghost use Rattle.reprocess_core.specs.Inputs.{ArePlaces};
 
+use crate::Course;
 use crate::candidates::collect_ready;
 use crate::input::{Place, put, take_ticket, ticket_at};
 use crate::memory::OutputMemory;
 use crate::output::OutputBlock;
 use crate::picture::draw_into;
 use cam_types::{FrameNo, Readout, StreamIx, StreamSpec};
-use reprocess_course::Course;
-use reprocess_laws::an_unfinished_run_has_a_candidate;
-use reprocess_model::{Plan, ReEntry, ReStepName};
+use reprocess_model::{Plan, ReEntry, ReStepName, an_unfinished_run_has_a_candidate};
 
 /// The step that a pick chooses. It takes no memory.
 pub fn choose(

@@ -6,9 +6,10 @@ ghost use Rattle.reprocess_model.specs.Plan.{is_yuv};
 ghost use Rattle.reprocess_core.specs.Tickets.{TicketView};
 
 use cam_types::{FrameNo, PixelBuf, Readout, Settings, StreamSpec};
-use sensor_sim::{SensorJob, a_readout_lies_between_dark_and_full};
+use picture_stages::{
+    SensorJob, a_readout_lies_between_dark_and_full, a_yuv_stream_has_yuv_pictures, draw_yuv,
+};
 use std::marker::Model;
-use yuv_stage::{a_yuv_stream_has_yuv_pictures, draw_yuv};
 
 /// An input buffer at the device, which shows the picture of its request. It must be spent: it is neither dropped nor
 /// copied, and ends by `into_buffer` alone.

@@ -6,3 +6,4 @@ pub mod Past
 pub mod Due
 pub mod Run
 pub mod Laws
+pub mod ReprocessLaws

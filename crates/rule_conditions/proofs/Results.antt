@@ -19,7 +19,8 @@ use Rattle.trace_model.specs.Partial.{may_part, part_count, part_of, partial_due
 use Rattle.trace_model.specs.Shutter.{may_expose, next_time, shutter_at, shutter_due}
 use Rattle.trace_model.specs.Stopping.{is_stopping}
 use Rattle.rule_conditions.specs.Results.{is_part_of, is_same_part, partial_conditions, partial_holds, shutter_conditions, shutter_holds}
-use Rattle.rule_conditions.proofs.Tests.{at_sent, by_test, found_passes, one_found, where_test}
+use Rattle.rule_conditions.proofs.Tests.{at_sent, by_test, one_found, where_test}
+use Rattle.basic_lemmas.proofs.Lists.{found-passes}
 
 -- ---- shutters
 
@@ -68,7 +69,7 @@ at_found : (script : Script) (past : List Entry) (o : Option ℕ) (n : FrameNo) 
 at_found script past None n time e =
     (λ h. absurd (let yes' = (and_parts (may_expose script past n.0) (time == next_time script past) h).0 in let found = one_found (may_expose script past) n.0 past yes' (expose_parts script past n.0 yes').0 (λ m s k. one_exposed script past m n.0 k yes') in let bad : None ≡ Some n.0 = sym e ∙ found in cc), λ d. absurd (cc))
 at_found script past (Some m) n time e =
-    let exposed = found_passes (may_expose script past) (frames past) m e in
+    let exposed = found-passes (may_expose script past) (frames past) m e in
     (λ h. let parts = and_parts (may_expose script past n.0) (time == next_time script past) h in ap Some (shutter_same m (next_time script past) n time (one_exposed script past m n.0 exposed parts.0) ((Decides-eqb time (next_time script past)).0 parts.1)), λ d. let same : m ≡ n.0 = frame_number m n (cc) in let at : next_time script past ≡ time = cc in and_from _ _ (rw same at exposed) ((Decides-eqb time (next_time script past)).1 (sym at)))
 
 shutter_bools : (sent fresh fresh' order stops fault time : Bool) → (sent && ((fresh && fresh') && (order && (not stops && (not fault && (time && true)))))) ≡ ((not stops && (((sent && (fresh && fresh')) && order) && not fault)) && time)

@@ -26,7 +26,8 @@ use Rattle.trace_model.specs.Open.{has_error_buffer}
 use Rattle.trace_model.specs.Picture.{digest_of}
 use Rattle.trace_model.specs.Place.{is_at_device_by}
 use Rattle.rule_conditions.specs.Returns.{early_conditions, early_holds, failed_conditions, failed_holds, filled_conditions, filled_holds, has_buffer, is_late_picture, late_conditions, late_holds}
-use Rattle.rule_conditions.proofs.Tests.{any_found, by_test, no_entry, where_test}
+use Rattle.rule_conditions.proofs.Tests.{by_test, no_entry, where_test}
+use Rattle.basic_lemmas.proofs.Lists.{any-found}
 
 -- of a frame that was sent with the buffer, that the one with which it was sent is at the device says the same
 same_buffer : (c b : ℕ) (out : ℕ → Bool) (rest : Bool) → (((c == b) && out b) && rest) ≡ ((out c && rest) && (c == b))
@@ -110,7 +111,7 @@ late_by script past d digest (Some e) = late_none (is_late d.0 past) (Late d dig
 
 pub late_meets : (script : Script) (past : List Entry) (d : FenceNo) (digest : List ℕ) → IsTrue (list_all (λ c. late_holds c script past d.0 digest) late_conditions) ↔ (late_due script past d.0 ≡ Some (Late d digest))
 late_meets script past d digest =
-    by_test _ _ (ap (λ (t : Bool). t && (not (is_late d.0 past) && (is_late_picture script past digest (find (is_early_with d.0) past) && true))) (any_found (is_early_with d.0) past)) (late_by script past d digest (find (is_early_with d.0) past))
+    by_test _ _ (ap (λ (t : Bool). t && (not (is_late d.0 past) && (is_late_picture script past digest (find (is_early_with d.0) past) && true))) (any-found (is_early_with d.0) past)) (late_by script past d digest (find (is_early_with d.0) past))
 
 -- ---- in error
 

@@ -28,25 +28,6 @@ when_due false x = (λ h. absurd (false≢true h), λ e. absurd (cc))
 pub no_entry : (y : Entry) → IsTrue false ↔ (None ≡ Some y)
 no_entry y = (λ a. absurd (false≢true a), λ e. absurd (cc))
 
-pub eq_turned : (a b : ℕ) → (a == b) ≡ (b == a)
-eq_turned a b = grind (arith, nat_tests)
-
-pub any_found : {X : Type 0} (p : X → Bool) (xs : List X) → list_any p xs ≡ is_some (find p xs)
-any_found p [] = refl
-any_found p (x ∷ xs) =
-    elim (cases_Bool (p x)) [
-      | inl yes' ↦ rw yes' refl
-      | inr no' ↦ rw no' (any_found p xs)
-    ]
-
-pub found_passes : {X : Type 0} (p : X → Bool) (xs : List X) (x : X) → find p xs ≡ Some x → p x ≡ true
-found_passes p [] x e = absurd (cc)
-found_passes p (y ∷ xs) x e =
-    elim (cases_Bool (p y)) [
-      | inl yes' ↦ (let e' = rw yes' at e in let same : y ≡ x = cc in rw same at yes')
-      | inr no' ↦ found_passes p xs x (rw no' at e)
-    ]
-
 -- what holds of each frame holds of one that was sent
 pub at_sent : (q : ℕ → Bool) (m : ℕ) (past : List Entry) → list_all q (frames past) ≡ true → is_sent m past ≡ true → q m ≡ true
 at_sent q m [] h s = absurd (cc)

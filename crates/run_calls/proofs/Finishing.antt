@@ -5,9 +5,9 @@ use mathlib.Core.List.{IsPrefix}
 use Rattle.cam_types.specs.declared.profile.Profile.{Profile}
 use Rattle.cam_types.specs.declared.script.Script.{Script}
 use Rattle.io_edge.specs.States.{SinkState}
-use Rattle.call_status.specs.Answers.{Answers}
-use Rattle.room_log.specs.State.{State}
-use Rattle.run_laws.specs.Lawful.{KeepsLaws}
+use Rattle.call_parts.specs.Answers.{Answers}
+use Rattle.run_model.specs.State.{State}
+use Rattle.run_model.specs.Lawful.{KeepsLaws}
 use Rattle.run_model.specs.History.{trace_of}
 use Rattle.run_model.specs.Run.{IsRun}
 use Rattle.run_model.specs.declared.step.Move.{Move}

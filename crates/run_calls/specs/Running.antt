@@ -1,17 +1,14 @@
 -- What `run` answers and writes: the trace of a complete run of the script, whichever steps the workers made first.
 -- (docs/FORMATS.md)
-use Rattle.std.specs.Prelude.{◌≡◌, ℕ, List, Result, Ok, Err}
+use Rattle.std.specs.Prelude.{◌≡◌, ℕ, List, Ok}
 use Rattle.io_edge.specs.States.{SinkState, Writes}
 use Rattle.cam_types.specs.declared.script.Script.{Script}
-use Rattle.line_reading.specs.Causes.{number_of}
 use Rattle.script_text.specs.Grammar.{script_of}
-use Rattle.line_reading.specs.declared.cause.TextRefused.{TextRefused}
-use Rattle.line_reading.specs.declared.cause.TextRefused.TheVariants.{Bad, NoMemory}
 use Rattle.run_model.specs.declared.step.Move.{Move}
-use Rattle.judge_text.specs.Lines.{refused_script_text}
 use Rattle.run_calls.specs.Finished.{IsWholeHistory}
-use Rattle.run_output.specs.Texts.{text_in}
-use Rattle.run_output.specs.declared.output.Output.TheVariants.{Trace}
+use Rattle.call_parts.specs.Meanings.{OfScript}
+use Rattle.call_parts.specs.Texts.{text_in}
+use Rattle.call_parts.specs.declared.output.Output.TheVariants.{Trace}
 
 -- the text is the whole trace of a run of the script that is complete and keeps the laws
 pub record IsRunText (script : Script) (text : List ℕ) : Type 0 where
@@ -23,14 +20,9 @@ pub record IsRunText (script : Script) (text : List ℕ) : Type 0 where
 abbrev pub SaysOfRun : Script → ℕ → List ℕ → Type 0
 SaysOfRun script status text = (status ≡ 0) × IsRunText script text
 
-abbrev pub RunsOf : Result Script TextRefused → ℕ → List ℕ → Type 0
-RunsOf (Ok script) status text = SaysOfRun script status text
-RunsOf (Err (Bad line cause)) status text = (status ≡ 1) × (text ≡ refused_script_text line (number_of cause))
-RunsOf (Err NoMemory) status text = ⊥
-
 -- of an input: what its meaning as a script says
 abbrev pub Runs : List ℕ → ℕ → List ℕ → Type 0
-Runs input status text = RunsOf (script_of input) status text
+Runs input status text = OfScript SaysOfRun input status text
 
 -- the headline: the source's bytes spell a script, and what was written is the whole trace of a run of it, which is
 -- complete and keeps the laws

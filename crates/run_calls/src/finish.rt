@@ -1,25 +1,24 @@
 //! Ending a run that is shared.
 ghost use Rattle.std.specs.Prelude.{◌≡◌, ◌≤◌, [], reverse};
-ghost use Rattle.job_moves.specs.Outs.{AreOut};
+ghost use Rattle.service_parts.specs.Outs.{AreOut};
 ghost use Rattle.turn_lock.specs.Lending.{IsIdle};
 ghost use Rattle.turn_lock.specs.Seats.{fixed_of, view};
 ghost use Rattle.shared_camera.specs.Cameras.{script_of};
 ghost use Rattle.run_calls.specs.Finished.{FinishesAs};
 
-use call_status::Status;
+use call_parts::{Status, write_trace};
 use camera_workers::{Gate, run_workers};
 use digest_memory::DigestMemory;
+use fill_jobs::Hands;
 use io_edge::Sink;
-use job_hands::Hands;
-use run_laws::a_complete_run_keeps_the_laws;
-use run_output::write_trace;
+use run_model::a_complete_run_keeps_the_laws;
 use service_core::Service;
 use settle::{close, settle};
 use shared_camera::{CamSeat, Shared, no_job_is_out_of_an_idle_root};
 use std::sync::Wait;
 use std::thread::Threads;
 use std::time::Clock;
-use trace_writer::TraceWriter;
+use trace_text::TraceWriter;
 
 /// Runs the workers, ends the sharing, makes the steps that are left on this thread, and writes the trace. It takes no
 /// memory: the status is 0, or 4 where the sink failed.

@@ -1,26 +1,24 @@
 //! `run`: a script is read and run on workers, and its trace written.
-ghost use Rattle.std.specs.Prelude.{◌≡◌, ◌≢◌, ◌≤◌, [], IfOk, IfSome, IsTrue};
+ghost use Rattle.std.specs.Prelude.{◌≡◌, ◌≢◌, ◌≤◌, ◌<◌, ℕ, List, [], IfOk, IfSome, IsTrue, length};
 ghost use Rattle.std.specs.Io.KnownBytes.{IsAtEnd};
 ghost use Rattle.cam_types.specs.Script.{is_valid};
-ghost use Rattle.call_status.specs.Answers.{Tells, TellsBy};
-ghost use Rattle.call_status.specs.Ends.{CountsSink, CountsSource, ReadsBy};
+ghost use Rattle.call_parts.specs.Answers.{AreAnswers, Tells, TellsBy};
+ghost use Rattle.call_parts.specs.Ends.{CountsSink, CountsSource, ReadsBy};
 ghost use Rattle.run_calls.specs.Finished.{FinishesAs};
 ghost use Rattle.run_calls.specs.Running.{IsRunWhole, Runs, SaysOfRun};
-ghost use Rattle.run_output.specs.Texts.{named_profile};
+ghost use Rattle.judge_text.specs.Lines.{refused_script_text};
+ghost use Rattle.call_parts.specs.Texts.{named_profile};
 
 use crate::finish::finish_run;
-use call_status::Status;
+use call_parts::{Status, named_profile, refuse_script};
 use cam_types::{NoMemory, SCRIPT_BYTES, Script};
 use camera_workers::Gate;
 use digest_memory::DigestMemory;
-use input_refusals::refuse_script;
+use fill_jobs::Hands;
 use io_edge::{ReadBytes, ReadFault, Sink, Source, read_all};
-use job_hands::Hands;
-use job_moves::no_job_is_out_at_first;
-use line_reading::{Cause, TextRefused};
-use run_output::named_profile;
-use script_bounds::early_bound;
+use run_model::early_bound;
 use service_core::Service;
+use service_parts::no_job_is_out_at_first;
 use settle::close;
 use shared_camera::{CamSeat, Shared};
 use std::alloc::{AllocError, Global};
@@ -28,7 +26,8 @@ use std::marker::Model;
 use std::sync::Wait;
 use std::thread::Threads;
 use std::time::Clock;
-use trace_writer::TraceWriter;
+use text_parts::{Cause, TextRefused};
+use trace_text::TraceWriter;
 
 /// A run on workers that isn't begun, with all the memory that it and its printing need. A contract sees its script. It
 /// can't be let go: `run_prepared` ends it.
@@ -45,7 +44,8 @@ impl Model for PreparedRun {
     ghost use Rattle.turn_lock.specs.Lending.{IsIdle};
     ghost use Rattle.turn_lock.specs.Seats.{fixed_of, view as view_of};
     ghost use Rattle.shared_camera.specs.Cameras.{script_of};
-    ghost use Rattle.run_output.specs.Texts.{named_profile};
+    ghost use Rattle.judge_text.specs.Lines.{refused_script_text};
+    ghost use Rattle.call_parts.specs.Texts.{named_profile};
 
     ghost Value = { AScript };
 
@@ -56,8 +56,8 @@ impl Model for PreparedRun {
         × (p.writer ≡ named_profile (fixed_of script_of p.shared.turnstile)) };
 }
 
-/// Takes all the memory that the run of a script on so many workers and its printing need: each worker has a memory of
-/// digests.
+/// Takes all the memory that the run of a script on so many workers and its printing need. There is a memory of digests
+/// for each worker; it saves work alone, so no contract speaks of it.
 pub fn prepare_run(alloc: Global, script: Script, workers: u32) -> Result<PreparedRun, NoMemory>
     requires { IsTrue (is_valid script) }
     ensures { IfOk result (λ prepared. prepared ≡ script) }
@@ -124,6 +124,13 @@ pub fn run_prepared<R: Threads + Wait + Clock + Sync, K: Sink, G: Gate + Sync>(
     )
 }
 
+/// The statuses that belong to an input are those of an answer, and an input that is too long is refused.
+#[tactic(auto, using(crate::proofs::Telling::are_run, call_parts::proofs::Meanings::long_script))]
+fn inputs_are_answered()
+    ensures answers { (input : List ℕ) → AreAnswers (Runs input) }
+    ensures long { (input : List ℕ) → SCRIPT_BYTES < length input → Runs input 1 (refused_script_text 0 37) }
+{}
+
 /// Reads a script, runs it on so many workers and writes the trace. The script's picks choose nothing: each step is made
 /// by the worker that comes to it first.
 pub fn run_call<R: Threads + Wait + Clock + Sync, S: Source, K: Sink, G: Gate + Sync>(
@@ -150,6 +157,7 @@ pub fn run_call<R: Threads + Wait + Clock + Sync, S: Source, K: Sink, G: Gate + 
     ensures known { result.number ≤ 5 }
     ensures no_usage { result.number ≢ 2 }
 {
+    inputs_are_answered();
     match read_all(alloc, source, SCRIPT_BYTES) {
         Err(ReadFault::Failed) => Status::SOURCE_FAILED,
         Err(ReadFault::NoMemory) => Status::NO_MEMORY,

@@ -19,11 +19,11 @@ use Rattle.device_rows.specs.Kept.{is_with_fill}
 use Rattle.basic_lemmas.proofs.Counts.{count-cons, counts-once}
 use Rattle.basic_lemmas.proofs.Lists.{all-always, all-mapped}
 use Rattle.basic_lemmas.proofs.Tests.{not-by}
-use Rattle.bounded_runs.proofs.Entries.{open-sent}
-use Rattle.bounded_runs.proofs.Legal.{runs_legally}
-use Rattle.frame_facts.specs.Readings.{rise}
-use Rattle.frame_facts.proofs.Orderly.{sent_fine, streams_of}
-use Rattle.run_facts.proofs.Unsent.{filled-taken, taken-done}
+use Rattle.run_model.proofs.Entries.{open-sent}
+use Rattle.run_model.proofs.Legal.{runs_legally}
+use Rattle.state_facts.specs.FrameReadings.{rise}
+use Rattle.state_facts.proofs.Orderly.{sent_fine, streams_of}
+use Rattle.run_model.proofs.Unsent.{filled-taken, taken-done}
 use Rattle.run_rows.specs.Kept.{fills_out, has_its_readout, has_picture, has_pictures_late, is_read_out}
 use Rattle.run_rows.proofs.Counted.{each-row}
 use Rattle.run_rows.proofs.Fills.{idle-before, one-out}

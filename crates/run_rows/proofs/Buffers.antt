@@ -3,7 +3,6 @@ use Rattle.std.proofs.Common.{◌≡◌, ℕ, ◌==◌, Bool, true, false, ◌&&
 use Rattle.std.specs.List.{list_all, list_any}
 use Rattle.std.specs.Option.{option_and_then, option_map}
 use Rattle.std.proofs.lemmas.Bool.{and_parts, cases_Bool, eqb-true, false≢true}
-use Rattle.run_rows.proofs.General.{any-same}
 use Rattle.cam_types.specs.Four.{four_list}
 use Rattle.cam_types.specs.Rows.{is_returned as is_back}
 use Rattle.cam_types.specs.declared.number.FenceNo.{FenceNo}
@@ -26,17 +25,17 @@ use Rattle.run_model.specs.Jobs.{is_fill_out, is_filled_in, is_readout_home, is_
 use Rattle.run_model.specs.Ready.{may_take_fill, target_is_passed, where_entry}
 use Rattle.run_model.specs.Rows.{row_of, rows, target_view}
 use Rattle.run_model.specs.Run.{IsRun}
-use Rattle.notify_order.specs.Order.{each_below, holds_back, is_held_for}
+use Rattle.device_rows.specs.Order.{each_below, holds_back, is_held_for}
 use Rattle.device_rows.specs.Ready.{is_delivery_ready, is_early_ready, is_failed_return_ready, is_fill_ready, may_deliver, may_fill, may_go_early, may_return_failed, passes_at, target_passes}
 use Rattle.device_rows.specs.Ready as ready
 use Rattle.device_rows.specs.Rows.{target_at, target_in}
-use Rattle.basic_lemmas.proofs.Lists.{any-mapped}
-use Rattle.bounded_runs.proofs.Legal.{runs_legally}
-use Rattle.past_facts.proofs.Out.{out-reads}
-use Rattle.run_facts.proofs.Unsent.{filled-taken}
-use Rattle.past_facts.proofs.Done.{closed-is}
-use Rattle.past_facts.proofs.Times.{timed-shutter}
-use Rattle.buffer_laws.proofs.Once.{settled-returned}
+use Rattle.basic_lemmas.proofs.Lists.{any-mapped, any-agree}
+use Rattle.run_model.proofs.Legal.{runs_legally}
+use Rattle.trace_laws.proofs.Out.{out-reads}
+use Rattle.run_model.proofs.Unsent.{filled-taken}
+use Rattle.trace_laws.proofs.Done.{closed-is}
+use Rattle.trace_laws.proofs.Times.{timed-shutter}
+use Rattle.trace_laws.proofs.Once.{settled-returned}
 use Rattle.run_rows.specs.Entries.{early_entry, failed_entry, filled_entry}
 use Rattle.run_rows.proofs.Fours.{any-four, by-target, row-targets, some_of, view_at}
 use Rattle.run_rows.proofs.Frames.{by-row, earlier-is}
@@ -75,7 +74,7 @@ held-back script h n s =
     first
     ∙ (ap (λ (ts : List TargetView). list_any p ts) (row-targets script h n)
     ∙ (any-mapped p (target_view h n) (targets_of n past)
-    ∙ (any-same (λ t. p (target_view h n t)) (λ t. (t.stream.0 == s) && q t.stream.0) (targets_of n past) (λ t. ap (λ b. (t.stream.0 == s) && (not b && not (has_error_buffer n t.stream.0 past))) (state-returned h n t.stream.0))
+    ∙ (any-agree (λ t. p (target_view h n t)) (λ t. (t.stream.0 == s) && q t.stream.0) (targets_of n past) (λ t. ap (λ b. (t.stream.0 == s) && (not b && not (has_error_buffer n t.stream.0 past))) (state-returned h n t.stream.0))
     ∙ of-stream q s (targets_of n past))))
 
 passes-by : (q a r e : Bool) → (not a || (r || (e || q))) ≡ not (not q && (a && (not r && not e)))

@@ -24,16 +24,16 @@ use Rattle.run_model.specs.declared.step.StepName.{StepName}
 use Rattle.run_model.specs.History.{trace_of}
 use Rattle.run_model.specs.Rows.{is_early_return, is_failed_return, is_ok_return, row_of, rows, sensor_place, target_state, target_view}
 use Rattle.run_model.specs.Run.{IsRun}
-use Rattle.inflight_table.specs.Marks.{as_announced, in_state, marked, with_target}
-use Rattle.inflight_table.specs.declared.mark.Mark.TheVariants.{RequestError, ResultError, Announced, Stopped}
+use Rattle.device_rows.specs.Marks.{as_announced, in_state, marked, with_target}
+use Rattle.device_rows.specs.declared.mark.Mark.TheVariants.{RequestError, ResultError, Announced, Stopped}
 use Rattle.device_rows.specs.Rows.{exposed, with_part, with_row}
-use Rattle.basic_lemmas.proofs.Tests.{and-false, eq-turned}
-use Rattle.bounded_runs.proofs.Entries.{open-sent, same-self}
-use Rattle.bounded_runs.proofs.Legal.{runs_legally}
-use Rattle.frame_laws.proofs.Shutters.{exposed as were_exposed}
-use Rattle.past_facts.specs.Settled.{settles}
-use Rattle.past_facts.proofs.Told.{tells}
-use Rattle.run_facts.proofs.Unsent.{not-done}
+use Rattle.basic_lemmas.proofs.Tests.{and-false, eq-turned, own-number}
+use Rattle.run_model.proofs.Entries.{open-sent}
+use Rattle.run_model.proofs.Legal.{runs_legally}
+use Rattle.trace_laws.proofs.Shutters.{exposed as were_exposed}
+use Rattle.trace_laws.specs.Settled.{settles}
+use Rattle.trace_laws.proofs.Told.{tells}
+use Rattle.run_model.proofs.Unsent.{not-done}
 use Rattle.run_rows.proofs.Noted.{at_stream, four-changed, place-noted, row_noted, rows-changed, state-stays, target-noted, untouched, view-noted, views-changed, views-stay}
 
 -- ---- the row of one frame changes
@@ -81,10 +81,10 @@ shutter-row script h step n time run sent =
     let e = ShutterEntry n time in
     let dark = (were_exposed script past n time (runs_legally script (record { step = step; entry = Some e } ∷ h) run).0).1 in
     let undone = not-done script h n.0 run.1 dark in
-    let place : sensor_place (record { step = step; entry = Some e } ∷ h) n.0 ≡ SensorOut = place-noted script h step e n.0 run sent ∙ rw (same-self n.0, undone) refl in
+    let place : sensor_place (record { step = step; entry = Some e } ∷ h) n.0 ≡ SensorOut = place-noted script h step e n.0 run sent ∙ rw (own-number n.0, undone) refl in
     view-noted script h step e n.0 (map (target_view h n.0) (targets_of n.0 past)) SensorOut run sent
     (same-views script h step e n.0 run (λ u. refl) (λ u. refl) (λ u. refl) (λ u. refl) (λ u. refl)) place
-    ∙ rw (same-self n.0) refl
+    ∙ rw (own-number n.0) refl
 
 pub part-row : (script : Script) (h : List Move) (step : StepName) (n : FrameNo) (k : ℕ) (part : Part) → IsRun script (record { step = step; entry = Some (PartialEntry n k part) } ∷ h) → is_sent n.0 (trace_of h) ≡ true → row_of script (record { step = step; entry = Some (PartialEntry n k part) } ∷ h) n.0 ≡ with_part k (row_of script h n.0)
 part-row script h step n k part run sent =
@@ -92,7 +92,7 @@ part-row script h step n k part run sent =
     let e = PartialEntry n k part in
     view-noted script h step e n.0 (map (target_view h n.0) (targets_of n.0 past)) (sensor_place h n.0) run sent
     (same-views script h step e n.0 run (λ u. refl) (λ u. refl) (λ u. refl) (λ u. refl) (λ u. refl)) (place-noted script h step e n.0 run sent)
-    ∙ rw (same-self n.0) refl
+    ∙ rw (own-number n.0) refl
 
 pub request-row : (script : Script) (h : List Move) (step : StepName) (n : FrameNo) → IsRun script (record { step = step; entry = Some (ErrorRequest n) } ∷ h) → is_sent n.0 (trace_of h) ≡ true → row_of script (record { step = step; entry = Some (ErrorRequest n) } ∷ h) n.0 ≡ marked RequestError (row_of script h n.0)
 request-row script h step n run sent =
@@ -100,7 +100,7 @@ request-row script h step n run sent =
     let e = ErrorRequest n in
     view-noted script h step e n.0 (map (target_view h n.0) (targets_of n.0 past)) (sensor_place h n.0) run sent
     (same-views script h step e n.0 run (λ u. refl) (λ u. refl) (λ u. refl) (λ u. refl) (λ u. refl)) (place-noted script h step e n.0 run sent)
-    ∙ rw (same-self n.0) refl
+    ∙ rw (own-number n.0) refl
 
 pub result-row : (script : Script) (h : List Move) (step : StepName) (n : FrameNo) → IsRun script (record { step = step; entry = Some (ErrorResult n) } ∷ h) → is_sent n.0 (trace_of h) ≡ true → row_of script (record { step = step; entry = Some (ErrorResult n) } ∷ h) n.0 ≡ marked ResultError (row_of script h n.0)
 result-row script h step n run sent =
@@ -108,7 +108,7 @@ result-row script h step n run sent =
     let e = ErrorResult n in
     view-noted script h step e n.0 (map (target_view h n.0) (targets_of n.0 past)) (sensor_place h n.0) run sent
     (same-views script h step e n.0 run (λ u. refl) (λ u. refl) (λ u. refl) (λ u. refl) (λ u. refl)) (place-noted script h step e n.0 run sent)
-    ∙ rw (same-self n.0) refl
+    ∙ rw (own-number n.0) refl
 
 -- ---- the rows all stop
 
@@ -138,7 +138,7 @@ announced-row script h step n s run sent =
     one t =
         target-noted h step (ErrorBuffer n s) n.0 t (target_state h n.0 t.stream.0) (state-stays script h step (ErrorBuffer n s) n.0 t.stream.0 run refl refl refl refl)
         ∙ elim (cases_Bool (t.stream.0 == s.0)) [
-          | inl here ↦ (let turned = eq-eqb s.0 t.stream.0 (sym (eqb-true t.stream.0 s.0 here)) in rw (here, same-self n.0, turned) refl)
+          | inl here ↦ (let turned = eq-eqb s.0 t.stream.0 (sym (eqb-true t.stream.0 s.0 here)) in rw (here, own-number n.0, turned) refl)
           | inr other ↦ (let turned = eq-turned s.0 t.stream.0 other in rw (other, turned, and-false (n.0 == n.0)) refl)
         ]
 

@@ -1,27 +1,22 @@
 -- Nothing is due of a closed frame.
-use Rattle.std.proofs.Common.{◌≡◌, ℕ, Bool, true, false, List, Option, Some, None, refl, ap, ◌∙◌, inl, inr, if◌then◌else◌}
-use Rattle.std.proofs.lemmas.Bool.{cases_Bool}
+use Rattle.std.proofs.Common.{◌≡◌, ℕ, Bool, true, false, List, Option, Some, None, refl, ap, ◌∙◌, if◌then◌else◌}
 use Rattle.cam_types.specs.declared.script.Script.{Script}
 use Rattle.trace_model.specs.declared.entry.Entry.{Entry}
 use Rattle.trace_model.specs.declared.entry.Entry.TheVariants.{ErrorBuffer}
 use Rattle.trace_model.specs.Errors.{error_request_due, error_result_due, failed_due, may_fail_buffer}
 use Rattle.trace_model.specs.Filled.{early_due, filled_due}
-use Rattle.trace_model.specs.Frames.{is_sent}
 use Rattle.trace_model.specs.Legal.{IsLegal}
 use Rattle.trace_model.specs.Open.{is_open}
 use Rattle.trace_model.specs.Partial.{partial_due}
-use Rattle.frame_facts.specs.Readings.{on_row, row_at}
-use Rattle.frame_facts.specs.Row.{Row, open_rows}
-use Rattle.frame_facts.proofs.Deliver.{early_reads, failed_reads, filled_reads}
-use Rattle.frame_facts.proofs.Errors.{buffer_reads, request_reads, result_reads}
-use Rattle.frame_facts.proofs.Metadata.{part_reads}
-use Rattle.frame_facts.proofs.OpenRows.{row-found, row-open}
+use Rattle.state_facts.specs.FrameReadings.{on_row, row_at}
+use Rattle.state_facts.specs.Row.{Row, open_rows}
+use Rattle.state_facts.proofs.Deliver.{early_reads, failed_reads, filled_reads}
+use Rattle.state_facts.proofs.Errors.{buffer_reads, request_reads, result_reads}
+use Rattle.state_facts.proofs.Metadata.{part_reads}
+use Rattle.state_facts.proofs.OpenRows.{row-where}
 
 row-gone : (script : Script) (past : List Entry) (n : ℕ) → IsLegal script past → is_open n past ≡ false → row_at n (open_rows script past) ≡ None
-row-gone script past n legal closed = row-found script past n ∙ elim (cases_Bool (is_sent n past)) [
-  | inl sent ↦ (let gone = row-open script past n legal sent ∙ closed in rw (sent, gone) refl)
-  | inr none ↦ rw none refl
-]
+row-gone script past n legal closed = row-where script past n legal ∙ rw closed refl
 
 -- what is read from the row of a frame isn't there
 unread : (script : Script) (past : List Entry) (n : ℕ) (f : Row → Option Entry) → IsLegal script past → is_open n past ≡ false → on_row f (row_at n (open_rows script past)) ≡ None

@@ -14,34 +14,32 @@ use Rattle.cam_types.specs.declared.row.RowView.{RowView}
 use Rattle.cam_types.specs.declared.row.TargetView.{TargetView}
 use Rattle.cam_types.specs.declared.script.Script.{Script}
 use Rattle.trace_model.specs.declared.entry.Entry.{Entry}
-use Rattle.trace_model.specs.declared.entry.Entry.TheVariants.{Send, Partial}
+use Rattle.trace_model.specs.declared.entry.Entry.TheVariants.{Send}
 use Rattle.trace_model.specs.declared.entry.Sent.{Sent}
 use Rattle.trace_model.specs.Configuration.{streams}
-use Rattle.trace_model.specs.Entry.{is_partial}
 use Rattle.trace_model.specs.Frames.{frames, targets_of}
 use Rattle.trace_model.specs.Legal.{IsLegal}
 use Rattle.trace_model.specs.Open.{is_open, is_quiet, open_count}
-use Rattle.trace_model.specs.Partial.{part_count}
 use Rattle.run_model.specs.declared.step.Move.{Move}
 use Rattle.run_model.specs.History.{trace_of, with_entry}
 use Rattle.run_model.specs.Rows.{row_of, rows, target_view}
 use Rattle.run_model.specs.Run.{IsRun}
 use Rattle.device_rows.specs.Kept.{rise_from}
 use Rattle.basic_lemmas.proofs.Lists.{all-where}
-use Rattle.basic_lemmas.proofs.Counts.{count-one, count-over}
-use Rattle.bounded_runs.proofs.Entries.{open-sent}
-use Rattle.bounded_runs.proofs.Legal.{runs_legally}
-use Rattle.due_facts.proofs.Targets.{has_some, sent-targets}
-use Rattle.frame_facts.specs.Readings.{rise}
-use Rattle.frame_facts.proofs.OpenRows.{count_reads}
-use Rattle.frame_facts.proofs.Orderly.{rows_few, sent_fine, streams_of}
-use Rattle.frame_laws.proofs.Parts.{part-is}
-use Rattle.frame_laws.proofs.Sends.{send-number, sent-below}
-use Rattle.past_facts.proofs.Frames.{falls, frames-fall}
+use Rattle.run_model.proofs.Entries.{open-sent}
+use Rattle.run_model.proofs.Legal.{runs_legally}
+use Rattle.state_facts.proofs.Targets.{has_some, sent-targets}
+use Rattle.state_facts.specs.FrameReadings.{rise}
+use Rattle.state_facts.proofs.OpenRows.{count_reads}
+use Rattle.state_facts.proofs.Orderly.{rows_few, sent_fine, streams_of}
+use Rattle.trace_laws.proofs.Sends.{sent-below}
+use Rattle.trace_laws.proofs.Frames.{falls, frames-fall}
 use Rattle.run_rows.specs.Kept.{are_below, frames_rise, has_few_parts, has_some_target, has_streams, is_in_range, is_no_row}
 use Rattle.run_rows.proofs.Fours.{row-targets}
 use Rattle.run_rows.proofs.Ranges.{sent-range}
 use Rattle.run_rows.proofs.Streams.{is_offered, open-offered}
+use Rattle.state_facts.proofs.Fits.{parts-few}
+use Rattle.trace_laws.proofs.BufferSends.{send-number}
 
 -- ---- each row is of an open frame
 
@@ -202,22 +200,7 @@ range_is script h run =
     let past = trace_of h in
     each-row script h is_in_range (λ n open_. ap (λ (o : Option ℕ). is_none o) (sent-range script past n (runs_legally script h run) (open-sent n past open_)))
 
-few-parts : (script : Script) (past : List Entry) (n : ℕ) → IsLegal script past → part_count n past ≤ 3
-few-parts script [] n legal = omega arith
-few-parts script (Partial m k part ∷ past) n legal = elim (cases_Bool (m.0 == n)) [
-  | inl here ↦ (
-      let is = part-is script past m k part legal.0 in
-      let at = eqb-true m.0 n here in
-      let number : k ≡ part_count n past + 1 = is.number ∙ ap (λ (i : ℕ). part_count i past + 1) at in
-      let short = is.short in
-      let one = count-one (is_partial n) (Partial m k part) past here in
-      omega (arith, number, short, one)
-      )
-  | inr other ↦ (let over = count-over (is_partial n) (Partial m k part) past other in let ih = few-parts script past n legal.1 in omega (arith, over, ih))
-]
-few-parts script (e ∷ past) n legal = let over = count-over (is_partial n) e past refl in let ih = few-parts script past n legal.1 in omega (arith, over, ih)
-
 pub parts_is : (script : Script) (h : List Move) → IsRun script h → list_all has_few_parts (rows script h) ≡ true
 parts_is script h run =
     let past = trace_of h in
-    each-row script h has_few_parts (λ n open_. let short = few-parts script past n (runs_legally script h run) in grind (arith, nat_tests, short))
+    each-row script h has_few_parts (λ n open_. let short = parts-few script past n (runs_legally script h run) in grind (arith, nat_tests, short))

@@ -3,7 +3,7 @@ use Rattle.std.proofs.Common.{◌≡◌, ℕ, ◌==◌, Bool, true, false, ◌&&
 use Rattle.std.specs.List.{list_all, list_any}
 use Rattle.std.specs.Option.{option_map}
 use Rattle.std.proofs.lemmas.Bool.{and_parts, eq-eqb, or_right}
-use Rattle.run_rows.proofs.General.{any-same, find-where, find-and, if-same}
+use Rattle.run_rows.proofs.General.{find-where, find-and, if-same}
 use Rattle.cam_types.specs.Four.{four_list}
 use Rattle.cam_types.specs.Rows.{is_returned as is_back}
 use Rattle.cam_types.specs.declared.row.TargetView.{TargetView}
@@ -23,21 +23,20 @@ use Rattle.run_model.specs.History.{trace_of}
 use Rattle.run_model.specs.Ready.{error_due, failure_at, first_buffer_error, least_buffer_error, or_entry}
 use Rattle.run_model.specs.Rows.{row_of, rows, target_view}
 use Rattle.run_model.specs.Run.{IsRun}
-use Rattle.error_notify.specs.declared.entry.ErrorEntry.{ErrorEntry}
-use Rattle.error_notify.specs.declared.entry.ErrorEntry.TheVariants.{Device}
-use Rattle.flush_path.specs.Due.{fails_in_part, fails_whole, is_bare, is_cut_short, misses_metadata}
+use Rattle.device_rows.specs.declared.entry.ErrorEntry.{ErrorEntry}
+use Rattle.device_rows.specs.declared.entry.ErrorEntry.TheVariants.{Device}
+use Rattle.device_rows.specs.Due.{fails_in_part, fails_whole, is_bare, is_cut_short, misses_metadata}
 use Rattle.device_rows.specs.Faults.{faults_of}
 use Rattle.device_rows.specs.Ready.{error_of, fails_device_at, may_end_metadata, next_error}
 use Rattle.device_rows.specs.Rows.{row_at}
-use Rattle.basic_lemmas.proofs.Lists.{all-mapped, all-where, any-mapped, find-mapped, find-none}
-use Rattle.bounded_runs.proofs.Entries.{open-sent}
-use Rattle.bounded_runs.proofs.Legal.{runs_legally}
-use Rattle.trace_bounds.proofs.Shapes.{found-passes}
-use Rattle.frame_facts.specs.Readings.{rise}
-use Rattle.frame_facts.specs.Row.{target_at}
-use Rattle.frame_facts.proofs.Orderly.{sent_fine, streams_of}
-use Rattle.frame_facts.proofs.Something.{something-reads}
-use Rattle.past_facts.proofs.Times.{timed-shutter}
+use Rattle.basic_lemmas.proofs.Lists.{all-mapped, all-where, any-mapped, find-mapped, find-none, any-agree, found-passes}
+use Rattle.run_model.proofs.Entries.{open-sent}
+use Rattle.run_model.proofs.Legal.{runs_legally}
+use Rattle.state_facts.specs.FrameReadings.{rise}
+use Rattle.state_facts.specs.Row.{target_at}
+use Rattle.state_facts.proofs.Orderly.{sent_fine, streams_of}
+use Rattle.state_facts.proofs.Something.{something-reads}
+use Rattle.trace_laws.proofs.Times.{timed-shutter}
 use Rattle.run_rows.proofs.Closed.{buffer-closed, request-closed, result-closed}
 use Rattle.run_rows.specs.Entries.{error_entry}
 use Rattle.run_rows.proofs.Fours.{row-targets}
@@ -54,7 +53,7 @@ row-back script h n =
     let past = trace_of h in
     ap (λ (ts : List TargetView). list_any (λ t. is_back t.state) ts) (row-targets script h n)
     ∙ (any-mapped (λ (t : TargetView). is_back t.state) (target_view h n) (targets_of n past)
-    ∙ (any-same (λ t. is_back (target_view h n t).state) (λ t. is_returned n t.stream.0 past) (targets_of n past) (λ t. state-returned h n t.stream.0)
+    ∙ (any-agree (λ t. is_back (target_view h n t).state) (λ t. is_returned n t.stream.0 past) (targets_of n past) (λ t. state-returned h n t.stream.0)
     ∙ sym (any-mapped (λ t. t.returned) (target_at n past) (targets_of n past))))
 
 row-announced : (script : Script) (h : List Move) (n : ℕ) → list_any (λ t. t.announced) (four_list (row_of script h n).targets) ≡ list_any (λ t. t.announced) (map (target_at n (trace_of h)) (targets_of n (trace_of h)))

@@ -25,12 +25,12 @@ use Rattle.run_model.specs.Run.{IsRun}
 use Rattle.device_rows.specs.Rows.{filled_after, filled_from, target_at}
 use Rattle.basic_lemmas.proofs.Lists.{any-never}
 use Rattle.basic_lemmas.proofs.Tests.{not-by}
-use Rattle.bounded_runs.proofs.Entries.{target-has}
-use Rattle.bounded_runs.proofs.Legal.{adds-none}
-use Rattle.buffer_laws.proofs.Once.{settled-returned}
-use Rattle.run_facts.proofs.Targets.{taken_target}
-use Rattle.run_facts.proofs.Home.{settled_home}
-use Rattle.run_facts.proofs.Unsent.{filled-taken, take-parts, take-ready, taken-done}
+use Rattle.run_model.proofs.Entries.{target-has}
+use Rattle.run_model.proofs.Legal.{adds-none}
+use Rattle.trace_laws.proofs.Once.{settled-returned}
+use Rattle.run_model.proofs.Targets.{taken_target}
+use Rattle.run_model.proofs.Home.{settled_home}
+use Rattle.run_model.proofs.Unsent.{filled-taken, take-parts, take-ready, taken-done}
 use Rattle.run_rows.proofs.Fours.{by-target}
 use Rattle.run_rows.proofs.Noted.{place_by}
 use Rattle.run_rows.proofs.States.{brought-kinds, returned-kinds, state_by, was_bad, was_early, was_ok}

@@ -29,19 +29,19 @@ use Rattle.run_model.specs.Rows.{is_early_return, row_of, rows, target_state}
 use Rattle.run_model.specs.Run.{IsRun}
 use Rattle.device_rows.specs.Ready.{is_finish_ready, is_state, passes_at, target_passes}
 use Rattle.device_rows.specs.Rows.{row_at, target_at}
-use Rattle.bounded_runs.proofs.Entries.{same-self}
-use Rattle.bounded_runs.proofs.Legal.{runs_legally}
-use Rattle.trace_bounds.proofs.Shapes.{found-passes}
-use Rattle.buffer_laws.proofs.Early.{found-early, given, open-until-late, settled-late}
-use Rattle.past_facts.specs.Settled.{has_fence}
-use Rattle.past_facts.proofs.Settled.{fence-frame}
-use Rattle.run_facts.proofs.Targets.{unfilled}
+use Rattle.run_model.proofs.Legal.{runs_legally}
+use Rattle.trace_laws.proofs.Early.{found-early, given, open-until-late, settled-late}
+use Rattle.trace_laws.specs.Settled.{has_fence}
+use Rattle.trace_laws.proofs.Settled.{fence-frame}
+use Rattle.run_model.proofs.Targets.{unfilled}
 use Rattle.run_rows.specs.Entries.{finish_entry}
 use Rattle.run_rows.specs.Moves.{finish_move}
 use Rattle.run_rows.proofs.Fours.{by-target}
 use Rattle.run_rows.proofs.Frames.{by-row, row-found}
 use Rattle.run_rows.proofs.Jobs.{early-taken}
 use Rattle.run_rows.proofs.States.{brought-kinds, early-filled-by, returned-kinds, was_bad, was_early, was_ok}
+use Rattle.basic_lemmas.proofs.Lists.{found-passes}
+use Rattle.basic_lemmas.proofs.Tests.{own-number}
 
 -- ---- the device fence of an early return
 
@@ -70,7 +70,7 @@ pub record EarlyIs (script : Script) (past : List Entry) (n s d : ℕ) : Type 0 
 
 early-is : (script : Script) (past : List Entry) (n s d : ℕ) (rest : List ℕ) → IsLegal script past → early_fences n s past ≡ d ∷ rest → EarlyIs script past n s d
 early-is script past n s d rest legal at =
-    let own : has_fence d (early_fences n s past) ≡ true = ap (λ (fs : List ℕ). has_fence d fs) at ∙ rw (same-self d) refl in
+    let own : has_fence d (early_fences n s past) ≡ true = ap (λ (fs : List ℕ). has_fence d fs) at ∙ rw (own-number d) refl in
     let found = found-early past d (fence-any d n s past own) in
     by found.0 found.1 found.2 found.3 found.4 found.5 (fence-frame script past d found.0 found.1 found.2 found.3 n s legal found.4 own)
   where
@@ -143,7 +143,7 @@ late-closed script past n s d (Some _) legal found has closed = refl
 finish-closed : (script : Script) (past : List Entry) (n s : ℕ) (fences : List ℕ) → IsLegal script past → early_fences n s past ≡ fences → is_open n past ≡ false → late_with script past fences ≡ None
 finish-closed script past n s [] legal at closed = refl
 finish-closed script past n s (d ∷ ds) legal at closed =
-    let own = same-self d in
+    let own = own-number d in
     let has : has_fence d (early_fences n s past) ≡ true = ap (λ (fs : List ℕ). has_fence d fs) at ∙ rw own refl in
     late-closed script past n s d (find (is_early_with d) past) legal refl has closed
 

@@ -16,8 +16,7 @@ use Rattle.run_model.specs.declared.step.Move.{Move}
 use Rattle.run_model.specs.History.{trace_of}
 use Rattle.run_model.specs.Rows.{row_of, target_state, target_view}
 use Rattle.device_rows.specs.Rows.{target_at}
-use Rattle.basic_lemmas.proofs.Lists.{find-mapped}
-use Rattle.trace_bounds.proofs.Shapes.{found-passes}
+use Rattle.basic_lemmas.proofs.Lists.{find-mapped, found-passes}
 
 -- ---- some and all of four
 

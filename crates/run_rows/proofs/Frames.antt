@@ -2,7 +2,7 @@
 use Rattle.std.proofs.Common.{◌≡◌, ℕ, ◌==◌, Bool, true, false, ◌&&◌, ◌||◌, not, List, [], ◌∷◌, Option, Some, None, refl, sym, ap, ◌∙◌, inl, inr, nat_lt, filter, map, reverse, if◌then◌else◌}
 use Rattle.std.specs.List.{list_all, list_any}
 use Rattle.std.proofs.lemmas.Bool.{and_parts, cases_Bool, eqb-true, false≢true}
-use Rattle.run_rows.proofs.General.{all-reverse, any-reverse}
+use Rattle.run_rows.proofs.General.{all-reverse}
 use Rattle.cam_types.specs.declared.row.RowView.{RowView}
 use Rattle.cam_types.specs.declared.script.Script.{Script}
 use Rattle.trace_model.specs.Frames.{each_earlier, frames, is_sent}
@@ -10,11 +10,13 @@ use Rattle.trace_model.specs.Open.{is_open}
 use Rattle.run_model.specs.declared.step.Move.{Move}
 use Rattle.run_model.specs.History.{trace_of}
 use Rattle.run_model.specs.Rows.{row_of, rows}
-use Rattle.notify_order.specs.Order.{each_below}
+use Rattle.device_rows.specs.Order.{each_below}
 use Rattle.device_rows.specs.Rows.{row_at}
-use Rattle.bounded_runs.proofs.Entries.{open-sent, same-self}
-use Rattle.frame_laws.proofs.Sends.{all-sent}
-use Rattle.past_facts.proofs.Frames.{sent-listed}
+use Rattle.run_model.proofs.Entries.{open-sent}
+use Rattle.trace_laws.proofs.Frames.{sent-listed}
+use Rattle.trace_laws.proofs.BufferSends.{frames-sent}
+use Rattle.basic_lemmas.proofs.Lists.{any-reversed}
+use Rattle.basic_lemmas.proofs.Tests.{own-number}
 
 -- ---- the row of a frame
 
@@ -25,7 +27,7 @@ found-in f p n (x ∷ xs) own listed =
       | inl here ↦ (
           let at = eqb-true x n here in
           elim (cases_Bool (p n)) [
-            | inl yes' ↦ (let own' = same-self n in rw (at, yes', own n, own') refl)
+            | inl yes' ↦ (let own' = own-number n in rw (at, yes', own n, own') refl)
             | inr no' ↦ (let ih = found-in f p n xs own (λ h. absurd (false≢true (sym no' ∙ h))) in rw (at, no') (ih ∙ rw no' refl))
           ]
           )
@@ -36,12 +38,12 @@ found-in f p n (x ∷ xs) own listed =
     ]
 
 pub sent-in-order : (h : List Move) → list_all (λ n. is_sent n (trace_of h)) (reverse (frames (trace_of h))) ≡ true
-sent-in-order h = all-reverse (λ n. is_sent n (trace_of h)) (frames (trace_of h)) ∙ all-sent (trace_of h)
+sent-in-order h = all-reverse (λ n. is_sent n (trace_of h)) (frames (trace_of h)) ∙ frames-sent (trace_of h)
 
 pub row-found : (script : Script) (h : List Move) (n : ℕ) → row_at n (rows script h) ≡ (if is_open n (trace_of h) then Some (row_of script h n) else None)
 row-found script h n =
     found-in (row_of script h) (λ m. is_open m (trace_of h)) n (reverse (frames (trace_of h))) (λ m. refl)
-    (λ open_. any-reverse (λ m. m == n) (frames (trace_of h)) ∙ sent-listed (trace_of h) n (open-sent n (trace_of h) open_))
+    (λ open_. any-reversed (λ m. m == n) (frames (trace_of h)) ∙ sent-listed (trace_of h) n (open-sent n (trace_of h) open_))
 
 pub by-row : {X : Type 0} (script : Script) (h : List Move) (n : ℕ) (f : Option RowView → X) (x : X) → (is_open n (trace_of h) ≡ true → x ≡ f (Some (row_of script h n))) → (is_open n (trace_of h) ≡ false → x ≡ f None) → x ≡ f (row_at n (rows script h))
 by-row script h n f x open_ closed = elim (cases_Bool (is_open n (trace_of h))) [

@@ -36,17 +36,18 @@ use Rattle.run_model.specs.Rows.{request_of, row_of, rows, sensor_place, target_
 use Rattle.run_model.specs.Run.{IsRun}
 use Rattle.basic_lemmas.proofs.Counts.{none-counted}
 use Rattle.basic_lemmas.proofs.Lists.{any-never}
-use Rattle.bounded_runs.proofs.Entries.{open-sent, same-self}
-use Rattle.bounded_runs.proofs.Legal.{runs_legally}
-use Rattle.past_facts.proofs.Frames.{unsent-next}
-use Rattle.past_facts.proofs.Told.{buffer-tells, no-time, none-of, not-stopped, partial-tells, request-tells, result-tells, return-tells, tells, untold}
-use Rattle.run_facts.proofs.Targets.{dark-next}
-use Rattle.run_facts.proofs.Unsent.{not-done, not-filled, not-taken}
-use Rattle.queue_facts.specs.Turns.{settings_next}
-use Rattle.queue_facts.proofs.Items.{IsNext, is-next}
+use Rattle.run_model.proofs.Entries.{open-sent}
+use Rattle.run_model.proofs.Legal.{runs_legally}
+use Rattle.trace_laws.proofs.Frames.{unsent-next}
+use Rattle.trace_laws.proofs.Told.{buffer-tells, no-time, none-of, not-stopped, partial-tells, request-tells, result-tells, return-tells, tells, untold}
+use Rattle.run_model.proofs.Targets.{dark-next}
+use Rattle.run_model.proofs.Unsent.{not-done, not-filled, not-taken}
+use Rattle.state_facts.specs.Turns.{settings_next}
+use Rattle.state_facts.proofs.Items.{IsNext, is-next}
 use Rattle.run_rows.specs.Changes.{fresh_row, fresh_target, fresh_targets}
 use Rattle.run_rows.proofs.Fills.{is-here}
 use Rattle.run_rows.proofs.Noted.{no-sensor, no-take, not-silent, old-rows, row-open, state-noted, untouched, views-stay}
+use Rattle.basic_lemmas.proofs.Tests.{own-number}
 
 -- ---- the settings of the item that is sent
 
@@ -109,7 +110,7 @@ fresh-row script h step n r i same targets run =
     let m : Move = record { step = step; entry = Some e } in
     let legal = runs_legally script (m ∷ h) run in
     let unsent = unsent-next script past n.0 r.0 i same targets legal.1 legal.0 in
-    let own = same-self n.0 in
+    let own = own-number n.0 in
     let none = λ (p : Entry → Bool) (says : (x : Entry) → p x ≡ true → tells n.0 x ≡ true). none-of script past n.0 p legal.1 unsent says in
     let targets' : targets_of n.0 (trace_of (m ∷ h)) ≡ four_list targets = rw own refl in
     let settings : settings_of script (trace_of (m ∷ h)) n.0 ≡ settings_in (item_at script past r.0 i) = rw own refl in
@@ -137,7 +138,7 @@ send-changed script h step n r i same targets run =
     let legal = runs_legally script (m ∷ h) run in
     let row = fresh-row script h step n r i same targets run in
     let fresh = fresh_row (settings_next (next script past)) n r targets in
-    let sent : is_sent n.0 (trace_of (m ∷ h)) ≡ true = rw (same-self n.0) refl in
+    let sent : is_sent n.0 (trace_of (m ∷ h)) ≡ true = rw (own-number n.0) refl in
     let open_ : is_open n.0 (trace_of (m ∷ h)) ≡ true = row-open script (m ∷ h) n.0 legal sent ∙ ap view.is_open row in
     let open' : ℕ → Bool = λ k. is_open k (trace_of (m ∷ h)) in
     let old = old-rows script m h (λ x. x) run (λ x o. untouched script h step e x run (open-sent x past o) refl refl (λ u. refl)) ∙ ap (λ (rs : List RowView). filter view.is_open rs) (map-id (rows script h)) in

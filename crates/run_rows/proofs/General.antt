@@ -6,10 +6,6 @@ use Rattle.std.proofs.lemmas.Bool.{and_parts, cases_Bool, false≢true}
 use Rattle.std.proofs.lemmas.List.{reverse-append}
 use Rattle.std.proofs.lemmas.List.Folds.{list_all-append, list_any-append}
 
-pub any-same : {X : Type 0} (p q : X → Bool) (xs : List X) → ((x : X) → p x ≡ q x) → list_any p xs ≡ list_any q xs
-any-same p q [] same = refl
-any-same p q (x ∷ xs) same = rw (same x, any-same p q xs same) refl
-
 pub find-where : {X : Type 0} (s p q : X → Bool) (xs : List X) → ((x : X) → s x ≡ true → p x ≡ q x) → list_all s xs ≡ true → find p xs ≡ find q xs
 find-where s p q [] same all = refl
 find-where s p q (x ∷ xs) same all = let parts = and_parts (s x) (list_all s xs) all in rw (same x parts.0, find-where s p q xs same parts.1) refl
@@ -26,18 +22,6 @@ all-reverse {X} p (x ∷ xs) =
     ∙ (list_all-append p (reverse xs) (x ∷ []) ∙ (ap (λ b. b && (p x && true)) (all-reverse p xs) ∙ turned (list_all p xs) (p x)))
   where
     turned : (a b : Bool) → (a && (b && true)) ≡ (b && a)
-    turned true true = refl
-    turned true false = refl
-    turned false true = refl
-    turned false false = refl
-
-pub any-reverse : {X : Type 0} (p : X → Bool) (xs : List X) → list_any p (reverse xs) ≡ list_any p xs
-any-reverse p [] = refl
-any-reverse {X} p (x ∷ xs) =
-    ap (λ (ys : List X). list_any p ys) (reverse-append (x ∷ []) xs)
-    ∙ (list_any-append p (reverse xs) (x ∷ []) ∙ (ap (λ b. b || (p x || false)) (any-reverse p xs) ∙ turned (list_any p xs) (p x)))
-  where
-    turned : (a b : Bool) → (a || (b || false)) ≡ (b || a)
     turned true true = refl
     turned true false = refl
     turned false true = refl

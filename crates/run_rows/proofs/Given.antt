@@ -13,8 +13,8 @@ use Rattle.run_model.specs.History.{trace_of}
 use Rattle.run_model.specs.Rows.{rows, target_view}
 use Rattle.run_model.specs.Run.{IsRun}
 use Rattle.basic_lemmas.proofs.Lists.{all-mapped, all-where}
-use Rattle.bounded_runs.proofs.Legal.{runs_legally}
-use Rattle.due_facts.proofs.Fences.{are-given, is_given}
+use Rattle.run_model.proofs.Legal.{runs_legally}
+use Rattle.state_facts.proofs.Fences.{are-given, is_given}
 use Rattle.device_rows.specs.Kept.{is_made}
 use Rattle.run_rows.specs.Kept.{has_given_fences}
 use Rattle.run_rows.proofs.Counted.{each-row}

@@ -5,24 +5,20 @@ use Rattle.std.specs.List.{list_any}
 use Rattle.std.proofs.lemmas.Bool.{and_parts, cases_Bool, eqb-true, false≢true, or_right}
 use Rattle.cam_types.specs.declared.script.Script.{Script}
 use Rattle.trace_model.specs.declared.entry.Entry.{Entry}
-use Rattle.trace_model.specs.declared.entry.Entry.TheVariants.{Send as SendEntry, Filled, Failed, ErrorRequest, ErrorResult, ErrorBuffer, ErrorDevice, Early as EarlyEntry, Late as LateEntry}
+use Rattle.trace_model.specs.declared.entry.Entry.TheVariants.{Filled, Failed, Early as EarlyEntry, Late as LateEntry}
 use Rattle.trace_model.specs.declared.entry.Sent.{Sent}
 use Rattle.trace_model.specs.Client.{begin_due}
 use Rattle.trace_model.specs.Calls.{next_command}
 use Rattle.trace_model.specs.Entry.{is_early_with, signals}
-use Rattle.trace_model.specs.Errors.{error_request_due, error_result_due, failed_due, may_fail_buffer}
-use Rattle.trace_model.specs.Fence.{is_late, is_passed}
-use Rattle.trace_model.specs.Filled.{filled_due, early_due, late_of}
-use Rattle.trace_model.specs.Frames.{frames, is_sent, shutter_time, target_of, targets_of}
+use Rattle.trace_model.specs.Errors.{failed_due}
+use Rattle.trace_model.specs.Fence.{is_passed}
+use Rattle.trace_model.specs.Filled.{filled_due, early_due}
+use Rattle.trace_model.specs.Frames.{frames, is_sent, shutter_time, target_of}
 use Rattle.trace_model.specs.Open.{early_fences}
 use Rattle.trace_model.specs.Partial.{part_count}
-use Rattle.trace_model.specs.Picture.{digest_of}
 use Rattle.trace_model.specs.Queue.{first_in, next, queued}
-use Rattle.cam_types.specs.Four.{four_of}
 use Rattle.cam_types.specs.declared.number.FenceNo.{FenceNo}
 use Rattle.cam_types.specs.declared.request.Queued.{Queued}
-use Rattle.trace_model.specs.Numbers.{next_number}
-use Rattle.trace_model.specs.Send.{least_targets, mark_of, may_go, send_next, send_with, targets_in_order}
 use Rattle.trace_model.specs.Shutter.{may_expose}
 use Rattle.trace_model.specs.Stopping.{is_stopping}
 use Rattle.run_model.specs.declared.step.Move.{Move}
@@ -30,14 +26,15 @@ use Rattle.run_model.specs.declared.step.StepName.{StepName}
 use Rattle.run_model.specs.declared.step.StepName.TheVariants.{Send, Release, Signal, Client, DropQueued, Fail, ReturnFailed, Shutter, SensorDone, Partial, TakeFill, FillDone, Deliver, Early, Finish}
 use Rattle.run_model.specs.History.{trace_of, with_entry, is_fill_done, is_take_fill}
 use Rattle.run_model.specs.Jobs.{is_fill_out, is_filled_in, is_sensor_out, is_taken_in}
-use Rattle.run_model.specs.Ready.{adding, error_due, failure_at, finish_due, first_buffer_error, late_with, may_take_fill, move_of, or_entry, target_is_passed}
+use Rattle.run_model.specs.Ready.{adding, finish_due, late_with, may_take_fill, move_of, target_is_passed}
 use Rattle.run_model.specs.Rows.{is_early_return, is_ok_return}
 use Rattle.run_model.specs.Run.{IsRun}
-use Rattle.bounded_runs.proofs.Entries.{open-sent}
-use Rattle.bounded_runs.proofs.Legal.{adds, adds-none, begin_shape, by_failing, by_test, call_shape, drop_shape, early_shape, failed_shape, filled_shape, part_shape, runs_legally, shutter_shape, where-entry}
-use Rattle.run_facts.proofs.Targets.{targets-same}
-use Rattle.run_facts.proofs.Unsent.{done-shot, take-parts, take-ready, taken-done}
-use Rattle.frame_laws.proofs.Shutters.{shutter-sent}
+use Rattle.run_model.proofs.Entries.{open-sent}
+use Rattle.run_model.proofs.Legal.{adds, adds-none, begin_shape, by_test, call_shape, drop_shape, early_shape, failed_shape, filled_shape, part_shape, runs_legally, shutter_shape, where-entry}
+use Rattle.run_model.proofs.Targets.{targets-same}
+use Rattle.run_model.proofs.Unsent.{done-shot, take-parts, take-ready, taken-done}
+use Rattle.trace_laws.proofs.Shutters.{shutter-sent}
+use Rattle.run_model.proofs.Shapes.{error-shape, late-shape, or-shape, send-shape}
 
 -- ---- what stands behind an entry
 
@@ -63,49 +60,16 @@ abbrev pub BehindIn : List Move → StepName → Option Entry → Type 0
 BehindIn h step (Some e) = Behind h step e
 BehindIn h step None = Unit {0}
 
-or-shape : (P : Entry → Type 0) (a b : Option Entry) (e : Entry) → or_entry a b ≡ Some e → ((d : Entry) → a ≡ Some d → P d) → ((d : Entry) → b ≡ Some d → P d) → P e
-or-shape P (Some x) b e h first second = first e h
-or-shape P None b e h first second = second e h
-
-send-some : (P : Entry → Type 0) (script : Script) (past : List Entry) (w : Queued) (o : Option (List Sent)) (e : Entry) → send_with script past w o ≡ Some e → ((ts : List Sent) → P (SendEntry (record { 0 = next_number past }) w.request w.index (mark_of script past w.item.settings) (four_of ts))) → P e
-send-some P script past w None e h each = absurd (cc)
-send-some P script past w (Some ts) e h each = by_test P true _ e h (λ t. each ts)
-
-send-if : (P : Entry → Type 0) (script : Script) (past : List Entry) (b : Bool) (w : Queued) (o : Option (List Sent)) (e : Entry) → (if b then send_with script past w o else None) ≡ Some e → ((ts : List Sent) → P (SendEntry (record { 0 = next_number past }) w.request w.index (mark_of script past w.item.settings) (four_of ts))) → P e
-send-if P script past true w o e h each = send-some P script past w o e h each
-send-if P script past false w o e h each = absurd (cc)
-
-send-shape : (P : Entry → Type 0) (script : Script) (past : List Entry) (o : Option Queued) (e : Entry) → send_next script past o ≡ Some e → ((w : Queued) (ts : List Sent) → P (SendEntry (record { 0 = next_number past }) w.request w.index (mark_of script past w.item.settings) (four_of ts))) → P e
-send-shape P script past None e h each = absurd (cc)
-send-shape P script past (Some w) e h each = send-if P script past (may_go script past w) w (least_targets past (targets_in_order w.item)) e h (each w)
-
-buffer-shape : (P : Entry → Type 0) (script : Script) (past : List Entry) (n : ℕ) (o : Option Sent) (e : Entry) → first_buffer_error script past n o ≡ Some e → ((s : ℕ) → P (ErrorBuffer (record { 0 = n }) (record { 0 = s }))) → P e
-buffer-shape P script past n None e h each = absurd (cc)
-buffer-shape P script past n (Some t) e h each = by_test P (may_fail_buffer script past n t.stream.0) _ e h (λ k. each t.stream.0)
-
-error-shape : (P : Entry → Type 0) (script : Script) (past : List Entry) (n : ℕ) (e : Entry) → error_due script past n ≡ Some e → P ErrorDevice → P (ErrorRequest (record { 0 = n })) → P (ErrorResult (record { 0 = n })) → ((s : ℕ) → P (ErrorBuffer (record { 0 = n }) (record { 0 = s }))) → P e
-error-shape P script past n e h device request result buffer =
-    or-shape P (failure_at script past n) _ e h (λ d k. by_test P _ _ d k (λ t. device))
-    (λ d k. or-shape P (error_request_due script past n) _ d k (λ x l. by_test P _ _ x l (λ t. request))
-    (λ x l. or-shape P (error_result_due script past n) _ x l (λ y i. by_test P _ _ y i (λ t. result))
-    (λ y i. buffer-shape P script past n (find (λ t. may_fail_buffer script past n t.stream.0) (targets_of n past)) y i buffer)))
-
--- the signal of the device fence of frame n's buffer for stream s
-late-shape : (P : Entry → Type 0) (script : Script) (past : List Entry) (d : ℕ) (o : Option Entry) (e : Entry) → find (is_early_with d) past ≡ o → late_of script past d o ≡ Some e → ((x : List ℕ) → P (LateEntry (record { 0 = d }) x)) → P e
-late-shape P script past d None e at h each = absurd (cc)
-late-shape P script past d (Some (EarlyEntry m u b f)) e at h each = by_failing P (is_late d past) (LateEntry (record { 0 = d }) (digest_of script past m.0 u.0)) e h (each (digest_of script past m.0 u.0))
-late-shape P script past d (Some _) e at h each = absurd (cc)
-
 pub finish-shape : (P : Entry → Type 0) (script : Script) (h : List Move) (n s : ℕ) (fences : List ℕ) (e : Entry) → is_filled_in h n s ≡ true → early_fences n s (trace_of h) ≡ fences → late_with script (trace_of h) fences ≡ Some e → ((d : ℕ) (x : List ℕ) → FinishOf h n s d → P (LateEntry (record { 0 = d }) x)) → P e
 finish-shape P script h n s [] e filled at due each = absurd (cc)
 finish-shape P script h n s (d ∷ ds) e filled at due each =
-    late-shape P script (trace_of h) d (find (is_early_with d) (trace_of h)) e refl due (λ x. each d x (record { filled = filled; rest = ds; fences = at }))
+    late-shape P script (trace_of h) d (find (is_early_with d) (trace_of h)) e due (λ x. each d x (record { filled = filled; rest = ds; fences = at }))
 
 adds-behind : (h : List Move) (step : StepName) (o : Option Entry) (m : Move) → adding step o ≡ Some m → ((e : Entry) → o ≡ Some e → Behind h step e) → BehindIn h step m.entry
 adds-behind h step o m at each = let a = adds step o m at in let behind = each a.0 a.1 in rw a.2 behind
 
 pub move-behind : (script : Script) (h : List Move) (step : StepName) (m : Move) → move_of script h step ≡ Some m → BehindIn h step m.entry
-move-behind script h Send m k = adds-behind h Send _ m k (λ e d. send-shape (Behind h Send) script (trace_of h) (next script (trace_of h)) e d (λ w ts. tt))
+move-behind script h Send m k = adds-behind h Send _ m k (λ e d. send-shape (Behind h Send) script (trace_of h) e d (λ w ts. tt))
 move-behind script h (Release b) m k = adds-behind h (Release b) _ m k (λ e d. by_test (Behind h (Release b)) _ _ e d (λ t. tt))
 move-behind script h (Signal f) m k = adds-behind h (Signal f) _ m k (λ e d. by_test (Behind h (Signal f)) _ _ e d (λ t. tt))
 move-behind script h Client m k =

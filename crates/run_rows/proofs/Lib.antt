@@ -29,3 +29,11 @@ pub mod Agree
 pub mod Standing
 pub mod Sending
 pub mod Given
+pub mod Due
+mod Runs
+mod OpenSteps
+mod Named
+mod Stuck
+pub mod NeverStuckJobs
+mod Kept
+mod Resting

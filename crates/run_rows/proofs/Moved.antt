@@ -19,14 +19,14 @@ use Rattle.run_model.specs.Jobs.{is_filled_in}
 use Rattle.run_model.specs.Ready.{adding, finish_due, move_of}
 use Rattle.run_model.specs.Rows.{rows}
 use Rattle.run_model.specs.Run.{IsRun}
-use Rattle.inflight_table.specs.Marks.{marked}
-use Rattle.inflight_table.specs.declared.mark.Mark.TheVariants.{Announced, RequestError, ResultError, Stopped}
+use Rattle.device_rows.specs.Marks.{marked}
+use Rattle.device_rows.specs.declared.mark.Mark.TheVariants.{Announced, RequestError, ResultError, Stopped}
 use Rattle.device_rows.specs.Rows.{all_stopped, delivered, exposed, gone_early, returned_failed, with_part, with_row}
 use Rattle.basic_lemmas.proofs.Tests.{eq-turned}
-use Rattle.bounded_runs.proofs.Entries.{open-sent}
-use Rattle.bounded_runs.proofs.Legal.{adds, where-entry}
-use Rattle.past_facts.proofs.Told.{tells}
-use Rattle.queue_facts.specs.Turns.{settings_next}
+use Rattle.run_model.proofs.Entries.{open-sent}
+use Rattle.run_model.proofs.Legal.{adds, where-entry}
+use Rattle.trace_laws.proofs.Told.{tells}
+use Rattle.state_facts.specs.Turns.{settings_next}
 use Rattle.run_rows.specs.Changes.{after, after_entry, after_given}
 use Rattle.run_rows.proofs.Changes.{announced-row, in-place, nothing, part-row, request-row, result-row, shutter-row, stop-row}
 use Rattle.run_rows.proofs.Fresh.{send-changed}

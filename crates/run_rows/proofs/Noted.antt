@@ -4,7 +4,6 @@ use Rattle.std.specs.List.{list_all, list_any}
 use Rattle.std.specs.Option.{option_map}
 use Rattle.std.proofs.lemmas.Bool.{and_parts, cases_Bool, eqb-true, false≢true}
 use Rattle.std.proofs.lemmas.Option.{slice_get-map}
-use Rattle.run_rows.proofs.General.{any-same}
 use Rattle.cam_types.specs.Four.{four_of}
 use Rattle.cam_types.specs.Rows as view
 use Rattle.cam_types.specs.declared.four.Four.{Four}
@@ -33,17 +32,17 @@ use Rattle.run_model.specs.Jobs.{is_any_fill_out, is_fill_out, is_filled_in, is_
 use Rattle.run_model.specs.Ready.{may_take_fill, move_of}
 use Rattle.run_model.specs.Rows.{is_early_return, is_failed_return, is_ok_return, request_of, row_of, rows, sensor_place, target_state, target_view}
 use Rattle.run_model.specs.Run.{IsRun}
-use Rattle.inflight_table.specs.Marks.{if_of_stream, in_state, with_target}
-use Rattle.bounded_runs.proofs.Legal.{adds-none, runs_legally}
-use Rattle.past_facts.specs.Settled.{settles}
-use Rattle.past_facts.proofs.Done.{closed-stays}
-use Rattle.past_facts.proofs.Frames.{sent-once}
-use Rattle.past_facts.proofs.Settled.{settled-noted}
-use Rattle.past_facts.proofs.Told.{buffer-tells, request-tells, result-tells, tells}
-use Rattle.past_facts.specs.Times.{note_parts, note_time}
-use Rattle.past_facts.proofs.Times.{parts-noted, parts-other, time-noted, time-other}
-use Rattle.frame_facts.proofs.Accepted.{settings-kept}
-use Rattle.basic_lemmas.proofs.Lists.{all-agree, all-mapped, any-behind}
+use Rattle.device_rows.specs.Marks.{if_of_stream, in_state, with_target}
+use Rattle.run_model.proofs.Legal.{adds-none, runs_legally}
+use Rattle.trace_laws.specs.Settled.{settles}
+use Rattle.trace_laws.proofs.Done.{closed-stays}
+use Rattle.trace_laws.proofs.Frames.{sent-once}
+use Rattle.trace_laws.proofs.Settled.{settled-noted}
+use Rattle.trace_laws.proofs.Told.{buffer-tells, request-tells, result-tells, tells}
+use Rattle.trace_laws.specs.Times.{note_parts, note_time}
+use Rattle.trace_laws.proofs.Times.{parts-noted, parts-other, time-noted, time-other}
+use Rattle.state_facts.proofs.Accepted.{settings-kept}
+use Rattle.basic_lemmas.proofs.Lists.{all-agree, all-mapped, any-behind, any-agree}
 use Rattle.basic_lemmas.proofs.Tests.{not-by}
 use Rattle.run_rows.proofs.Fours.{all-four, each_of, row-targets}
 use Rattle.run_rows.proofs.Frames.{sent-in-order}
@@ -102,7 +101,7 @@ place-noted script h step e n run sent =
     let quiet = not-silent script h step e run.0 in
     let any : is_any_fill_out (m ∷ h) n ≡ is_any_fill_out h n =
     ap (λ (ts : List Sent). list_any (λ t. is_fill_out (m ∷ h) n t.stream.0) ts) (targets-noted script past e n (runs_legally script (m ∷ h) run) sent)
-    ∙ any-same (λ t. is_fill_out (m ∷ h) n t.stream.0) (λ t. is_fill_out h n t.stream.0) (targets_of n past) (λ t. fill-same script h step e n t.stream.0 run.0)
+    ∙ any-agree (λ t. is_fill_out (m ∷ h) n t.stream.0) (λ t. is_fill_out h n t.stream.0) (targets_of n past) (λ t. fill-same script h step e n t.stream.0 run.0)
     in
     both (λ done fill. place_by (is_shutter n e || has_shutter n past) done fill) _ _ _ _ (ap (λ b. b || is_sensor_done_in h n) (no-sensor step n quiet)) any
   where

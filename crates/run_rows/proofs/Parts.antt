@@ -17,9 +17,9 @@ use Rattle.run_model.specs.Rows.{row_of, rows}
 use Rattle.run_model.specs.Run.{IsRun}
 use Rattle.device_rows.specs.Ready.{may_end_metadata, may_send_part, next_part, part_with}
 use Rattle.device_rows.specs.Ready as ready
-use Rattle.bounded_runs.proofs.Legal.{runs_legally}
-use Rattle.frame_laws.proofs.Parts.{is_within, part-within}
-use Rattle.past_facts.proofs.Done.{closed-is}
+use Rattle.run_model.proofs.Legal.{runs_legally}
+use Rattle.trace_laws.proofs.Parts.{is_within, part-within}
+use Rattle.trace_laws.proofs.Done.{closed-is}
 use Rattle.run_rows.proofs.Closed.{part-closed}
 use Rattle.run_rows.specs.Entries.{part_entry}
 use Rattle.run_rows.proofs.Frames.{by-row, earlier-is}

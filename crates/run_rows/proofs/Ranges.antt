@@ -22,30 +22,27 @@ use Rattle.trace_model.specs.Legal.{IsLegal}
 use Rattle.trace_model.specs.Numbers.{call_count}
 use Rattle.trace_model.specs.Queue.{next}
 use Rattle.trace_model.specs.Reply.{acceptance, own_refusal, queue_refusal, refusal, reply, reply_with, state_refusal}
-use Rattle.trace_bounds.proofs.Calls.{by-call}
-use Rattle.trace_bounds.proofs.Refusals.{refuses, refusal-refuses}
-use Rattle.past_facts.proofs.Frames.{sent-once}
-use Rattle.frame_facts.proofs.Accepted.{settings-kept}
-use Rattle.queue_facts.proofs.Items.{IsNext, is-next}
+use Rattle.trace_laws.proofs.Calls.{by-call}
+use Rattle.trace_laws.proofs.Refusals.{refuses, refusal-refuses}
+use Rattle.trace_laws.proofs.Frames.{sent-once}
+use Rattle.state_facts.proofs.Accepted.{settings-kept}
+use Rattle.state_facts.proofs.Items.{IsNext, is-next}
+use Rattle.trace_laws.proofs.Accepted.{no-value}
 
 or-none : (a b : Option Reply) → or_else a b ≡ None → (a ≡ None) × (b ≡ None)
 or-none None b h = (refl, h)
 or-none (Some r) b h = absurd (cc)
 
-range-of : (code i : ℕ) (o : Option ℕ) → with_value code i o ≡ None → o ≡ None
-range-of code i (Some value) h = absurd (cc)
-range-of code i None h = refl
-
-items-in-range : (n i : ℕ) (items : List Item) → items_refusal n i items ≡ None → (k : ℕ) (item : Item) → slice_get items k ≡ Some item → range_fault item.settings ≡ None
+pub items-in-range : (n i : ℕ) (items : List Item) → items_refusal n i items ≡ None → (k : ℕ) (item : Item) → slice_get items k ≡ Some item → range_fault item.settings ≡ None
 items-in-range n i [] h k item at = absurd (cc)
 items-in-range n i (x ∷ items) h zero item at =
     let same : x ≡ item = cc in
     let first = or-none (item_refusal n i x) (items_refusal n (i + 1) items) h in
     let range = or-none (targets_refusal n i (take x.targets.count x.targets.list)) (with_value 8 i (range_fault x.settings)) first.0 in
-    rw (sym same) (range-of 8 i (range_fault x.settings) range.1)
+    rw (sym same) (no-value 8 i (range_fault x.settings) range.1)
 items-in-range n i (x ∷ items) h (suc k) item at = items-in-range n (i + 1) items (or-none (item_refusal n i x) (items_refusal n (i + 1) items) h).1 k item at
 
-list-in-range : (n : ℕ) (items : List Item) → list_refusal n items ≡ None → (k : ℕ) (item : Item) → slice_get items k ≡ Some item → range_fault item.settings ≡ None
+pub list-in-range : (n : ℕ) (items : List Item) → list_refusal n items ≡ None → (k : ℕ) (item : Item) → slice_get items k ≡ Some item → range_fault item.settings ≡ None
 list-in-range n [] h k item at = absurd (cc)
 list-in-range n (x ∷ items) h k item at = items-in-range n 0 (x ∷ items) h k item at
 

@@ -20,15 +20,14 @@ use Rattle.run_model.specs.Jobs.{is_fill_out, is_filled_in}
 use Rattle.run_model.specs.Rows.{row_of, target_state}
 use Rattle.run_model.specs.Run.{IsRun}
 use Rattle.device_rows.specs.Rows.{delivered, gone_early, returned_failed}
-use Rattle.basic_lemmas.proofs.Tests.{and-false, eq-turned}
-use Rattle.bounded_runs.proofs.Entries.{same-self}
-use Rattle.bounded_runs.proofs.Legal.{runs_legally}
-use Rattle.buffer_laws.proofs.Early.{given}
-use Rattle.buffer_laws.proofs.Once.{out-not-returned}
-use Rattle.buffer_laws.proofs.Returns.{early-back, failed-back}
-use Rattle.past_facts.specs.Settled.{has_fence}
-use Rattle.past_facts.proofs.Settled.{fence-frame}
-use Rattle.trace_bounds.proofs.Shapes.{late-is}
+use Rattle.basic_lemmas.proofs.Tests.{and-false, eq-turned, own-number}
+use Rattle.run_model.proofs.Legal.{runs_legally}
+use Rattle.trace_laws.proofs.Early.{given}
+use Rattle.trace_laws.proofs.Once.{out-not-returned}
+use Rattle.trace_laws.proofs.Returns.{early-back, failed-back}
+use Rattle.trace_laws.specs.Settled.{has_fence}
+use Rattle.trace_laws.proofs.Settled.{fence-frame}
+use Rattle.trace_laws.proofs.Shapes.{late-is}
 use Rattle.run_rows.proofs.Changes.{state-row}
 use Rattle.run_rows.proofs.Fills.{is-here}
 use Rattle.run_rows.proofs.Jobs.{FinishOf}
@@ -36,11 +35,11 @@ use Rattle.run_rows.proofs.Noted.{state-noted, state-stays, state-views}
 use Rattle.run_rows.proofs.States.{brought-kinds, returned-kinds, state_by, was_bad, was_early, was_ok}
 
 -- an entry of another stream's buffer isn't of this one
-other-stream : (n s u : ℕ) → (u == s) ≡ false → ((n == n) && (s == u)) ≡ false
+pub other-stream : (n s u : ℕ) → (u == s) ≡ false → ((n == n) && (s == u)) ≡ false
 other-stream n s u other = rw (eq-turned s u other) (and-false (n == n))
 
-own-stream : (n s : ℕ) → ((n == n) && (s == s)) ≡ true
-own-stream n s = rw (same-self n, same-self s) refl
+pub own-stream : (n s : ℕ) → ((n == n) && (s == s)) ≡ true
+own-stream n s = rw (own-number n, own-number s) refl
 
 -- ---- with its picture
 
@@ -120,7 +119,7 @@ late-of script h step n s d x run finish =
     let b : BufferId = is.2 in
     let f : FenceNo = is.3 in
     let found : find (is_early_with d.0) past ≡ Some (EarlyEntry k t b f) = is.4 in
-    let own : has_fence d.0 (early_fences n s past) ≡ true = ap (λ (fs : List ℕ). has_fence d.0 fs) finish.fences ∙ rw (same-self d.0) refl in
+    let own : has_fence d.0 (early_fences n s past) ≡ true = ap (λ (fs : List ℕ). has_fence d.0 fs) finish.fences ∙ rw (own-number d.0) refl in
     let at = same k.0 t.0 n s (fence-frame script past d.0 k t b f n s legal.1 found own) in
     let g = given script past d.0 k t b f legal.1 found in
     let kinds = or_parts (was_ok h n s) (was_bad h n s) (brought-kinds n s past ∙ (ap (λ (i : ℕ). list_any (brings i s) past) (sym at.0) ∙ (ap (λ (i : ℕ). list_any (brings k.0 i) past) (sym at.1) ∙ g.brought))) in

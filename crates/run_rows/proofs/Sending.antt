@@ -23,8 +23,8 @@ use Rattle.run_model.specs.History.{trace_of}
 use Rattle.run_model.specs.Rows.{rows}
 use Rattle.run_model.specs.Run.{IsRun}
 use Rattle.device_rows.specs.Kept.{is_fresh, is_fresh_target}
-use Rattle.bounded_runs.proofs.Legal.{runs_legally}
-use Rattle.queue_facts.specs.Turns.{settings_next}
+use Rattle.run_model.proofs.Legal.{runs_legally}
+use Rattle.state_facts.specs.Turns.{settings_next}
 use Rattle.run_rows.specs.Changes.{fresh_row, fresh_target, fresh_targets}
 use Rattle.run_rows.specs.Kept.{IsSound, has_some_target, has_streams, is_in_range}
 use Rattle.run_rows.proofs.Counted.{range_is, streams_is, targets_is}

@@ -22,14 +22,14 @@ use Rattle.run_model.specs.Ready.{failure_at}
 use Rattle.run_model.specs.Rows.{row_of, rows}
 use Rattle.run_model.specs.Run.{IsRun}
 use Rattle.device_rows.specs.Ready.{fails_device_at, if_exposed, is_failing, next_exposure, shutter_row}
-use Rattle.bounded_runs.proofs.Legal.{runs_legally}
-use Rattle.frame_facts.specs.Readings.{shutter_from}
-use Rattle.frame_facts.specs.Row as plain
-use Rattle.frame_facts.proofs.Last.{last-is, last_where}
-use Rattle.frame_facts.proofs.Sensor.{IsNext, done_passed, last-next, next-from, next-is, no_next, one-next, rows-next, shutter_reads, waits}
-use Rattle.past_facts.proofs.Frames.{frames-fall}
-use Rattle.past_facts.proofs.Done.{closed-is}
-use Rattle.past_facts.proofs.Times.{timed-shutter}
+use Rattle.run_model.proofs.Legal.{runs_legally}
+use Rattle.state_facts.specs.FrameReadings.{shutter_from}
+use Rattle.state_facts.specs.Row as plain
+use Rattle.state_facts.proofs.Last.{last-is, last_where}
+use Rattle.state_facts.proofs.Sensor.{IsNext, done_passed, last-next, next-from, next-is, no_next, one-next, rows-next, shutter_reads, waits}
+use Rattle.trace_laws.proofs.Frames.{frames-fall}
+use Rattle.trace_laws.proofs.Done.{closed-is}
+use Rattle.trace_laws.proofs.Times.{timed-shutter}
 use Rattle.run_rows.specs.Entries.{shutter_entry}
 use Rattle.run_rows.proofs.Frames.{sent-in-order}
 use Rattle.run_rows.proofs.Stopped.{open-stopped}

@@ -1,7 +1,6 @@
 -- What the steps that add no entry make of the rows: the sensor's work ends, a stage takes a buffer, or gives it back.
 use Rattle.std.proofs.Common.{◌≡◌, ℕ, ◌==◌, Bool, false, ◌&&◌, ◌||◌, List, ◌∷◌, None, refl, sym, ap, ◌∙◌, inl, inr, filter, map}
 use Rattle.std.proofs.lemmas.Bool.{cases_Bool, eqb-true}
-use Rattle.run_rows.proofs.General.{any-same}
 use Rattle.cam_types.specs.Rows as view
 use Rattle.cam_types.specs.declared.four.Four.{Four}
 use Rattle.cam_types.specs.declared.number.FrameNo.{FrameNo}
@@ -23,13 +22,15 @@ use Rattle.run_model.specs.History.{trace_of, is_fill_done, is_sensor_done, is_t
 use Rattle.run_model.specs.Jobs.{is_fill_out, is_sensor_done_in}
 use Rattle.run_model.specs.Rows.{row_of, rows, sensor_place, target_state, target_view}
 use Rattle.run_model.specs.Run.{IsRun}
-use Rattle.inflight_table.specs.Marks.{in_state, marked}
-use Rattle.inflight_table.specs.declared.mark.Mark.TheVariants.{Sensor, Target}
+use Rattle.device_rows.specs.Marks.{in_state, marked}
+use Rattle.device_rows.specs.declared.mark.Mark.TheVariants.{Sensor, Target}
 use Rattle.device_rows.specs.Rows.{fill_begun, fill_ended, filled_after, sensor_home, target_at, with_row}
-use Rattle.basic_lemmas.proofs.Tests.{and-false, eq-turned}
+use Rattle.basic_lemmas.proofs.Tests.{eq-turned}
 use Rattle.run_rows.proofs.Changes.{at_frame}
 use Rattle.run_rows.proofs.Fills.{fill-own, sensor-own, take-own}
 use Rattle.run_rows.proofs.Noted.{at_stream, four-changed, place_by, rows-changed, silent-row, state-views, views-stay}
+use Rattle.run_rows.proofs.Returned.{other-stream}
+use Rattle.basic_lemmas.proofs.Lists.{any-agree}
 
 -- ---- the rows of other frames
 
@@ -46,7 +47,7 @@ view-kept h step n t a b =
 place-kept : (h : List Move) (step : StepName) (n : ℕ) → ((u : ℕ) → is_take_fill n u step ≡ false) → ((u : ℕ) → is_fill_done n u step ≡ false) → is_sensor_done n step ≡ false → sensor_place (record { step = step; entry = None } ∷ h) n ≡ sensor_place h n
 place-kept h step n a b c =
     both (λ done fill. place_by (has_shutter n (trace_of h)) done fill) _ _ _ _ (ap (λ d. d || is_sensor_done_in h n) c)
-    (any-same (λ t. is_fill_out (record { step = step; entry = None } ∷ h) n t.stream.0) (λ t. is_fill_out h n t.stream.0) (targets_of n (trace_of h)) (λ t. out-kept h step n t.stream.0 (a t.stream.0) (b t.stream.0)))
+    (any-agree (λ t. is_fill_out (record { step = step; entry = None } ∷ h) n t.stream.0) (λ t. is_fill_out h n t.stream.0) (targets_of n (trace_of h)) (λ t. out-kept h step n t.stream.0 (a t.stream.0) (b t.stream.0)))
   where
     both : (f : Bool → Bool → SensorPlace) (a a' b b' : Bool) → a ≡ a' → b ≡ b' → f a b ≡ f a' b'
     both f a a' b b' x y = rw (x, y) refl
@@ -83,9 +84,6 @@ sensor-changed script h n run =
 
 other-frame : (n x s u : ℕ) → (x == n) ≡ false → ((n == x) && (s == u)) ≡ false
 other-frame n x s u other = rw (eq-turned n x other) refl
-
-other-stream : (n s u : ℕ) → (u == s) ≡ false → ((n == n) && (s == u)) ≡ false
-other-stream n s u other = rw (eq-turned s u other) (and-false (n == n))
 
 -- a row whose target of a stream and whose sensor's place change
 both-row : (script : Script) (h : List Move) (step : StepName) (n : ℕ) (s : StreamIx) (state : TargetState) (p : SensorPlace) → ((u : ℕ) → (u == s.0) ≡ false → target_state (record { step = step; entry = None } ∷ h) n u ≡ target_state h n u) → target_state (record { step = step; entry = None } ∷ h) n s.0 ≡ state → sensor_place (record { step = step; entry = None } ∷ h) n ≡ p → row_of script (record { step = step; entry = None } ∷ h) n ≡ marked (Sensor p) (marked (Target s state) (row_of script h n))

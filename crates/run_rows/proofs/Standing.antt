@@ -6,7 +6,7 @@ use Rattle.run_model.specs.declared.step.Move.{Move}
 use Rattle.run_model.specs.History.{trace_of}
 use Rattle.run_model.specs.Rows.{rows}
 use Rattle.run_model.specs.Run.{IsRun}
-use Rattle.bounded_runs.proofs.Legal.{runs_legally}
+use Rattle.run_model.proofs.Legal.{runs_legally}
 use Rattle.run_rows.specs.Kept.{are_stopped_with, is_same}
 use Rattle.run_rows.proofs.Counted.{each-row}
 use Rattle.run_rows.proofs.Stopped.{open-stopped}

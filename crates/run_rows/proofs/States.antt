@@ -2,7 +2,6 @@
 use Rattle.std.proofs.Common.{◌≡◌, ℕ, ◌==◌, Bool, true, false, ◌&&◌, ◌||◌, not, List, [], ◌∷◌, refl, sym, ap, ◌∙◌, if◌then◌else◌}
 use Rattle.std.specs.List.{list_any}
 use Rattle.std.proofs.lemmas.Bool.{false≢true, or_left}
-use Rattle.run_rows.proofs.General.{any-same}
 use Rattle.cam_types.specs.Rows as view
 use Rattle.cam_types.specs.declared.row.SensorPlace.TheVariants.{NotYet, Out as SensorOut, Home, WithFill}
 use Rattle.cam_types.specs.declared.row.TargetState.{TargetState}
@@ -19,11 +18,11 @@ use Rattle.run_model.specs.History.{trace_of}
 use Rattle.run_model.specs.Jobs.{is_any_fill_out, is_fill_out, is_filled_in, is_readout_home, is_sensor_done_in, is_sensor_out, is_taken_in}
 use Rattle.run_model.specs.Rows.{is_early_return, is_failed_return, is_ok_return, sensor_place, target_state}
 use Rattle.run_model.specs.Run.{IsRun}
-use Rattle.buffer_laws.proofs.Once.{settled-returned}
+use Rattle.trace_laws.proofs.Once.{settled-returned}
 use Rattle.device_rows.specs.Ready as ready
 use Rattle.device_rows.specs.Ready.{is_state}
-use Rattle.run_facts.proofs.Unsent.{filled-taken}
-use Rattle.basic_lemmas.proofs.Lists.{any-or}
+use Rattle.run_model.proofs.Unsent.{filled-taken}
+use Rattle.basic_lemmas.proofs.Lists.{any-or, any-agree}
 use Rattle.basic_lemmas.proofs.Tests.{or-false}
 
 -- ---- how a buffer came back
@@ -61,7 +60,7 @@ brings-kinds n s (Failed m t b f) = refl
 brings-kinds n s _ = refl
 
 pub brought-kinds : (n s : ℕ) (past : List Entry) → (list_any (is_ok_return n s) past || list_any (is_failed_return n s) past) ≡ list_any (brings n s) past
-brought-kinds n s past = sym (any-or (is_ok_return n s) (is_failed_return n s) past) ∙ any-same (λ e. is_ok_return n s e || is_failed_return n s e) (brings n s) past (brings-kinds n s)
+brought-kinds n s past = sym (any-or (is_ok_return n s) (is_failed_return n s) past) ∙ any-agree (λ e. is_ok_return n s e || is_failed_return n s e) (brings n s) past (brings-kinds n s)
 
 -- ---- the state by these tests
 

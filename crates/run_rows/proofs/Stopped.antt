@@ -20,7 +20,7 @@ use Rattle.trace_model.specs.declared.entry.Entry.{Entry}
 use Rattle.trace_model.specs.declared.entry.Entry.TheVariants.{Begin, Call, Send, Dropped, ErrorDevice}
 use Rattle.trace_model.specs.declared.entry.Sent.{Sent}
 use Rattle.trace_model.specs.Calls.{begun, is_closed, is_closing_word, is_waiting_command, next_command, word_of}
-use Rattle.trace_model.specs.Client.{begin_of, call_due, call_of, is_idle, is_over, is_empty, may_answer}
+use Rattle.trace_model.specs.Client.{call_due, call_of, is_idle, is_over, is_empty, may_answer}
 use Rattle.trace_model.specs.Configuration.{buffers_of, configures, is_configured, made, numbers_of}
 use Rattle.trace_model.specs.Drop.{drop_of}
 use Rattle.trace_model.specs.Entry.{is_refusal, is_stop_word}
@@ -36,14 +36,16 @@ use Rattle.trace_model.specs.Send.{fits_next, takes_from_pool}
 use Rattle.trace_model.specs.Stopping.{has_failed, is_stopped, is_stopping, stops_by}
 use Rattle.trace_model.proofs.LawLemmas.{sends-from-pool}
 use Rattle.basic_lemmas.proofs.Lists.{all-where-both, any-behind}
-use Rattle.bounded_runs.proofs.Entries.{open-sent, same-self}
-use Rattle.due_facts.proofs.Awaited.{begun-word}
-use Rattle.due_facts.proofs.Stopped.{stopping-stops}
-use Rattle.due_facts.proofs.Targets.{has_some, sent-targets}
-use Rattle.frame_laws.proofs.Sends.{all-sent}
-use Rattle.past_facts.proofs.Done.{closed-stays}
-use Rattle.past_facts.proofs.Frames.{sent-listed}
-use Rattle.past_facts.proofs.Told.{not-stopped}
+use Rattle.run_model.proofs.Entries.{open-sent}
+use Rattle.state_facts.proofs.Awaited.{begun-word, begins_first}
+use Rattle.state_facts.proofs.Stopped.{stopping-stops}
+use Rattle.state_facts.proofs.Targets.{has_some, sent-targets}
+use Rattle.trace_laws.proofs.Done.{closed-stays}
+use Rattle.trace_laws.proofs.Frames.{sent-listed}
+use Rattle.trace_laws.proofs.Told.{not-stopped}
+use Rattle.state_facts.proofs.Rest.{none_waits}
+use Rattle.trace_laws.proofs.BufferSends.{frames-sent}
+use Rattle.basic_lemmas.proofs.Tests.{own-number}
 
 -- ---- a call that is due
 
@@ -81,11 +83,7 @@ pub record HasNothing (script : Script) (past : List Entry) : Type 0 where
 quiet-stays : (script : Script) (past : List Entry) (e : Entry) → IsLegal script (e ∷ past) → is_quiet past ≡ true → list_all (λ n. not (is_open n (e ∷ past))) (frames past) ≡ true
 quiet-stays script past e legal quiet =
     all-where-both (λ n. is_sent n past) (λ n. not (is_open n past)) (λ n. not (is_open n (e ∷ past))) (frames past)
-    (λ n sent closed. ap not (closed-stays script past e n legal sent (not-true (is_open n past) closed))) (all-sent past) quiet
-
-is-empty : (xs : List WaitingItem) → is_empty xs ≡ true → xs ≡ []
-is-empty [] h = refl
-is-empty (x ∷ xs) h = absurd (false≢true h)
+    (λ n sent closed. ap not (closed-stays script past e n legal sent (not-true (is_open n past) closed))) (frames-sent past) quiet
 
 -- what a closing command's answer says: all was done
 pub answered : (began refused over : Bool) → (began && (refused || over)) ≡ true → refused ≡ false → over ≡ true
@@ -148,7 +146,7 @@ closed-nothing script (Call i w r ∷ past) legal closed =
           let idle = and_parts (is_quiet past) (is_empty (queued script past)) (closing-over script past call.command word over) in
           record {
             quiet = quiet-stays script past (Call i w r) legal idle.0;
-            empty = same-queue script past (puts script (Call i w r)) (none-puts script i w r Accepted is refl) ∙ is-empty (queued script past) idle.1;
+            empty = same-queue script past (puts script (Call i w r)) (none-puts script i w r Accepted is refl) ∙ none_waits (queued script past) idle.1;
             none = closing-clears script past i w r parts.1 taken;
           }
           )
@@ -197,7 +195,7 @@ sent-configured script [] n legal sent = absurd (false≢true sent)
 sent-configured script (Send m r i same targets ∷ past) n legal sent = elim (cases_Bool (is_configured past)) [
   | inl yes' ↦ yes'
   | inr no' ↦ (
-      let own = same-self m.0 in
+      let own = own-number m.0 in
       let sent' : is_sent m.0 (Send m r i same targets ∷ past) ≡ true = rw own refl in
       let some' = sent-targets script (Send m r i same targets ∷ past) m.0 legal sent' in
       let some : has_some (four_list targets) ≡ true = rw own at some' in
@@ -246,15 +244,6 @@ call-quiet script past i w r n (Some v) legal due at stops sound open_ =
 
 -- ---- so an open frame that is stopped is stopped now
 
-begin-none : (past : List Entry) (o : Option Command) (w : Word) → begin_of past o ≡ Some (Begin w) → begun past ≡ None
-begin-none past None w h = absurd (cc)
-begin-none past (Some c) w h = by (is_waiting_command c) (begun past) h
-  where
-    by : (a : Bool) (o : Option Word) → (if a && not (is_some o) then Some (Begin (word_of c)) else None) ≡ Some (Begin w) → o ≡ None
-    by a None h = refl
-    by true (Some v) h = absurd (cc)
-    by false (Some v) h = absurd (cc)
-
 stopped-sent : (past : List Entry) (n : ℕ) → is_stopped n past ≡ true → is_sent n past ≡ true
 stopped-sent past n h = elim (cases_Bool (is_sent n past)) [
   | inl sent ↦ sent
@@ -274,7 +263,7 @@ stopped-now script (Begin w ∷ past) n legal open_ stopped = elim (cases_Bool (
   | inr other ↦ (
       let stopped' : is_stopped n past ≡ true = rw other at stopped in
       let ih = stopped-now script past n legal.1 (open-before script past (Begin w) n legal (stopped-sent past n stopped') open_) stopped' in
-      let failed : has_failed past ≡ true = ap (λ (o : Option Word). stops_by o || has_failed past) (sym (begin-none past (next_command script past) w legal.0)) ∙ ih in
+      let failed : has_failed past ≡ true = ap (λ (o : Option Word). stops_by o || has_failed past) (sym (begins_first past (next_command script past) w legal.0)) ∙ ih in
       or_right (is_stop_word w) (has_failed past) failed
       )
 ]

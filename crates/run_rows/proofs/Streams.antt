@@ -28,10 +28,10 @@ use Rattle.trace_model.specs.Queue.{next, queued, repeating}
 use Rattle.trace_model.specs.Reply.{acceptance, reply, reply_with, refusal}
 use Rattle.trace_model.specs.Send.{are_streams, fits_next, targets_in_order}
 use Rattle.trace_model.proofs.LawLemmas.{goes}
-use Rattle.trace_bounds.proofs.Refusals.{refuses, refusal-refuses}
-use Rattle.due_facts.proofs.Served.{offered, serves, some_of}
-use Rattle.due_facts.proofs.Targets.{next_by}
-use Rattle.bounded_runs.proofs.Entries.{open-sent}
+use Rattle.trace_laws.proofs.Refusals.{refuses, refusal-refuses}
+use Rattle.state_facts.proofs.Served.{offered, serves, some_of}
+use Rattle.state_facts.proofs.Targets.{next_by}
+use Rattle.run_model.proofs.Entries.{open-sent}
 use Rattle.run_rows.proofs.Stopped.{answered, call-is, open-before, quiet-closed}
 
 -- the stream is one of the configuration's
@@ -65,7 +65,7 @@ sent-offered script past (Some w) n r i same targets legal at h =
 
 -- ---- a configuration is made once no frame is open
 
-configure-by : (script : Script) (past : List Entry) (c : Command) (o : Option Reply) (each : Four Made) → refuses o ≡ true → reply_with o (acceptance script past c) ≡ Configured each → is_over script past c ≡ true → is_quiet past ≡ true
+pub configure-by : (script : Script) (past : List Entry) (c : Command) (o : Option Reply) (each : Four Made) → refuses o ≡ true → reply_with o (acceptance script past c) ≡ Configured each → is_over script past c ≡ true → is_quiet past ≡ true
 configure-by script past c (Some (Refused code a b)) each refused at over = absurd (cc)
 configure-by script past c (Some Accepted) each refused at over = absurd (false≢true refused)
 configure-by script past c (Some (Submitted r)) each refused at over = absurd (false≢true refused)
@@ -73,7 +73,7 @@ configure-by script past c (Some (Configured m)) each refused at over = absurd (
 configure-by script past (Configure specs) None each refused at over = (and_parts (is_quiet past) (is_empty (queued script past)) (and_parts (is_idle script past) (all_in_pool past) over).0).0
 configure-by script past c None each refused at over = absurd (cc)
 
-configure-quiet : (script : Script) (past : List Entry) (i : ℕ) (w : Word) (each : Four Made) → IsLegal script (Call i w (Configured each) ∷ past) → is_quiet past ≡ true
+pub configure-quiet : (script : Script) (past : List Entry) (i : ℕ) (w : Word) (each : Four Made) → IsLegal script (Call i w (Configured each) ∷ past) → is_quiet past ≡ true
 configure-quiet script past i w each legal =
     let call = call-is script past i w (Configured each) legal.0 in
     let over = answered (not (is_waiting_command call.command) || is_some (begun past)) (is_refusal (reply script past call.command)) (is_over script past call.command) call.may (ap is_refusal call.reply_is) in

@@ -4,8 +4,6 @@ use Rattle.std.specs.List.{list_all, list_any}
 use Rattle.std.specs.Option.{option_map}
 use Rattle.std.proofs.lemmas.Bool.{and_parts, cases_Bool, ltb-true}
 use Rattle.std.proofs.lemmas.Bool.Decides.{nat_tests}
-use Rattle.frame_facts.proofs.Last.{any-found}
-use Rattle.trace_bounds.proofs.Printed.{found-all}
 use Rattle.run_rows.proofs.General.{kept-append}
 use Rattle.cam_types.specs.Four.{four_list}
 use Rattle.cam_types.specs.Rows.{is_returned as is_back}
@@ -18,11 +16,12 @@ use Rattle.cam_types.specs.declared.script.Fault.{Fault}
 use Rattle.trace_model.specs.declared.entry.Entry.{Entry}
 use Rattle.trace_model.specs.declared.entry.Entry.TheVariants.{ErrorRequest, ErrorResult, ErrorBuffer}
 use Rattle.run_model.specs.Ready.{or_entry}
-use Rattle.error_notify.specs.Next.{least, lesser, missing_at, missing_streams, next_due}
-use Rattle.flush_path.specs.Due.{fails_in_part, is_awaited, is_bare, is_cut_short, is_some_true, is_true_at, is_untouched, misses_at, missing_buffers}
+use Rattle.device_rows.specs.Next.{least, lesser, missing_at, missing_streams, next_due}
+use Rattle.device_rows.specs.Due.{fails_in_part, is_awaited, is_bare, is_cut_short, is_some_true, is_true_at, is_untouched, misses_at, missing_buffers}
 use Rattle.device_rows.specs.Faults.{fault_at, fault_of_buffer, faults_of}
 use Rattle.run_rows.specs.Entries.{error_entry}
 use Rattle.run_rows.proofs.Fours.{all-four, any-four, each_of, some_of}
+use Rattle.basic_lemmas.proofs.Lists.{any-found, all-found}
 
 -- ---- nothing came
 
@@ -97,7 +96,7 @@ least-first p (t ∷ ts) rising =
     let parts = and_parts (list_all (λ u. nat_lt t.stream.0 u.stream.0) ts) (are_rising ts) rising in
     let ih = least-first p ts parts.1 in
     elim (cases_Bool (p t)) [
-      | inl here ↦ rw (here, ih, lesser-is t.stream.0 (find p ts) (λ u at. found-all (λ w. nat_lt t.stream.0 w.stream.0) p ts u parts.0 at)) refl
+      | inl here ↦ rw (here, ih, lesser-is t.stream.0 (find p ts) (λ u at. all-found (λ w. nat_lt t.stream.0 w.stream.0) p ts u parts.0 at)) refl
       | inr other ↦ rw other ih
     ]
 

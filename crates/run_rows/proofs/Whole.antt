@@ -28,11 +28,11 @@ use Rattle.run_model.specs.Jobs.{is_filled_in}
 use Rattle.run_model.specs.Ready.{finish_due}
 use Rattle.run_model.specs.Rows.{row_of, rows}
 use Rattle.run_model.specs.Run.{IsRun}
-use Rattle.inflight_table.specs.Marks.{as_announced, if_of_stream, in_state, marked, with_target}
-use Rattle.inflight_table.specs.declared.mark.Mark.TheVariants.{Announced, Stopped}
+use Rattle.device_rows.specs.Marks.{as_announced, if_of_stream, in_state, marked, with_target}
+use Rattle.device_rows.specs.declared.mark.Mark.TheVariants.{Announced, Stopped}
 use Rattle.device_rows.specs.Rows.{exposed, fill_begun, fill_ended, filled_after, filled_from, gone_early, sensor_home, target_at, with_row}
-use Rattle.bounded_runs.proofs.Legal.{adds, runs_legally, where-entry}
-use Rattle.queue_facts.specs.Turns.{settings_next}
+use Rattle.run_model.proofs.Legal.{adds, runs_legally, where-entry}
+use Rattle.state_facts.specs.Turns.{settings_next}
 use Rattle.run_rows.specs.Changes.{after, after_entry, after_given, after_step, fresh_row, may_end}
 use Rattle.run_rows.proofs.Changes.{at_frame}
 use Rattle.run_rows.proofs.Frames.{sent-in-order}

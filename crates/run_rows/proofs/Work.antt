@@ -5,14 +5,12 @@ use Rattle.std.proofs.lemmas.Bool.{and_parts, cases_Bool, eqb-true, false≢true
 use Rattle.run_rows.proofs.General.{some-if}
 use Rattle.cam_types.specs.declared.script.Script.{Script}
 use Rattle.trace_model.specs.declared.entry.Entry.{Entry}
-use Rattle.trace_model.specs.declared.entry.Entry.TheVariants.{Shutter, Filled, Failed, ErrorRequest, ErrorBuffer, Late}
+use Rattle.trace_model.specs.declared.entry.Entry.TheVariants.{Shutter, Filled, Failed, Late}
 use Rattle.trace_model.specs.declared.entry.Sent.{Sent}
 use Rattle.trace_model.specs.Entry.{is_error_buffer, is_error_of, is_error_request, is_shutter}
-use Rattle.trace_model.specs.Errors.{failed_of}
 use Rattle.trace_model.specs.Frames.{has_error, has_error_request, has_shutter, is_sent, target_of, targets_of}
 use Rattle.trace_model.specs.Legal.{IsLegal}
 use Rattle.trace_model.specs.Open.{early_fences, has_error_buffer, is_open, is_returned, is_settled}
-use Rattle.trace_model.specs.Place.{is_at_device_by}
 use Rattle.run_model.specs.declared.step.Move.{Move}
 use Rattle.run_model.specs.declared.step.StepName.{StepName}
 use Rattle.run_model.specs.declared.step.StepName.TheVariants.{Finish}
@@ -23,41 +21,30 @@ use Rattle.run_model.specs.Run.{IsRun}
 use Rattle.device_rows.specs.Jobs as device
 use Rattle.device_rows.specs.Jobs.{sensor_job_at, sensor_job_of}
 use Rattle.basic_lemmas.proofs.Lists.{any-behind, any-where}
-use Rattle.basic_lemmas.proofs.Tests.{not-by, passed-where}
-use Rattle.bounded_runs.proofs.Legal.{runs_legally}
-use Rattle.due_facts.proofs.Targets.{has_some, sent-targets}
-use Rattle.frame_laws.proofs.Shutters.{exposed}
-use Rattle.past_facts.specs.Settled.{settles}
-use Rattle.past_facts.proofs.Settled.{settled-noted}
-use Rattle.run_facts.specs.Moves.{by_entry}
-use Rattle.run_facts.proofs.Targets.{dark-next}
-use Rattle.run_facts.proofs.Unsent.{done-shot, filled-taken, taken-done}
-use Rattle.past_facts.proofs.Done.{closed-is}
-use Rattle.buffer_laws.proofs.Once.{settled-returned}
+use Rattle.basic_lemmas.proofs.Tests.{not-by}
+use Rattle.run_model.proofs.Legal.{runs_legally}
+use Rattle.state_facts.proofs.Targets.{has_some, sent-targets}
+use Rattle.trace_laws.proofs.Shutters.{exposed, request_is_error}
+use Rattle.trace_laws.specs.Settled.{settles}
+use Rattle.trace_laws.proofs.Settled.{settled-noted}
+use Rattle.run_model.specs.RunMoves.{by_entry}
+use Rattle.run_model.proofs.Targets.{dark-next}
+use Rattle.run_model.proofs.Unsent.{done-shot, filled-taken, taken-done}
+use Rattle.trace_laws.proofs.Done.{closed-is}
+use Rattle.trace_laws.proofs.Once.{settled-returned}
 use Rattle.run_rows.proofs.Fills.{is-out}
 use Rattle.run_rows.proofs.Frames.{by-row}
 use Rattle.run_rows.proofs.Jobs.{FinishedBy, early-taken, move-behind, ok-filled}
 use Rattle.run_rows.proofs.Returned.{late-of}
 use Rattle.run_rows.proofs.States.{place-out, returned-kinds, state_by, was_bad, was_early, was_ok}
+use Rattle.state_facts.proofs.Caused.{failed_cause, buffer_error}
 
 -- ---- a failed buffer comes after an error of its frame
 
-failed-errors : (past : List Entry) (n s : ℕ) (o : Option Sent) (e : Entry) → failed_of past n s o ≡ Some e → (has_error_request n past || has_error_buffer n s past) ≡ true
-failed-errors past n s None e h = absurd (cc)
-failed-errors past n s (Some t) e h = (and_parts (is_at_device_by n s t.buffer.0 past) (has_error_request n past || has_error_buffer n s past) (passed-where _ _ _ h)).1
-
-request-is-error : (n : ℕ) (e : Entry) → is_error_request n e ≡ true → is_error_of n e ≡ true
-request-is-error n (ErrorRequest m) h = h
-request-is-error n _ h = absurd (false≢true h)
-
-buffer-is-error : (n s : ℕ) (e : Entry) → is_error_buffer n s e ≡ true → is_error_of n e ≡ true
-buffer-is-error n s (ErrorBuffer m t) h = (and_parts (m.0 == n) (t.0 == s) h).0
-buffer-is-error n s _ h = absurd (false≢true h)
-
 some-error : (past : List Entry) (n s : ℕ) → (has_error_request n past || has_error_buffer n s past) ≡ true → has_error n past ≡ true
 some-error past n s h = elim (cases_Bool (has_error_request n past)) [
-  | inl whole ↦ any-where (is_error_request n) (is_error_of n) past (request-is-error n) whole
-  | inr no' ↦ (let h' = rw no' at h in any-where (is_error_buffer n s) (is_error_of n) past (buffer-is-error n s) h')
+  | inl whole ↦ any-where (is_error_request n) (is_error_of n) past (request_is_error n) whole
+  | inr no' ↦ (let h' = rw no' at h in any-where (is_error_buffer n s) (is_error_of n) past (buffer_error n s) h')
 ]
 
 bad-error : (script : Script) (past : List Entry) (n s : ℕ) → IsLegal script past → list_any (is_failed_return n s) past ≡ true → has_error n past ≡ true
@@ -65,7 +52,7 @@ bad-error script [] n s legal h = absurd (false≢true h)
 bad-error script (Failed m t b f ∷ past) n s legal h = elim (cases_Bool ((m.0 == n) && (t.0 == s))) [
   | inl here ↦ (
       let parts = and_parts (m.0 == n) (t.0 == s) here in
-      let errors = failed-errors past m.0 t.0 (target_of m.0 t.0 past) (Failed m t b f) legal.0 in
+      let errors = failed_cause past m.0 t.0 (target_of m.0 t.0 past) (Failed m t b f) legal.0 in
       ap (λ (i : ℕ). has_error i past) (sym (eqb-true m.0 n parts.0)) ∙ some-error past m.0 t.0 errors
       )
   | inr other ↦ (let h' = rw other at h in bad-error script past n s legal.1 h')

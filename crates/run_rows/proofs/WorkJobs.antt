@@ -25,16 +25,16 @@ use Rattle.device_rows.specs.Jobs as device
 use Rattle.device_rows.specs.Jobs.{fill_job, fill_job_at, fill_job_in, fill_job_of, sensor_job, sensor_job_at, sensor_job_of}
 use Rattle.device_rows.specs.Ready as ready
 use Rattle.device_rows.specs.Rows.{row_at, target_at}
-use Rattle.bounded_runs.proofs.Legal.{runs_legally}
-use Rattle.run_facts.proofs.Targets.{taken_target}
-use Rattle.run_facts.proofs.Home.{fill_open}
+use Rattle.run_model.proofs.Legal.{runs_legally}
+use Rattle.run_model.proofs.Targets.{taken_target}
+use Rattle.run_model.proofs.Home.{fill_open}
 use Rattle.run_rows.proofs.Fours.{by-target, no-view, view-found, view_at}
 use Rattle.run_rows.proofs.Frames.{by-row, row-found}
 use Rattle.run_rows.proofs.States.{place-out}
 use Rattle.run_rows.proofs.Streams.{found-offered}
 use Rattle.run_rows.proofs.Work.{sensor-closed, state-busy}
 
-open-found : (script : Script) (h : List Move) (n : ℕ) → is_open n (trace_of h) ≡ true → row_at n (rows script h) ≡ Some (row_of script h n)
+pub open-found : (script : Script) (h : List Move) (n : ℕ) → is_open n (trace_of h) ≡ true → row_at n (rows script h) ≡ Some (row_of script h n)
 open-found script h n open_ = row-found script h n ∙ rw open_ refl
 
 closed-found : (script : Script) (h : List Move) (n : ℕ) → is_open n (trace_of h) ≡ false → row_at n (rows script h) ≡ None

@@ -15,7 +15,7 @@ use Rattle.trace_model.specs.Entry.{is_stop_word}
 use Rattle.run_model.specs.declared.step.Move.{Move}
 use Rattle.run_model.specs.declared.step.StepName.{StepName}
 use Rattle.run_model.specs.declared.step.StepName.TheVariants.{SensorDone, TakeFill, FillDone, Finish}
-use Rattle.error_notify.specs.declared.entry.ErrorEntry.TheVariants.{Request, Result, Buffer, Device}
+use Rattle.device_rows.specs.declared.entry.ErrorEntry.TheVariants.{Request, Result, Buffer, Device}
 use Rattle.device_rows.specs.Rows.{all_stopped, delivered, exposed, fill_begun, fill_ended, gone_early, returned_failed, sensor_home, with_error, with_part, with_row}
 
 -- What each move of a run makes of the device's rows, before those that are done with go.

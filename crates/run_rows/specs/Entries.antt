@@ -6,8 +6,8 @@ use Rattle.cam_types.specs.declared.row.TargetState.TheVariants.{Waiting}
 use Rattle.cam_types.specs.declared.row.TargetView.{TargetView}
 use Rattle.trace_model.specs.declared.entry.Entry.{Entry}
 use Rattle.trace_model.specs.declared.entry.Entry.TheVariants.{Shutter, Partial, Filled, Failed, ErrorRequest, ErrorResult, ErrorBuffer, ErrorDevice, Early, Late}
-use Rattle.error_notify.specs.declared.entry.ErrorEntry.{ErrorEntry}
-use Rattle.error_notify.specs.declared.entry.ErrorEntry.TheVariants.{Request, Result, Buffer, Device}
+use Rattle.device_rows.specs.declared.entry.ErrorEntry.{ErrorEntry}
+use Rattle.device_rows.specs.declared.entry.ErrorEntry.TheVariants.{Request, Result, Buffer, Device}
 use Rattle.device_rows.specs.Ready.{is_passed, is_state}
 
 -- The entries that the device's steps add, by what the rows say.

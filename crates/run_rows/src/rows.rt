@@ -17,7 +17,7 @@ ghost use Rattle.run_model.specs.Rows.{rows};
 ghost use Rattle.run_model.specs.Run.{IsRun};
 ghost use Rattle.run_model.specs.declared.step.Move.{Move as SomeMove};
 ghost use Rattle.run_rows.specs.Changes.{fresh_row};
-ghost use Rattle.queue_facts.specs.Turns.{settings_next};
+ghost use Rattle.state_facts.specs.Turns.{settings_next};
 ghost use Rattle.trace_model.specs.Queue.{next};
 ghost use Rattle.run_rows.specs.Kept.{IsSound, are_below, are_stopped_with, frames_rise, has_few_parts, has_given_fences, has_its_readout, has_pictures_late, has_some_target, has_streams, is_in_range, is_no_row};
 ghost use Rattle.trace_model.specs.Configuration.{streams};

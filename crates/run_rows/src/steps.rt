@@ -8,7 +8,7 @@ ghost use Rattle.run_model.specs.Rows.{rows};
 ghost use Rattle.run_model.specs.Run.{IsRun};
 ghost use Rattle.run_model.specs.declared.step.Move.{Move as SomeMove};
 ghost use Rattle.run_rows.specs.Changes.{after, may_end};
-ghost use Rattle.queue_facts.specs.Turns.{settings_next};
+ghost use Rattle.state_facts.specs.Turns.{settings_next};
 ghost use Rattle.trace_model.specs.Queue.{next};
 
 /// After each move of a run the rows are those before it with the move's change, without those that are done with. A

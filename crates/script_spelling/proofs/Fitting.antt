@@ -15,6 +15,7 @@ use Rattle.cam_types.specs.Limits.{command_limit, burst_limit, repeat_limit, tar
 use Rattle.cam_types.specs.Profile.{profile_fits}
 use Rattle.cam_types.specs.Script.{awaited_by, is_closing_command, settings_fit as settings_valid, targets_fit as targets_valid, item_fits as item_valid, format_fits as format_valid, spec_fits as spec_valid, command_fits as command_valid}
 use Rattle.script_spelling.specs.Fits.{fits, bytes_typed, settings_typed, targets_typed, item_typed, format_typed, spec_typed, command_typed, fault_typed, numbers_typed}
+use Rattle.basic_lemmas.proofs.Tests.{two-ways}
 
 abbrev pub settings_fit : Settings → Bool
 settings_fit s =
@@ -99,15 +100,10 @@ command-both (Repeat items) = rw (all-both item_fits item_valid item_typed item-
 command-both (Await n) = grind arith
 command-both _ = refl
 
-same-test : (a b : Bool) → (a ≡ true → b ≡ true) → (b ≡ true → a ≡ true) → a ≡ b
-same-test true b h k = sym (h refl)
-same-test false true h k = k refl
-same-test false false h k = refl
-
 regrouped : (profile faults faults' picks picks' few valid typed awaited closes : Bool) →
     (profile && (faults && faults')) && ((picks && picks') && ((few && (valid && typed)) && (awaited && closes)))
     ≡ (profile && (faults && (picks && (few && (valid && (awaited && closes)))))) && (faults' && (picks' && typed))
-regrouped profile faults faults' picks picks' few valid typed awaited closes = same-test _ _ (λ h. grind arith) (λ h. grind arith)
+regrouped profile faults faults' picks picks' few valid typed awaited closes = two-ways _ _ (λ h. grind arith) (λ h. grind arith)
 
 pub script-both : (s : Script) → script_fits s ≡ fits s
 script-both s =

@@ -13,7 +13,7 @@ use Rattle.cam_types.specs.declared.script.Script.{Script}
 use Rattle.cam_types.specs.declared.stream.Format.{Format}
 use Rattle.cam_types.specs.declared.stream.Format.TheVariants.{Raw16, Yuv, Other}
 use Rattle.cam_types.specs.declared.stream.StreamSpec.{StreamSpec}
-use Rattle.command_words.specs.Words.{word_of, word_text}
+use Rattle.text_parts.specs.CommandWords.{word_of, word_text}
 use Rattle.text_parts.specs.Lines.{line_text}
 
 -- words, each behind a space

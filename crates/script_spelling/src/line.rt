@@ -2,14 +2,14 @@
 
 ghost use Rattle.std.specs.Prelude.{◌≡◌, ◌++◌, true, OnOk, map, string_bytes};
 ghost use Rattle.std.specs.List.{flat_map, list_all};
-ghost use Rattle.command_words.specs.Words.{word_of, word_text};
+ghost use Rattle.text_parts.specs.CommandWords.{word_of, word_text};
 ghost use Rattle.text_parts.specs.Lines.{line_text};
 ghost use Rattle.script_spelling.specs.Spelling.{arguments_of, behind_spaces, command_line_words, device_lines, early_lines, fault_words, pick_lines, version_words};
 ghost use Rattle.script_spelling.specs.Fits.{command_typed, fault_typed, numbers_typed};
 
 use crate::value::{is_byte, is_word, write_item, write_items, write_numbers, write_specs};
 use cam_types::{Command, Fault, NoMemory, Profile};
-use command_words::{word_of, word_text};
+use text_parts::{word_of, word_text};
 
 /// Writes the version line.
 pub fn write_version(out: &mut String, version: u8) -> Result<(), NoMemory>

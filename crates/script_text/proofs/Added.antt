@@ -3,14 +3,14 @@ use Rattle.std.proofs.Common.{◌≡◌, false, List, [], ◌∷◌, ◌++◌, R
 use Rattle.std.specs.List.{list_all}
 use Rattle.std.proofs.lemmas.Bool.{cases_Bool, and_right}
 use Rattle.cam_types.specs.declared.script.Command.{Command}
-use Rattle.line_reading.specs.declared.cause.Cause.{Cause}
-use Rattle.line_reading.specs.declared.cause.Cause.TheVariants.{Limit}
-use Rattle.line_reading.specs.declared.cause.LineRefused.{LineRefused}
-use Rattle.line_reading.specs.declared.cause.LineRefused.TheVariants.{Bad, NoMemory}
-use Rattle.line_reading.specs.Words.{◌>>=◌, limited}
+use Rattle.text_parts.specs.declared.cause.Cause.{Cause}
+use Rattle.text_parts.specs.declared.cause.Cause.TheVariants.{Limit}
+use Rattle.text_parts.specs.declared.cause.LineRefused.{LineRefused}
+use Rattle.text_parts.specs.declared.cause.LineRefused.TheVariants.{Bad, NoMemory}
+use Rattle.text_parts.specs.LineWords.{◌>>=◌, limited}
 use Rattle.script_text.specs.Lines.{CommandLine}
 use Rattle.script_text.specs.Within.{within}
-use Rattle.line_reading.specs.Reader.{Refuses}
+use Rattle.text_parts.specs.Reader.{Refuses}
 use Rattle.script_text.specs.Grammar.{Begun, counts_within, with_line, added, then_added}
 
 last-fails : (cs : List Command) (c : Command) → within c ≡ false → list_all within (cs ++ c ∷ []) ≡ false

@@ -14,11 +14,11 @@ use Rattle.cam_types.specs.declared.stream.Format.TheVariants.{Raw16, Yuv, Other
 use Rattle.cam_types.specs.declared.stream.StreamSpec.{StreamSpec}
 use Rattle.script_spelling.proofs.Fitting.{settings_fit, targets_fit, item_fits, format_fits, spec_fits}
 use Rattle.text_parts.specs.Numbers.{number_below}
-use Rattle.line_reading.specs.Values.{all_of, four_numbers}
+use Rattle.text_parts.specs.Values.{all_of, four_numbers}
 use Rattle.script_text.specs.Values.{format_of, side_of, stream_of, spec_of, settings_of, targets, joined_targets, targets_of, item_of}
 use Rattle.script_spelling.specs.Spelling.{settings_text, targets_text, item_text, format_text, spec_text}
 use Rattle.script_text.proofs.Valid.{is_byte}
-use Rattle.basic_lemmas.proofs.Lists.{all-where}
+use Rattle.basic_lemmas.proofs.Lists.{all-where, all-taken}
 use Rattle.text_parts.specs.Words.{is_plain, is_word}
 use Rattle.text_parts.proofs.Joined.{avoids, avoids-append, in-two-again, join-parts, plain-append}
 use Rattle.text_parts.proofs.Spelled.{number-again, number-avoids, number-first, number-plain, more-avoid, more-plain}
@@ -202,11 +202,6 @@ all-zero (x ∷ xs) h =
     let p = and_parts (eqb x 0) (list_all (λ s. eqb s 0) xs) h in
     rw (eqb-true x 0 p.0) (ap (λ t. 0 ∷ t) (all-zero xs p.1))
 
-take-all : {X : Type 0} (p : X → Bool) (n : ℕ) (xs : List X) → list_all p xs ≡ true → list_all p (take n xs) ≡ true
-take-all p zero xs h = refl
-take-all p (suc n) [] h = refl
-take-all p (suc n) (x ∷ xs) h = let q = and_parts (p x) (list_all p xs) h in and_from _ _ q.0 (take-all p n xs q.1)
-
 targets-same : (t : Targets) (list : List ℕ) → length list ≡ t.count → t.list ≡ list ++ replicate (8 - length list) 0 → t ≡ targets list
 targets-same t list e f = let k : record { count = t.count; list = t.list } ≡ targets list = rw (sym e, f) refl in k
 
@@ -244,7 +239,7 @@ front-again t (n ∷ ns) same bytes e =
     rw some (joined-again n ns bytes ∙ ap Some (sym same))
 
 targets-again : (t : Targets) → FitsTargets t → targets_of (targets_text t) ≡ Some t
-targets-again t f = front-again t (take t.count t.list) (front-same t f) (take-all is_byte t.count t.list f.bytes) (front-length t f)
+targets-again t f = front-again t (take t.count t.list) (front-same t f) (all-taken is_byte t.count t.list f.bytes) (front-length t f)
 
 streams-avoid : (c n : ℕ) (ns : List ℕ) → is_ascii_digit c ≡ false → eqb 43 c ≡ false → list_all is_byte (n ∷ ns) ≡ true → avoids c (join_by decimal (43 ∷ []) (n ∷ ns)) ≡ true
 streams-avoid c n [] d e h = avoids-append c (decimal n) [] (and_parts _ _ (bytes-avoid c d (n ∷ []) h)).0 refl
@@ -277,7 +272,7 @@ item-again i h =
     let s = fits-settings i.settings p.0 in
     let t = fits-targets i.targets p.1 in
     rw (
-      in-two-again 64 (settings_text i.settings) (targets_text i.targets) (settings-avoid 64 i.settings refl refl s) (front-avoid i.targets (take i.targets.count i.targets.list) (take-all is_byte i.targets.count i.targets.list t.bytes)),
+      in-two-again 64 (settings_text i.settings) (targets_text i.targets) (settings-avoid 64 i.settings refl refl s) (front-avoid i.targets (take i.targets.count i.targets.list) (all-taken is_byte i.targets.count i.targets.list t.bytes)),
       settings-again i.settings s,
       targets-again i.targets t,
     ) refl
@@ -288,7 +283,7 @@ item-word i h =
     let s = fits-settings i.settings p.0 in
     let t = fits-targets i.targets p.1 in
     and_from _ _
-    (plain-append (settings_text i.settings) (64 ∷ targets_text i.targets) (settings-plain i.settings s) (streams-plain (eqb i.targets.count 0) (take i.targets.count i.targets.list) (take-all is_byte i.targets.count i.targets.list t.bytes)))
+    (plain-append (settings_text i.settings) (64 ∷ targets_text i.targets) (settings-plain i.settings s) (streams-plain (eqb i.targets.count 0) (take i.targets.count i.targets.list) (all-taken is_byte i.targets.count i.targets.list t.bytes)))
     (rw (some-byte (settings_text i.settings) 64 (targets_text i.targets)) refl)
 
 -- ---- lists

@@ -4,13 +4,13 @@ use Rattle.std.proofs.Math.ListN.{set}
 use Rattle.std.proofs.lemmas.Bool.{le-leb, lt-leb}
 use Rattle.std.proofs.lemmas.List.{set_at, length-append}
 use Rattle.cam_types.specs.declared.item.Targets.{Targets}
-use Rattle.line_reading.specs.declared.cause.Cause.{Cause}
-use Rattle.line_reading.specs.declared.cause.Cause.TheVariants.{Limit, BadNumber}
+use Rattle.text_parts.specs.declared.cause.Cause.{Cause}
+use Rattle.text_parts.specs.declared.cause.Cause.TheVariants.{Limit, BadNumber}
 use Rattle.text_parts.specs.Cuts.{parts_at}
 use Rattle.text_parts.specs.Numbers.{number_below}
-use Rattle.line_reading.specs.Values.{◌>>=◌, all_of}
+use Rattle.text_parts.specs.Values.{◌>>=◌, all_of}
 use Rattle.script_text.specs.Values.{targets, joined_targets}
-use Rattle.line_reading.specs.Words.{good, limited}
+use Rattle.text_parts.specs.LineWords.{good, limited}
 use Rattle.script_text.specs.Within.{targets_within}
 
 abbrev pub put : List ℕ → ℕ → List ℕ → List ℕ × ℕ

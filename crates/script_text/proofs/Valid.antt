@@ -14,7 +14,7 @@ use Rattle.script_spelling.proofs.Fitting.{settings_fit, targets_fit, item_fits,
 use Rattle.text_parts.proofs.Spelled.{number-below}
 use Rattle.text_parts.specs.Numbers.{number_below}
 use Rattle.text_parts.specs.Cuts.{parts_at}
-use Rattle.line_reading.specs.Values.{◌>>=◌, all_of, four_numbers}
+use Rattle.text_parts.specs.Values.{◌>>=◌, all_of, four_numbers}
 use Rattle.script_text.specs.Values.{format_of, side_of, stream_of, spec_of, settings_of, targets, joined_targets, targets_of, item_of}
 use Rattle.script_text.specs.Within.{targets_within, item_within, within}
 

@@ -18,18 +18,18 @@ use Rattle.cam_types.specs.declared.stream.StreamSpec.{StreamSpec}
 use Rattle.cam_types.specs.Script.{is_closing_command, awaited_by}
 use Rattle.script_spelling.proofs.Fitting.{item_fits, spec_fits, command_fits, script_fits, script-both}
 use Rattle.script_spelling.specs.Fits.{fault_typed, fits}
-use Rattle.line_reading.specs.declared.cause.Cause.{Cause}
-use Rattle.line_reading.specs.declared.cause.Cause.TheVariants.{NotAscii, UnknownWord, Limit, FaultAfterCommand}
-use Rattle.line_reading.specs.declared.cause.TextRefused.{TextRefused}
-use Rattle.line_reading.specs.declared.cause.TextRefused.TheVariants.{Bad}
-use Rattle.line_reading.specs.Lines.{is_printable, is_comment, text_limit, at_line}
+use Rattle.text_parts.specs.declared.cause.Cause.{Cause}
+use Rattle.text_parts.specs.declared.cause.Cause.TheVariants.{NotAscii, UnknownWord, Limit, FaultAfterCommand}
+use Rattle.text_parts.specs.declared.cause.TextRefused.{TextRefused}
+use Rattle.text_parts.specs.declared.cause.TextRefused.TheVariants.{Bad}
+use Rattle.text_parts.specs.LineReading.{is_printable, is_comment, text_limit, at_line}
 use Rattle.text_parts.specs.Words.{loose_words}
 use Rattle.text_parts.specs.Lines.{lines_of}
-use Rattle.line_reading.specs.Values.{all_of, number}
+use Rattle.text_parts.specs.Values.{all_of, number}
 use Rattle.script_text.specs.Values.{spec_of, item_of}
-use Rattle.line_reading.specs.Words.{◌>>=◌, good, ends, one, picks_of}
+use Rattle.text_parts.specs.LineWords.{◌>>=◌, good, ends, one, picks_of}
 use Rattle.script_text.specs.Lines.{Line, FaultLine, EarlyLine, DeviceLine, PickLine, CommandLine, awaited, profile_number, raw_and_yuv, device_of, frame_and_stream, fault_of, command_of, fault_line, early_line, device_line, pick_line, command_line, other_line, line_of}
-use Rattle.command_words.specs.Words.{command_word}
+use Rattle.text_parts.specs.CommandWords.{command_word}
 use Rattle.cam_types.specs.Profile.{is_profile, is_profile_number, profile_fits}
 use Rattle.cam_types.specs.declared.profile.Profile.{Profile}
 use Rattle.text_parts.proofs.Spelled.{number-below, number-within}
@@ -261,9 +261,6 @@ parts-fit s h =
     let b = and_parts (list_all fault_typed s.faults) _ a.1 in
     let c = and_parts (list_all is_u32 s.picks) _ b.1 in
     record { profile = a.0; faults = b.0; picks = c.0; commands = c.1 }
-
-parts-from : (s : Script) → PartsFit s → parts_fit s ≡ true
-parts-from s p = and_from _ _ p.profile (and_from _ _ p.faults (and_from _ _ p.picks p.commands))
 
 with-line-fits : (b : Begun) (line : Line) → parts_fit b.script ≡ true → line_fits b.script.version line ≡ true → counts_within (with_line b line) ≡ true → parts_fit (with_line b line).script ≡ true
 with-line-fits b (FaultLine f) h k w =

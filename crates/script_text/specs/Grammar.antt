@@ -7,14 +7,14 @@ use Rattle.cam_types.specs.declared.script.Command.TheVariants.{Close}
 use Rattle.cam_types.specs.declared.script.Script.{Script}
 use Rattle.cam_types.specs.Limits.{command_limit, awaited_limit, fault_limit}
 use Rattle.cam_types.specs.Script.{awaited_by, is_closing_command}
-use Rattle.line_reading.specs.declared.cause.Cause.{Cause}
-use Rattle.line_reading.specs.declared.cause.Cause.TheVariants.{NotAscii, Version, Limit, FaultAfterCommand}
-use Rattle.line_reading.specs.declared.cause.TextRefused.{TextRefused}
-use Rattle.line_reading.specs.declared.cause.TextRefused.TheVariants.{Bad}
-use Rattle.line_reading.specs.Lines.{at_line, is_comment, is_printable, text_limit}
+use Rattle.text_parts.specs.declared.cause.Cause.{Cause}
+use Rattle.text_parts.specs.declared.cause.Cause.TheVariants.{NotAscii, Version, Limit, FaultAfterCommand}
+use Rattle.text_parts.specs.declared.cause.TextRefused.{TextRefused}
+use Rattle.text_parts.specs.declared.cause.TextRefused.TheVariants.{Bad}
+use Rattle.text_parts.specs.LineReading.{at_line, is_comment, is_printable, text_limit}
 use Rattle.text_parts.specs.Lines.{lines_of}
 use Rattle.text_parts.specs.Words.{loose_words}
-use Rattle.line_reading.specs.Words.{◌>>=◌}
+use Rattle.text_parts.specs.LineWords.{◌>>=◌}
 use Rattle.script_text.specs.Lines.{Line, FaultLine, EarlyLine, DeviceLine, PickLine, CommandLine, line_of}
 use Rattle.script_text.specs.Within.{within, picks_within}
 

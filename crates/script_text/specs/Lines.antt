@@ -8,12 +8,12 @@ use Rattle.cam_types.specs.declared.script.Fault.{Fault}
 use Rattle.cam_types.specs.declared.script.Fault.TheVariants as fault
 use Rattle.cam_types.specs.declared.script.Word.{Word}
 use Rattle.cam_types.specs.declared.script.Word.TheVariants.{Configure, Once, Burst, Repeat, Stop, Wait, Await, Flush, Close, Disconnect}
-use Rattle.line_reading.specs.declared.cause.Cause.{Cause}
-use Rattle.line_reading.specs.declared.cause.Cause.TheVariants.{UnknownWord, Missing}
-use Rattle.line_reading.specs.Values.{number}
-use Rattle.line_reading.specs.Words.{◌>>=◌, good, ends, one, many, picks_of}
+use Rattle.text_parts.specs.declared.cause.Cause.{Cause}
+use Rattle.text_parts.specs.declared.cause.Cause.TheVariants.{UnknownWord, Missing}
+use Rattle.text_parts.specs.Values.{number}
+use Rattle.text_parts.specs.LineWords.{◌>>=◌, good, ends, one, many, picks_of}
 use Rattle.script_text.specs.Values.{spec_of, item_of}
-use Rattle.command_words.specs.Words.{command_word}
+use Rattle.text_parts.specs.CommandWords.{command_word}
 use Rattle.text_parts.specs.Numbers.{number_below, number_within}
 
 -- a line that has a place in a script, after the version line

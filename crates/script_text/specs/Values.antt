@@ -7,7 +7,7 @@ use Rattle.cam_types.specs.declared.item.Targets.{Targets}
 use Rattle.cam_types.specs.declared.stream.Format.{Format}
 use Rattle.cam_types.specs.declared.stream.Format.TheVariants.{Raw16, Yuv, Other}
 use Rattle.cam_types.specs.declared.stream.StreamSpec.{StreamSpec}
-use Rattle.line_reading.specs.Values.{◌>>=◌, all_of, four_numbers}
+use Rattle.text_parts.specs.Values.{◌>>=◌, all_of, four_numbers}
 use Rattle.text_parts.specs.Cuts.{parts_at, in_two}
 use Rattle.text_parts.specs.Numbers.{number_below}
 

@@ -6,7 +6,7 @@ use Rattle.cam_types.specs.declared.item.Targets.{Targets}
 use Rattle.cam_types.specs.declared.script.Command.{Command}
 use Rattle.cam_types.specs.declared.script.Command.TheVariants.{Configure, Once, Burst, Repeat}
 use Rattle.cam_types.specs.Limits.{burst_limit, repeat_limit, target_limit, spec_limit, pick_limit}
-use Rattle.line_reading.specs.Words.{few}
+use Rattle.text_parts.specs.LineWords.{few}
 
 -- eight targets at most
 abbrev pub targets_within : Targets → Bool

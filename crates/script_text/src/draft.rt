@@ -6,16 +6,15 @@ ghost use Rattle.cam_types.specs.Script.{awaited_by, is_closing_command};
 ghost use Rattle.text_parts.specs.Words.{loose_words};
 ghost use Rattle.script_text.specs.Lines.{CommandLine, DeviceLine, EarlyLine, FaultLine, pick_line};
 ghost use Rattle.script_text.specs.Within.{within};
-ghost use Rattle.line_reading.specs.Reader.{GivesBy};
+ghost use Rattle.text_parts.specs.Reader.{GivesBy};
 ghost use Rattle.script_text.specs.Grammar.{added, begun, closed, counts_within, empty, then_added};
 
 use cam_types::{
     AWAITED_LIMIT, COMMAND_LIMIT, Command, CommandList, FAULT_LIMIT, Fault, FaultList, NoMemory,
     PICK_LIMIT, PickList, Profile, Script,
 };
-use line_reading::{Cause, LineRefused, with_picks};
 use std::alloc::Global;
-use text_parts::next_loose_word;
+use text_parts::{Cause, LineRefused, next_loose_word, with_picks};
 
 /// A script that may still grow. Its sums are kept with it, so that no line is looked at twice.
 #[derive(Drop)]
@@ -109,7 +108,7 @@ impl Draft {
     }
 
     /// The draft with a pick line, by the words behind `pick`.
-    #[tactic(auto, unfolding(crate::specs::Grammar::added, line_reading::specs::Words::picks_of))]
+    #[tactic(auto, unfolding(crate::specs::Grammar::added, text_parts::specs::LineWords::picks_of))]
     pub fn with_picks(self, words: &[u8]) -> Result<Draft, LineRefused>
         ensures { GivesBy (λ d. begun d.script d.devices) result
             (then_added (begun self.script self.devices) (pick_line (loose_words words.now))) }

@@ -1,14 +1,13 @@
 //! Settings, targets and captures as they are written.
 
 ghost use Rattle.std.specs.Prelude.{◌≡◌, slice_set};
-ghost use Rattle.line_reading.specs.Values.{four_numbers};
+ghost use Rattle.text_parts.specs.Values.{four_numbers};
 ghost use Rattle.script_text.specs.Values.{settings_of, joined_targets, targets_of, item_of};
-ghost use Rattle.line_reading.specs.Words.{good, limited};
+ghost use Rattle.text_parts.specs.LineWords.{good, limited};
 ghost use Rattle.script_text.specs.Within.{targets_within, item_within};
 
 use cam_types::{Item, Settings, TARGET_LIMIT, Targets};
-use line_reading::{Cause, four_numbers};
-use text_parts::{byte_number, split_at_byte, split_in_two};
+use text_parts::{Cause, byte_number, four_numbers, split_at_byte, split_in_two};
 
 /// The settings of the template for a preview.
 const PREVIEW: Settings = Settings {

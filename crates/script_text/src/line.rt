@@ -3,11 +3,11 @@
 ghost use Rattle.std.specs.Prelude.{◌≡◌};
 ghost use Rattle.text_parts.specs.Words.{loose_words};
 ghost use Rattle.script_text.specs.Values.{item_of};
-ghost use Rattle.line_reading.specs.Values.{number};
-ghost use Rattle.line_reading.specs.Words.{ends, good, one, limited};
+ghost use Rattle.text_parts.specs.Values.{number};
+ghost use Rattle.text_parts.specs.LineWords.{ends, good, one, limited};
 ghost use Rattle.script_text.specs.Lines.{awaited, command_of, device_of, fault_of, frame_and_stream, profile_number, raw_and_yuv, stream};
 ghost use Rattle.script_text.specs.Within.{within, item_within};
-ghost use Rattle.line_reading.specs.Reader.{Gives};
+ghost use Rattle.text_parts.specs.Reader.{Gives};
 
 use crate::item::item_of;
 use crate::list::{items_of, specs_of};
@@ -15,9 +15,11 @@ use cam_types::{
     BURST_LIMIT, Command, Fault, FrameNo, Item, PROFILE_LIMIT, Profile, REPEAT_LIMIT, StreamIx,
     Word,
 };
-use line_reading::{Cause, LineRefused, is_end, one_number};
 use std::alloc::Global;
-use text_parts::{byte_number, next_loose_word, number_within, small_number};
+use text_parts::{
+    Cause, LineRefused, byte_number, is_end, next_loose_word, number_within, one_number,
+    small_number,
+};
 
 /// One byte, and no more.
 fn one_byte(words: &[u8]) -> Result<u8, Cause>

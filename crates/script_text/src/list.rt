@@ -2,18 +2,17 @@
 
 ghost use Rattle.std.specs.Prelude.{◌≡◌};
 ghost use Rattle.text_parts.specs.Words.{loose_words};
-ghost use Rattle.line_reading.specs.Values.{all_of};
+ghost use Rattle.text_parts.specs.Values.{all_of};
 ghost use Rattle.script_text.specs.Values.{spec_of, item_of};
-ghost use Rattle.line_reading.specs.Words.{many, limited, past_limit, behind};
+ghost use Rattle.text_parts.specs.LineWords.{many, limited, past_limit, behind};
 ghost use Rattle.script_text.specs.Within.{specs_within, items_within};
-ghost use Rattle.line_reading.specs.Reader.{Gives};
+ghost use Rattle.text_parts.specs.Reader.{Gives};
 
 use crate::item::item_of;
 use crate::stream::spec_of;
 use cam_types::{ItemList, SPEC_LIMIT, SpecList};
-use line_reading::{Cause, LineRefused};
 use std::alloc::Global;
-use text_parts::next_loose_word;
+use text_parts::{Cause, LineRefused, next_loose_word};
 
 /// The cause of a line that has too many streams, by the words behind the first that is too many.
 fn past_specs(words: &[u8]) -> Cause

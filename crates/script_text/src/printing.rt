@@ -3,7 +3,7 @@
 ghost use Rattle.std.specs.Prelude.{◌≡◌, ◌≤◌, Ok, length, IsTrue, IfOk};
 ghost use Rattle.cam_types.specs.Script.{is_valid};
 ghost use Rattle.script_spelling.specs.Spelling.{text_of};
-ghost use Rattle.line_reading.specs.Lines.{text_limit};
+ghost use Rattle.text_parts.specs.LineReading.{text_limit};
 ghost use Rattle.script_text.specs.Grammar.{script_of};
 
 use cam_types::{NoMemory, Script};

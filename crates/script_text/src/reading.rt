@@ -3,21 +3,22 @@
 ghost use Rattle.std.specs.Prelude.{◌≡◌, ◌∷◌, IsTrue, IfOk};
 ghost use Rattle.std.specs.Option.{option_map};
 ghost use Rattle.cam_types.specs.Script.{is_valid};
-ghost use Rattle.command_words.specs.Words.{command_word};
+ghost use Rattle.text_parts.specs.CommandWords.{command_word};
 ghost use Rattle.script_spelling.specs.Fits.{fits};
 ghost use Rattle.text_parts.specs.Words.{loose_words};
 ghost use Rattle.script_text.specs.Lines.{command_line, device_line, early_line, line_of, other_line};
-ghost use Rattle.line_reading.specs.Reader.{GivesBy, Answers, refused};
-ghost use Rattle.line_reading.specs.Lines.{is_printable};
+ghost use Rattle.text_parts.specs.Reader.{GivesBy, Answers, refused};
+ghost use Rattle.text_parts.specs.LineReading.{is_printable};
 ghost use Rattle.script_text.specs.Grammar.{after, after_words, begun, script_of, then_added, version_number, version_of};
 
 use crate::draft::Draft;
 use crate::line::{command_of, device_of, fault_of};
 use cam_types::{SCRIPT_BYTES, Script};
-use command_words::command_word;
-use line_reading::{Cause, LineRefused, TextRefused, is_end, is_printable, refused};
 use std::alloc::Global;
-use text_parts::{next_loose_word, split_line};
+use text_parts::{
+    Cause, LineRefused, TextRefused, command_word, is_end, is_printable, next_loose_word, refused,
+    split_line,
+};
 
 /// The version that a word names.
 fn version_number(word: &[u8]) -> Option<u8>

@@ -20,8 +20,7 @@ use Rattle.trace_model.specs.Open.{is_open}
 use Rattle.trace_model.specs.Faults.{device_fault}
 use Rattle.trace_model.specs.Stopping.{is_stopping}
 use Rattle.trace_model.specs.Shutter.{may_expose, next_time, shutter_at, shutter_due}
-use Rattle.trace_bounds.proofs.Shapes.{found-passes}
-use Rattle.basic_lemmas.proofs.Lists.{find-mapped}
+use Rattle.basic_lemmas.proofs.Lists.{find-mapped, found-passes}
 use Rattle.run_model.specs.History.{trace_of}
 use Rattle.run_model.specs.Jobs.{IsFillJob, IsJobOut, IsSensorJob, is_fill_out}
 use Rattle.run_model.specs.Ready.{adding}
@@ -29,7 +28,7 @@ use Rattle.run_model.specs.Rows.{open_frames, row_of, rows, target_view}
 use Rattle.run_model.specs.Run.{IsRun}
 use Rattle.run_model.specs.declared.step.Move.{Move}
 use Rattle.run_model.specs.declared.step.StepName.TheVariants.{Shutter, TakeFill}
-use Rattle.run_facts.proofs.Unsent.{not-done}
+use Rattle.run_model.proofs.Unsent.{not-done}
 use Rattle.run_rows.proofs.Fills.{take-own}
 use Rattle.run_rows.proofs.Fours.{target-at}
 use Rattle.run_rows.proofs.Frames.{row-found}
@@ -40,12 +39,13 @@ use Rattle.device_rows.specs.Ready.{if_exposed, may_expose as may_expose_row, sh
 use Rattle.device_rows.specs.Rows.{row_at}
 use Rattle.device_store.specs.Steps.{fill_job_for, fill_job_with}
 use Rattle.run_rows.specs.Entries.{shutter_entry}
-use Rattle.room_log.specs.Moves.{Moves, with_move}
+use Rattle.run_model.specs.Moves.{Moves, with_move}
 use Rattle.service_state.specs.Answers as step
 use Rattle.service_state.specs.Serving.{Serving}
 use Rattle.service_core.specs.Inside.{IsKept, state_of}
 use Rattle.service_core.specs.Jobs.{Begins, Takes}
 use Rattle.service_core.proofs.Keeping.{makes, runs}
+use Rattle.basic_lemmas.proofs.Tests.{not-true}
 
 -- ---- the sensor's job
 
@@ -63,10 +63,6 @@ shutter-frame script h row at =
     ]
     by-frame None is = absurd (cc)
 
-not-so : (b : Bool) → not b ≡ true → b ≡ false
-not-so true h = sym h
-not-so false h = refl
-
 -- a frame that may be exposed has no shutter
 unlit-in : (script : Script) (past : List Entry) (k : ℕ) → may_expose script past k ≡ true → has_shutter k past ≡ false
 unlit-in script past k may =
@@ -78,7 +74,7 @@ unlit-in script past k may =
     let c = and_parts sent first b.0 in
     let d = and_parts (is_sent k past) dark' c.0 in
     let e = and_parts (not (has_shutter k past)) (not (has_error k past)) d.1 in
-    not-so (has_shutter k past) e.0
+    not-true (has_shutter k past) e.0
 
 -- the frame of a shutter that is due had none
 dark : (script : Script) (past : List Entry) (n : FrameNo) (time : ℕ) → shutter_due script past ≡ Some (ShutterEntry n time) → has_shutter n.0 past ≡ false

@@ -3,8 +3,8 @@ use Rattle.std.proofs.Common.{◌≡◌, ◌<◌, ◌≤◌, ◌↔◌, ℕ, tru
 use Rattle.std.specs.List.{list_all}
 use Rattle.cam_types.specs.Script.{is_valid}
 use Rattle.cam_types.specs.declared.script.Script.{Script}
-use Rattle.trace_bounds.specs.Typed.{is_typed}
-use Rattle.trace_bounds.proofs.Printing.{prints_all}
+use Rattle.trace_laws.specs.Typed.{is_typed}
+use Rattle.trace_laws.proofs.Printing.{prints_all}
 use Rattle.trace_model.specs.declared.entry.Entry.{Entry}
 use Rattle.trace_model.specs.Complete.{IsComplete}
 use Rattle.trace_model.specs.Legal.{IsLegal}
@@ -15,9 +15,9 @@ use Rattle.run_model.specs.Ready.{move_of}
 use Rattle.run_model.specs.Run.{IsRun}
 use Rattle.run_model.specs.declared.step.Move.{Move}
 use Rattle.run_model.specs.declared.step.StepName.{StepName}
-use Rattle.bounded_runs.proofs.Legal.{runs_legally}
-use Rattle.bounded_runs.proofs.Moves.{moves_bounded, moves_leave_room}
-use Rattle.room_log.specs.Moves.{Moves, no_moves, with_move}
+use Rattle.run_model.proofs.Legal.{runs_legally}
+use Rattle.run_model.proofs.Moves.{moves_bounded, moves_leave_room}
+use Rattle.run_model.specs.Moves.{Moves, no_moves, with_move}
 use Rattle.service_parts.specs.After.{is_over, parts_after}
 use Rattle.service_parts.specs.Moves.{move_by}
 use Rattle.service_parts.specs.Parts.{parts}

@@ -2,3 +2,15 @@ pub mod Keeping
 pub mod Given
 pub mod Outs
 pub mod Staying
+pub mod FirstOfKind
+pub mod Listed
+pub mod Reading
+pub mod Lists
+pub mod Unready
+pub mod CandidatesRead
+pub mod ByKind
+pub mod Walking
+pub mod Fences
+pub mod Most
+pub mod Idle
+pub mod OwnRows

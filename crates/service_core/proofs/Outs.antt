@@ -15,19 +15,18 @@ use Rattle.run_model.specs.Run.{IsRun}
 use Rattle.run_model.specs.declared.step.Move.{Move}
 use Rattle.run_rows.proofs.Fours.{row-targets}
 use Rattle.run_rows.proofs.States.{place-out}
-use Rattle.run_rows.proofs.Counted.{quiet_is}
 use Rattle.run_rows.proofs.Work.{sensor_is, state-busy}
 use Rattle.run_rows.proofs.WorkJobs.{fill_is, fill_job_from, sensor_job_from}
 use Rattle.run_rows.specs.Kept.{is_no_row}
-use Rattle.trace_model.specs.Complete.{IsComplete}
 use Rattle.trace_model.specs.Configuration.{streams}
 use Rattle.device_rows.specs.Jobs.{IsFillJobOut, IsFillOutFor, IsSensorJobOut, fill_job_at, has_fill_out, has_job_out, sensor_job_at}
 use Rattle.device_rows.specs.Jobs as device
 use Rattle.device_rows.specs.Ready as ready
-use Rattle.room_log.specs.Moves.{Moves}
+use Rattle.run_model.specs.Moves.{Moves}
 use Rattle.service_state.specs.Serving.{Serving}
 use Rattle.service_core.specs.Answers.{IsNoJobOut}
 use Rattle.service_core.specs.Inside.{IsKept}
+use Rattle.basic_lemmas.proofs.Lists.{all-map}
 
 -- ---- the parts know the jobs that are out
 
@@ -55,10 +54,6 @@ no_sensor_at_rest script h n run rest = sensor_is script h n run ∙ ap (λ xs. 
 pub no_fill_at_rest : (script : Script) (h : List Move) (n s : ℕ) → IsRun script h → is_no_row (rows script h) ≡ true → is_fill_out h n s ≡ false
 no_fill_at_rest script h n s run rest = fill_is script h n s run ∙ ap (λ xs. is_some (fill_job_at (streams script (trace_of h)) n s xs)) (no-row (rows script h) rest)
 
-all-map : {X Y : Type 0} (p : Y → Bool) (f : X → Y) (xs : List X) → ((x : X) → p (f x) ≡ true) → list_all p (map f xs) ≡ true
-all-map p f [] each = refl
-all-map p f (x ∷ xs) each = rw (each x) (all-map p f xs each)
-
 none-map : {X Y : Type 0} (p : Y → Bool) (f : X → Y) (xs : List X) → ((x : X) → p (f x) ≡ false) → list_any p (map f xs) ≡ false
 none-map p f [] each = refl
 none-map p f (x ∷ xs) each = rw (each x) (none-map p f xs each)
@@ -71,9 +66,3 @@ still_row script h n run none =
 
 pub all_still : (s : Serving) (log : Moves) → IsKept s log → IsNoJobOut log.moves → list_all (λ row. not (has_job_out row)) s.parts.rows ≡ true
 all_still s log kept none = rw kept.left (all-map (λ row. not (has_job_out row)) (row_of s.script log.moves) (open_frames (trace_of log.moves)) (λ n. still_row s.script log.moves n kept.run none))
-
--- at the end of a run
-pub none_at_the_end : (script : Script) (h : List Move) → IsRun script h → IsComplete script (trace_of h) → IsNoJobOut h
-none_at_the_end script h run complete =
-    let rest = sym (quiet_is script h) ∙ complete.open_frames in
-    record { sensor = λ n. no_sensor_at_rest script h n run rest; stages = λ n s. no_fill_at_rest script h n s run rest }

@@ -13,20 +13,20 @@ use Rattle.trace_model.specs.Configuration.{streams}
 use Rattle.trace_model.specs.Entry.{is_shutter}
 use Rattle.trace_model.specs.Frames.{has_shutter, is_sent}
 use Rattle.trace_model.specs.Legal.{IsLegal}
-use Rattle.past_facts.proofs.Frames.{sent-once}
-use Rattle.bounded_runs.proofs.Entries.{open-sent}
-use Rattle.bounded_runs.proofs.Legal.{runs_legally}
-use Rattle.frame_facts.proofs.Accepted.{settings-kept}
-use Rattle.run_facts.proofs.Home.{fill_open}
-use Rattle.run_facts.proofs.Targets.{dark-next}
+use Rattle.trace_laws.proofs.Frames.{sent-once}
+use Rattle.run_model.proofs.Entries.{open-sent}
+use Rattle.run_model.proofs.Legal.{runs_legally}
+use Rattle.state_facts.proofs.Accepted.{settings-kept}
+use Rattle.run_model.proofs.Home.{fill_open}
+use Rattle.run_model.proofs.Targets.{dark-next}
 use Rattle.run_model.specs.History.{trace_of}
 use Rattle.run_model.specs.Jobs.{IsFillJob, IsJobOut, IsOutWith, IsSensorJob, is_fill_out, is_sensor_done_in}
 use Rattle.run_model.specs.Run.{IsRun}
 use Rattle.run_model.specs.declared.step.Move.{Move}
 use Rattle.run_model.specs.declared.step.StepName.{StepName}
 use Rattle.run_rows.proofs.Noted.{fill-same, no-sensor, not-silent, targets-noted}
-use Rattle.room_log.specs.State.{State}
-use Rattle.service_facts.proofs.AtRest.{configured_rest}
+use Rattle.run_model.specs.State.{State}
+use Rattle.service_parts.proofs.AtRest.{configured_rest}
 use Rattle.service_core.proofs.Outs.{no_fill_at_rest}
 use Rattle.service_core.specs.Answers.{AnswersStep, adds}
 use Rattle.service_core.specs.declared.step.Step.{Step}

@@ -5,7 +5,7 @@ use Rattle.run_model.specs.declared.step.Move.{Move}
 use Rattle.run_model.specs.declared.step.StepName.{StepName}
 use Rattle.run_model.specs.Jobs.{is_fill_out, is_sensor_out}
 use Rattle.run_model.specs.Ready.{move_of}
-use Rattle.room_log.specs.State.{State}
+use Rattle.run_model.specs.State.{State}
 use Rattle.service_parts.specs.Parts.{parts}
 use Rattle.service_state.specs.Serving.{Serving}
 use Rattle.service_core.specs.declared.step.Step.{Step}

@@ -1,12 +1,12 @@
 use Rattle.std.specs.Prelude.{◌≡◌, Option, Some, None, IsTrue}
 use Rattle.cam_types.specs.Script.{is_valid}
 use Rattle.trace_model.specs.declared.entry.Entry.{Entry}
-use Rattle.trace_bounds.specs.Typed.{is_typed}
+use Rattle.trace_laws.specs.Typed.{is_typed}
 use Rattle.run_model.specs.declared.step.StepName.{StepName}
 use Rattle.run_model.specs.Bounds.{move_bound}
 use Rattle.run_model.specs.Run.{IsRun}
-use Rattle.room_log.specs.Moves.{Moves, with_move}
-use Rattle.room_log.specs.State.{State}
+use Rattle.run_model.specs.Moves.{Moves, with_move}
+use Rattle.run_model.specs.State.{State}
 use Rattle.service_parts.specs.Parts.{parts}
 use Rattle.service_state.specs.Serving.{Serving}
 

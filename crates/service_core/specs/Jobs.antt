@@ -7,7 +7,7 @@ use Rattle.trace_model.specs.declared.entry.Entry.{Entry}
 use Rattle.trace_model.specs.declared.entry.Entry.TheVariants.{Shutter as ShutterEntry}
 use Rattle.run_model.specs.declared.step.StepName.TheVariants.{Shutter, TakeFill}
 use Rattle.run_model.specs.Jobs.{IsJobOut}
-use Rattle.room_log.specs.State.{State}
+use Rattle.run_model.specs.State.{State}
 use Rattle.service_core.specs.Answers.{Makes, Stays, adds, silent}
 use Rattle.service_core.specs.declared.sensor.Shuttered.{Shuttered}
 use Rattle.service_core.specs.declared.sensor.Shuttered.TheVariants.{Began, NotBegun}

@@ -5,8 +5,7 @@ ghost use Rattle.service_core.specs.Inside.{noted};
 ghost use Rattle.service_core.specs.Answers.{step_of};
 
 use crate::step::Step;
-use room_log::RoomLog;
-use run_model::StepName;
+use run_model::{RoomLog, StepName};
 use trace_model::Entry;
 
 /// Notes the move of a step that added an entry, where it was made, and answers the step.

@@ -3,8 +3,8 @@ ghost use Rattle.run_model.specs.Jobs.{IsJobOut};
 ghost use Rattle.service_core.specs.Answers.{Makes, silent};
 
 use crate::service::Service;
+use picture_stages::{ExposedJob, SensorJob};
 use run_model::StepName;
-use sensor_sim::{ExposedJob, SensorJob};
 use trace_model::Entry;
 
 /// What the shutter answers.

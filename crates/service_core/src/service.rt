@@ -15,12 +15,11 @@ ghost use Rattle.trace_model.specs.Legal.{IsLegal};
 ghost use Rattle.trace_model.specs.Printable.{is_printable};
 
 use cam_types::{BufferId, NoMemory, Script};
-use room_log::RoomLog;
-use script_bounds::move_bound;
+use run_model::{RoomLog, move_bound};
 use service_state::ServiceState;
 use std::alloc::Global;
 use std::marker::Model;
-use trace_bounds::every_script_is_typed;
+use trace_laws::every_script_is_typed;
 use trace_model::Entry;
 
 /// The camera service. A contract sees the script and the history of moves, the newest first. It can't be let go:
@@ -31,7 +30,7 @@ pub struct Service {
 }
 
 impl Model for Service {
-    ghost use Rattle.room_log.specs.State.{State};
+    ghost use Rattle.run_model.specs.State.{State};
     ghost use Rattle.service_core.specs.Inside.{IsKept, state_of};
 
     ghost Value = { State };

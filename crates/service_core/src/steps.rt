@@ -1,6 +1,6 @@
 //! The steps that add an entry and give out no job.
 ghost use Rattle.std.specs.Prelude.{◌≡◌, false};
-ghost use Rattle.job_moves.specs.Outs.{moves_a_job};
+ghost use Rattle.service_parts.specs.Outs.{moves_a_job};
 ghost use Rattle.service_core.specs.Answers.{AnswersStep};
 
 use crate::note::note;

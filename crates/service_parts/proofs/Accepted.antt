@@ -16,7 +16,7 @@ use Rattle.trace_model.specs.Legal.{IsLegal}
 use Rattle.basic_lemmas.proofs.Counts.{count-one}
 use Rattle.basic_lemmas.proofs.Lists.{map-where}
 use Rattle.basic_lemmas.proofs.Ranges.{range-more}
-use Rattle.frame_laws.proofs.Submitted.{not-accepted, request-number}
+use Rattle.trace_laws.proofs.Submitted.{not-accepted, request-number}
 use Rattle.service_parts.specs.After.{kinds_with}
 use Rattle.service_parts.specs.Parts.{kinds}
 

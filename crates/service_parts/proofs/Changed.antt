@@ -8,6 +8,7 @@ use Rattle.cam_types.specs.declared.row.RowView.{RowView}
 use Rattle.cam_types.specs.declared.script.Script.{Script}
 use Rattle.trace_model.specs.declared.entry.Entry.{Entry}
 use Rattle.trace_model.specs.declared.entry.Entry.TheVariants.{Shutter as ShutterEntry}
+use Rattle.trace_model.specs.Legal.{IsLegal}
 use Rattle.trace_model.specs.Open.{is_open}
 use Rattle.trace_model.specs.Shutter.{next_time}
 use Rattle.run_model.specs.declared.step.Move.{Move}
@@ -15,19 +16,22 @@ use Rattle.run_model.specs.declared.step.StepName.{StepName}
 use Rattle.run_model.specs.History.{trace_of}
 use Rattle.run_model.specs.Rows.{row_of, rows}
 use Rattle.run_model.specs.Run.{IsRun}
-use Rattle.bounded_runs.proofs.Legal.{runs_legally}
-use Rattle.buffer_facts.specs.Homes.{Homes}
-use Rattle.client_facts.specs.Clients.{Clients, clients, finishes}
-use Rattle.client_facts.specs.Clients as client
+use Rattle.run_model.proofs.Legal.{runs_legally}
+use Rattle.state_facts.specs.Homes.{Homes}
+use Rattle.state_facts.specs.Clients.{Clients, clients, finishes}
+use Rattle.state_facts.specs.Clients as client
 use Rattle.device_rows.specs.Rows.{row_at}
-use Rattle.queue_facts.specs.Turns.{Turns, next_of, turns}
-use Rattle.queue_facts.proofs.Readings.{next_is}
-use Rattle.row_facts.specs.Rows.{Row, find_row, row}
-use Rattle.row_facts.specs.Rows as frame
-use Rattle.row_facts.proofs.Readings.{finishes_is, found_is}
-use Rattle.queue_facts.specs.Turns.{repeats_next, settings_next}
-use Rattle.state_facts.specs.States.{State, clock_after, settings_row}
-use Rattle.state_facts.proofs.Steps.{noted_is}
+use Rattle.state_facts.specs.Turns.{Turns, next_of, turns}
+use Rattle.state_facts.proofs.Readings.{next_is}
+use Rattle.state_facts.specs.FrameReadings.{exposure_in, time_after}
+use Rattle.state_facts.specs.FrameReadings as frame
+use Rattle.state_facts.specs.Row.{Row, open_rows}
+use Rattle.state_facts.specs.Row as plain
+use Rattle.state_facts.proofs.FrameDone.{last_reads}
+use Rattle.state_facts.proofs.OpenRows.{row-where}
+use Rattle.state_facts.specs.Turns.{repeats_next, settings_next}
+use Rattle.state_facts.specs.States.{State}
+use Rattle.state_facts.proofs.StateSteps.{noted_is}
 use Rattle.run_rows.specs.Changes.{after}
 use Rattle.run_rows.proofs.Frames.{row-found}
 use Rattle.run_rows.proofs.Moved.{changed_is}
@@ -49,18 +53,18 @@ rows-changed script m h run =
 -- ---- the clock
 
 -- both kinds of rows tell the settings of a frame that is open
-settings-same : (script : Script) (h : List Move) (n : ℕ) → settings_row (find_row n (frame.rows script (trace_of h))) ≡ settings_at (row_at n (rows script h))
-settings-same script h n =
-    ap settings_row (found_is script (trace_of h) n)
-    ∙ (by (is_open n (trace_of h)) (row script (trace_of h) n) (row_of script h n) refl ∙ ap settings_at (sym (row-found script h n)))
+exposure-same : (script : Script) (h : List Move) (n : ℕ) → IsLegal script (trace_of h) → exposure_in (frame.row_at n (open_rows script (trace_of h))) ≡ (settings_at (row_at n (rows script h))).exposure
+exposure-same script h n legal =
+    ap exposure_in (row-where script (trace_of h) n legal)
+    ∙ (by (is_open n (trace_of h)) (plain.row_of script (trace_of h) n) (row_of script h n) refl ∙ ap (λ (v : Option RowView). (settings_at v).exposure) (sym (row-found script h n)))
   where
-    by : (b : Bool) (r : Row) (v : RowView) → r.settings ≡ v.settings → settings_row (if b then Some r else None) ≡ settings_at (if b then Some v else None)
-    by true r v same = same
+    by : (b : Bool) (r : Row) (v : RowView) → r.settings ≡ v.settings → exposure_in (if b then Some r else None) ≡ (settings_at (if b then Some v else None)).exposure
+    by true r v same = ap (λ (s : Settings). s.exposure) same
     by false r v same = refl
 
-clock-same : (script : Script) (h : List Move) (e : Entry) (old : ℕ) → clock_after (frame.rows script (trace_of h)) e old ≡ clock_by (rows script h) (Some e) old
-clock-same script h (ShutterEntry n time) old = ap (λ (s : Settings). time + max frame_time s.exposure) (settings-same script h n.0)
-clock-same script h _ old = refl
+clock-same : (script : Script) (h : List Move) (e : Entry) (old : ℕ) → IsLegal script (trace_of h) → time_after (open_rows script (trace_of h)) e old ≡ clock_by (rows script h) (Some e) old
+clock-same script h (ShutterEntry n time) old legal = ap (λ (k : ℕ). time + max frame_time k) (exposure-same script h n.0 legal)
+clock-same script h _ old legal = refl
 
 -- ---- the client
 
@@ -70,7 +74,7 @@ client-changed script h step e run =
     let legal = runs_legally script (with_move step e h) run in
     let repeats = repeats_next (next_of (turns script past)) in
     ap (λ (s : State). s.client) (noted_is script past e legal)
-    ∙ (ap (λ b. client.noted script repeats b e (clients script past)) (sym (finishes_is script past e legal))
+    ∙ (ap (λ b. client.noted script repeats b e (clients script past)) (sym (last_reads script past e legal))
     ∙ (counted script h step e run repeats
     ∙ ap (λ (left : List RowView). client.noted script repeats (ends_by (kinds script past) (rows script h) left (ending_frame step)) e (clients script past)) (rows-changed script (record { step = step; entry = Some e }) h run)))
 
@@ -87,7 +91,7 @@ changed-by script h step (Some e) run =
     let legal = runs_legally script (with_move step e h) run in
     let noted = noted_is script past e legal in
     same-parts _ _ _ _ _ _ _ _ _ _ _ _ _ _ _ _ (client-changed script h step e run) (ap (λ (s : State). s.queue) noted) (kinds-noted script past e legal) (ap (λ (s : State). s.buffers) noted) (pictures_are script h step e run)
-    (rows-changed script (record { step = step; entry = Some e }) h run) (ap (λ (s : State). s.last) noted) (ap (λ (s : State). s.clock) noted ∙ clock-same script h e (next_time script past))
+    (rows-changed script (record { step = step; entry = Some e }) h run) (ap (λ (s : State). s.last) noted) (ap (λ (s : State). s.clock) noted ∙ clock-same script h e (next_time script past) legal.1)
 
 pub changed_parts : (script : Script) (m : Move) (h : List Move) → IsRun script (m ∷ h) → parts script (m ∷ h) ≡ parts_after script m (parts script h)
 changed_parts script m h run = changed-by script h m.step m.entry run

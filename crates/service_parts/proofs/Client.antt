@@ -23,15 +23,15 @@ use Rattle.run_model.specs.Jobs.{is_fill_out, is_filled_in, is_sensor_out}
 use Rattle.run_model.specs.Ready.{adding, finish_due}
 use Rattle.run_model.specs.Rows.{rows}
 use Rattle.run_model.specs.Run.{IsRun}
-use Rattle.bounded_runs.proofs.Legal.{adds, begin_shape, by_test, call_shape, drop_shape, early_shape, failed_shape, filled_shape, part_shape, runs_legally, shutter_shape, where-entry}
-use Rattle.client_facts.specs.Clients.{clients, finishes}
-use Rattle.client_facts.specs.Clients as client
+use Rattle.run_model.proofs.Legal.{adds, begin_shape, by_test, call_shape, drop_shape, early_shape, failed_shape, filled_shape, part_shape, runs_legally, shutter_shape, where-entry}
+use Rattle.state_facts.specs.Clients.{clients, finishes}
+use Rattle.state_facts.specs.Clients as client
 use Rattle.run_rows.proofs.Jobs.{finish-shape}
 use Rattle.run_rows.proofs.Noted.{not-silent}
 use Rattle.service_parts.specs.After.{ending_frame, ends_by}
 use Rattle.service_parts.specs.Parts.{kinds}
 use Rattle.service_parts.proofs.Ends.{end-read, late-ends, with_move}
-use Rattle.service_parts.proofs.Shapes.{error-shape, or-shape, send-shape}
+use Rattle.run_model.proofs.Shapes.{error-shape, or-shape, send-shape}
 
 -- what the client notes of an entry, with the end of a frame read from the rows
 abbrev pub Counts : Script → List Move → StepName → Entry → Type 0

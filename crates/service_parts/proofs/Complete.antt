@@ -7,9 +7,9 @@ use Rattle.trace_model.specs.Complete.{IsComplete}
 use Rattle.run_model.specs.declared.step.Move.{Move}
 use Rattle.run_model.specs.History.{trace_of}
 use Rattle.run_model.specs.Run.{IsRun}
-use Rattle.bounded_runs.proofs.Legal.{runs_legally}
-use Rattle.buffer_facts.specs.Homes.{all_home, all_signalled}
-use Rattle.buffer_facts.proofs.Readings.{all_signalled_is, pool_is}
+use Rattle.run_model.proofs.Legal.{runs_legally}
+use Rattle.state_facts.specs.Homes.{all_home, all_signalled}
+use Rattle.state_facts.proofs.BufferReadings.{all_signalled_is, pool_is}
 use Rattle.run_rows.specs.Kept.{is_no_row}
 use Rattle.run_rows.proofs.Counted.{quiet_is}
 use Rattle.service_parts.specs.After.{is_over}

@@ -19,20 +19,21 @@ use Rattle.run_model.specs.History.{trace_of}
 use Rattle.run_model.specs.Rows.{request_of, row_of, rows}
 use Rattle.run_model.specs.Run.{IsRun}
 use Rattle.device_rows.specs.Rows.{row_at}
-use Rattle.basic_lemmas.proofs.Lists.{any-behind}
-use Rattle.bounded_runs.proofs.Entries.{open-sent, same-self}
-use Rattle.bounded_runs.proofs.Legal.{runs_legally}
-use Rattle.client_facts.specs.Clients.{ends_early, ends_frame, finishes}
-use Rattle.past_facts.specs.Settled.{has_fence}
-use Rattle.past_facts.proofs.Done.{done-stays}
-use Rattle.past_facts.proofs.Settled.{fence-frame}
-use Rattle.trace_bounds.proofs.Shapes.{found-passes, late-is}
+use Rattle.basic_lemmas.proofs.Lists.{any-behind, found-passes}
+use Rattle.run_model.proofs.Entries.{open-sent}
+use Rattle.run_model.proofs.Legal.{runs_legally}
+use Rattle.state_facts.specs.Clients.{ends_early, ends_frame, finishes}
+use Rattle.trace_laws.specs.Settled.{has_fence}
+use Rattle.trace_laws.proofs.Done.{done-stays}
+use Rattle.trace_laws.proofs.Settled.{fence-frame}
+use Rattle.trace_laws.proofs.Shapes.{late-is}
 use Rattle.run_rows.proofs.Frames.{row-found}
 use Rattle.run_rows.proofs.General.{none-found}
 use Rattle.service_parts.specs.After.{ends_by, repeats_in}
 use Rattle.service_parts.specs.Parts.{kinds}
 use Rattle.service_parts.proofs.Accepted.{kind-read}
-use Rattle.service_parts.proofs.Pictures.{row-stands}
+use Rattle.run_rows.proofs.WorkJobs.{open-found}
+use Rattle.basic_lemmas.proofs.Tests.{own-number, done-not-open, open-not-done, closed-done, no-end}
 
 -- ---- whether a frame's request repeats
 
@@ -45,27 +46,6 @@ repeats-read : (script : Script) (h : List Move) (n : ℕ) → IsLegal script (t
 repeats-read script h n legal open_ = repeats-by script (trace_of h) n (send_of n (trace_of h)) legal (open-sent n (trace_of h) open_) refl
 
 -- ---- whether it is done with
-
-done-not-open : (s d : Bool) → s ≡ true → (s && d) ≡ not (s && not d)
-done-not-open true true h = refl
-done-not-open true false h = refl
-done-not-open false d h = absurd (false≢true h)
-
-open-not-done : (s d : Bool) → (s && not d) ≡ true → (s && d) ≡ false
-open-not-done true true h = absurd (false≢true h)
-open-not-done true false h = refl
-open-not-done false d h = refl
-
-closed-done : (s d : Bool) → (s && not d) ≡ false → (s && d) ≡ s
-closed-done true true h = refl
-closed-done true false h = absurd (false≢true (sym h))
-closed-done false d h = refl
-
-no-end : (r d s : Bool) → (s ≡ true → d ≡ true) → (s ≡ false → d ≡ false) → (r && (d && not s)) ≡ false
-no-end true true true a b = refl
-no-end true true false a b = absurd (false≢true (sym (b refl)))
-no-end true false s a b = refl
-no-end false d s a b = refl
 
 -- the row goes exactly where the frame isn't open any more
 row-goes : (script : Script) (m : Move) (h : List Move) (n : ℕ) → is_none (row_at n (rows script (m ∷ h))) ≡ not (is_open n (trace_of (m ∷ h)))
@@ -98,7 +78,7 @@ end-read script h step e n run other =
           let undone : is_done n.0 past ≡ false = open-not-done (is_sent n.0 past) before open_ in
           let done' : is_done n.0 (e ∷ past) ≡ not (is_open n.0 (e ∷ past)) = done-not-open (is_sent n.0 (e ∷ past)) now (any-behind (sends n.0) e past sent) in
           end-open _ _ _ _ _ (repeats-read script h n.0 legal.1 open_) undone (done' ∙ sym (row-goes script (record { step = step; entry = Some e }) h n.0))
-          ∙ ap (λ (o : Option RowView). repeats_in (kinds script past) o && is_none (row_at n.0 left)) (sym (row-stands script h n.0 open_))
+          ∙ ap (λ (o : Option RowView). repeats_in (kinds script past) o && is_none (row_at n.0 left)) (sym (open-found script h n.0 open_))
           )
       | inr closed ↦ (
           let done' : is_done n.0 past ≡ is_sent n.0 past = closed-done (is_sent n.0 past) before closed in
@@ -122,6 +102,6 @@ late-ends script past n s d x rest legal fences =
     let t : StreamIx = is.1 in
     let b : BufferId = is.2 in
     let f : FenceNo = is.3 in
-    let has : has_fence d.0 (early_fences n s past) ≡ true = ap (λ (fs : List ℕ). has_fence d.0 fs) fences ∙ rw (same-self d.0) refl in
+    let has : has_fence d.0 (early_fences n s past) ≡ true = ap (λ (fs : List ℕ). has_fence d.0 fs) fences ∙ rw (own-number d.0) refl in
     let own = and_parts (m.0 == n) (t.0 == s) (fence-frame script past d.0 m t b f n s legal.1 is.4 has) in
     ends-at script past (Late d x) (find (is_early_with d.0) past) m t b f n is.4 (eqb-true m.0 n own.0)

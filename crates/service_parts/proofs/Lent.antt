@@ -19,13 +19,14 @@ use Rattle.trace_model.specs.Legal.{IsLegal}
 use Rattle.trace_model.specs.Place.{Pool, Device, Client, is_at, last_naming, place, place_after}
 use Rattle.trace_model.specs.Send.{takes_from_pool}
 use Rattle.trace_model.proofs.LawLemmas.{sends-from-pool}
-use Rattle.trace_bounds.proofs.Shapes.{early-from-device, early-is, failed-from-device, filled-from-device, found-passes, release-there}
-use Rattle.bounded_runs.proofs.Entries.{same-self}
-use Rattle.buffer_laws.proofs.Early.{given}
-use Rattle.buffer_laws.proofs.Sends.{not-the-next, send-number}
-use Rattle.buffer_facts.specs.Homes.{held_in, homes}
-use Rattle.buffer_facts.proofs.Own.{out-own}
-use Rattle.buffer_facts.proofs.Readings.{held_is}
+use Rattle.trace_laws.proofs.Shapes.{early-from-device, early-is, failed-from-device, filled-from-device, release-there}
+use Rattle.trace_laws.proofs.Early.{given}
+use Rattle.trace_laws.proofs.BufferSends.{not-the-next, send-number}
+use Rattle.state_facts.specs.Homes.{held_in, homes}
+use Rattle.state_facts.proofs.Own.{out-own}
+use Rattle.state_facts.proofs.BufferReadings.{held_is}
+use Rattle.basic_lemmas.proofs.Lists.{found-passes}
+use Rattle.basic_lemmas.proofs.Tests.{own-number}
 
 -- the last entry of the buffer is its early return, and it is the target with which the frame was sent
 pub record Lent (past : List Entry) (n : FrameNo) (s : StreamIx) (b : BufferId) (f : FenceNo) : Type 0 where
@@ -78,7 +79,7 @@ not-released past c b n s f last early there = elim (cases_Bool (c.0 == b.0)) [
 -- ---- so it stays
 
 early-self : (past : List Entry) (m : FrameNo) (t : StreamIx) (c : BufferId) (g : FenceNo) (u : Sent) → target_of m.0 t.0 past ≡ Some u → u.buffer ≡ c → Lent (Early m t c g ∷ past) m t c g
-early-self past m t c g u at same = record { last = rw (same-self c.0) refl; target = u; found = at; buffer = same }
+early-self past m t c g u at same = record { last = rw (own-number c.0) refl; target = u; found = at; buffer = same }
 
 as-found : (past : List Entry) (e : Entry) (m n : FrameNo) (t s : StreamIx) (c b : BufferId) (g f : FenceNo) → Early m t c g ≡ Early n s b f → Lent (e ∷ past) m t c g → Lent (e ∷ past) n s b f
 as-found past e m n t s c b g f same lent =

@@ -7,15 +7,10 @@ use Rattle.trace_model.specs.Open.{is_open}
 use Rattle.trace_model.specs.Picture.{digest_of, digest_on}
 use Rattle.run_model.specs.declared.step.Move.{Move}
 use Rattle.run_model.specs.History.{trace_of}
-use Rattle.run_model.specs.Rows.{row_of, rows}
-use Rattle.device_rows.specs.Rows.{row_at}
-use Rattle.run_rows.proofs.Frames.{row-found}
 use Rattle.service_parts.specs.Moves.{digest_by, settings_at}
 use Rattle.service_parts.specs.Parts.{parts}
-
-pub row-stands : (script : Script) (h : List Move) (n : ℕ) → is_open n (trace_of h) ≡ true → row_at n (rows script h) ≡ Some (row_of script h n)
-row-stands script h n open_ = row-found script h n ∙ rw open_ refl
+use Rattle.run_rows.proofs.WorkJobs.{open-found}
 
 pub digest-read : (script : Script) (h : List Move) (n s : ℕ) → is_open n (trace_of h) ≡ true → digest_of script (trace_of h) n s ≡ digest_by (parts script h) n s
 digest-read script h n s open_ =
-    ap (λ (o : Option RowView). digest_on (slice_get (streams script (trace_of h)) s) (settings_at o) n) (sym (row-stands script h n open_))
+    ap (λ (o : Option RowView). digest_on (slice_get (streams script (trace_of h)) s) (settings_at o) n) (sym (open-found script h n open_))

@@ -16,13 +16,13 @@ use Rattle.run_model.specs.History.{trace_of}
 use Rattle.run_model.specs.Ready.{adding, move_of, or_entry, silent, where_entry}
 use Rattle.run_model.specs.Rows.{rows}
 use Rattle.run_model.specs.Run.{IsRun}
-use Rattle.bounded_runs.proofs.Legal.{runs_legally}
-use Rattle.buffer_facts.specs.Homes.{homes, signalled_in}
-use Rattle.buffer_facts.proofs.Readings.{earlies_are, release_is, signal_is, signalled_is}
-use Rattle.client_facts.specs.Clients.{clients}
-use Rattle.client_facts.specs.Replies.{begin_in, call_in}
-use Rattle.client_facts.proofs.Readings.{begin_is, call_is}
-use Rattle.queue_facts.specs.Turns.{turns}
+use Rattle.run_model.proofs.Legal.{runs_legally}
+use Rattle.state_facts.specs.Homes.{homes, signalled_in}
+use Rattle.state_facts.proofs.BufferReadings.{earlies_are, release_is, signal_is, signalled_is}
+use Rattle.state_facts.specs.Clients.{clients}
+use Rattle.state_facts.specs.Replies.{begin_in, call_in}
+use Rattle.state_facts.proofs.ClientReadings.{begin_is, call_is}
+use Rattle.state_facts.specs.Turns.{turns}
 use Rattle.device_rows.specs.Ready.{is_delivery_ready, is_early_ready, is_failed_return_ready}
 use Rattle.device_rows.specs.Rows.{row_at, target_in}
 use Rattle.run_rows.specs.Entries.{early_entry, filled_entry}
@@ -36,7 +36,7 @@ use Rattle.run_rows.proofs.Parts.{part_is}
 use Rattle.run_rows.proofs.Sensor.{shutter_is}
 use Rattle.run_rows.proofs.Work.{sensor_is}
 use Rattle.run_rows.proofs.WorkJobs.{fill_is}
-use Rattle.state_facts.proofs.Sends.{drop_is}
+use Rattle.state_facts.proofs.StateSends.{drop_is}
 use Rattle.service_parts.specs.Moves.{move_by}
 use Rattle.service_parts.specs.Parts.{parts}
 use Rattle.service_parts.proofs.Pictures.{digest-read}

@@ -8,10 +8,9 @@ use Rattle.std.proofs.lemmas.Bool.Decides.{nat_tests}
 use Rattle.std.proofs.lemmas.List.{get_or_past}
 use Rattle.std.proofs.lemmas.List.FromFn.{get_or-map-range_with_len, length-map-range_with_len}
 use Rattle.basic_lemmas.proofs.Counts.{some-counted}
-use Rattle.basic_lemmas.proofs.Lists.{all-where, any-behind, found-any, map-same}
+use Rattle.basic_lemmas.proofs.Lists.{any-behind, found-any, map-same}
 use Rattle.basic_lemmas.proofs.Ranges.{map-all, set-one}
 use Rattle.cam_types.specs.Four.{four_list}
-use Rattle.cam_types.specs.declared.four.Four.{Four}
 use Rattle.cam_types.specs.declared.item.Settings.{Settings}
 use Rattle.cam_types.specs.declared.number.BufferId.{BufferId}
 use Rattle.cam_types.specs.declared.number.FenceNo.{FenceNo}
@@ -25,47 +24,49 @@ use Rattle.cam_types.specs.declared.stream.StreamSpec.{StreamSpec}
 use Rattle.trace_model.specs.declared.entry.Entry.{Entry}
 use Rattle.trace_model.specs.declared.entry.Entry.TheVariants.{Call, Send, Filled, Failed, Release, Early, Late}
 use Rattle.trace_model.specs.declared.entry.Sent.{Sent}
-use Rattle.trace_model.specs.Configuration.{is_buffer, made, made_count, streams}
+use Rattle.trace_model.specs.Configuration.{made, made_count, streams}
 use Rattle.trace_model.specs.Entry.{is_early_with, names, returns_target}
 use Rattle.trace_model.specs.Fence.{is_late}
 use Rattle.trace_model.specs.Frames.{is_sent, settings_of, target_of, targets_of}
 use Rattle.trace_model.specs.Legal.{IsLegal}
 use Rattle.trace_model.specs.Numbers.{next_early}
 use Rattle.trace_model.specs.Open.{early_fences, is_open, is_settled}
-use Rattle.trace_model.specs.Place.{Place, Pool, Device, Client, is_at, is_at_device_by, last_naming, place, place_after}
-use Rattle.trace_model.specs.Send.{may_send}
-use Rattle.trace_bounds.proofs.Shapes.{early-from-device, early-is, failed-from-device, filled-from-device, late-is, release-is}
+use Rattle.trace_model.specs.Place.{Pool, Device, Client, is_at, is_at_device_by, last_naming, place, place_after}
+use Rattle.trace_laws.proofs.Shapes.{early-from-device, early-is, failed-from-device, filled-from-device, late-is, release-is}
 use Rattle.run_model.specs.declared.step.Move.{Move}
 use Rattle.run_model.specs.declared.step.StepName.{StepName}
 use Rattle.run_model.specs.declared.step.StepName.TheVariants.{Finish}
 use Rattle.run_model.specs.History.{trace_of}
 use Rattle.run_model.specs.Rows.{row_of, rows}
 use Rattle.run_model.specs.Run.{IsRun}
-use Rattle.bounded_runs.proofs.Entries.{same-self}
-use Rattle.bounded_runs.proofs.Legal.{runs_legally}
-use Rattle.buffer_facts.specs.Homes.{count_in, first_buffer, numbers, put_all}
-use Rattle.buffer_facts.proofs.Made.{buffer-within}
-use Rattle.buffer_facts.proofs.Own.{at-client, out-own, targets-own, unnamed}
-use Rattle.buffer_facts.proofs.Ranges.{set-all}
-use Rattle.buffer_laws.proofs.Early.{given, given-below, open-until-late}
-use Rattle.buffer_laws.proofs.Once.{out-not-returned, returned-sent, settled-returned}
-use Rattle.buffer_laws.proofs.Returns.{filled-back}
-use Rattle.buffer_laws.proofs.Sends.{out-sent}
-use Rattle.device_rows.specs.Rows.{row_at, target_at, target_in}
-use Rattle.frame_facts.proofs.Accepted.{settings-kept}
-use Rattle.past_facts.specs.Settled.{has_fence}
-use Rattle.past_facts.proofs.Done.{closed-is}
-use Rattle.past_facts.proofs.Frames.{sent-once}
-use Rattle.past_facts.proofs.Settled.{fence-frame, not-late, one-below}
+use Rattle.run_model.proofs.Legal.{runs_legally}
+use Rattle.state_facts.specs.Homes.{count_in, first_buffer, numbers, put_all}
+use Rattle.state_facts.proofs.Made.{buffer-within}
+use Rattle.state_facts.proofs.Own.{at-client, out-own, unnamed}
+use Rattle.state_facts.proofs.Ranges.{set-all}
+use Rattle.trace_laws.proofs.Early.{given, given-below, open-until-late}
+use Rattle.trace_laws.proofs.Once.{out-not-returned, returned-sent, settled-returned}
+use Rattle.trace_laws.proofs.Returns.{filled-back}
+use Rattle.trace_laws.proofs.BufferSends.{out-sent}
+use Rattle.device_rows.specs.Rows.{target_at, target_in}
+use Rattle.state_facts.proofs.Accepted.{settings-kept}
+use Rattle.trace_laws.specs.Settled.{has_fence}
+use Rattle.trace_laws.proofs.Done.{closed-is}
+use Rattle.trace_laws.proofs.Frames.{sent-once}
+use Rattle.trace_laws.proofs.Settled.{fence-frame, not-late}
 use Rattle.run_rows.proofs.Fours.{view-found}
-use Rattle.run_rows.proofs.Jobs.{FinishedBy, FinishOf, move-behind}
+use Rattle.run_rows.proofs.Jobs.{FinishedBy, move-behind}
 use Rattle.service_parts.specs.After.{picture_by, picture_in, pictures_with, showing_target}
 use Rattle.service_parts.specs.Moves.{settings_at}
 use Rattle.service_parts.specs.Parts.{Parts, parts}
 use Rattle.service_parts.specs.Pictures.{client_picture, picture_after, picture_of, picture_on, pictures}
 use Rattle.service_parts.proofs.Ends.{with_move}
 use Rattle.service_parts.proofs.Lent.{lent-until, same-fence}
-use Rattle.service_parts.proofs.Pictures.{row-stands}
+use Rattle.run_rows.proofs.Returned.{own-stream}
+use Rattle.run_rows.proofs.WorkJobs.{open-found}
+use Rattle.state_facts.proofs.BufferSteps.{away-low, targets-low}
+use Rattle.state_facts.proofs.BufferReadings.{in-pool}
+use Rattle.basic_lemmas.proofs.Tests.{own-number, one-below}
 
 -- ---- the picture of a frame whose buffer came back stays the same
 
@@ -81,9 +82,6 @@ found-also p q (x ∷ past) e found is = elim (cases_Bool (p x)) [
   | inr no' ↦ (let found' = rw no' at found in any-behind q x past (found-also p q past e found' is))
 ]
 
-both-self : (n s : ℕ) → ((n == n) && (s == s)) ≡ true
-both-self n s = rw (same-self n, same-self s) refl
-
 back-sent : (script : Script) (past : List Entry) (b n s : ℕ) (e : Entry) → IsLegal script past → last_naming b past ≡ Some e → returns_target n s e ≡ true → is_sent n past ≡ true
 back-sent script past b n s e legal last is = returned-sent script past n s legal (found-also (names b) (returns_target n s) past e last is)
 
@@ -98,10 +96,10 @@ IsSilentOf past e b = (m : FrameNo) (u : StreamIx) (a : BufferId) (g : FenceNo) 
 
 after-kept : (script : Script) (past : List Entry) (e : Entry) (b : ℕ) (o : Option Entry) → IsLegal script (e ∷ past) → last_naming b past ≡ o → streams script (e ∷ past) ≡ streams script past → IsSilentOf past e b → picture_after script (e ∷ past) o ≡ picture_after script past o
 after-kept script past e b (Some (Filled n s c f d)) legal last same silent =
-    ap (λ (x : List ℕ). Some x) (picture-kept script past e n.0 s.0 legal (back-sent script past b n.0 s.0 (Filled n s c f d) legal.1 last (both-self n.0 s.0)) same)
+    ap (λ (x : List ℕ). Some x) (picture-kept script past e n.0 s.0 legal (back-sent script past b n.0 s.0 (Filled n s c f d) legal.1 last (own-stream n.0 s.0)) same)
 after-kept script past e b (Some (Early n s c d)) legal last same silent =
     by (is_late d.0 (e ∷ past)) (is_late d.0 past) (picture_of script (e ∷ past) n.0 s.0) (picture_of script past n.0 s.0) (silent n s c d last)
-    (picture-kept script past e n.0 s.0 legal (back-sent script past b n.0 s.0 (Early n s c d) legal.1 last (both-self n.0 s.0)) same)
+    (picture-kept script past e n.0 s.0 legal (back-sent script past b n.0 s.0 (Early n s c d) legal.1 last (own-stream n.0 s.0)) same)
   where
     by : (h k : Bool) (x y : List ℕ) → h ≡ k → x ≡ y → (if h then Some x else None) ≡ (if k then Some y else None)
     by h k x y l r = rw (l, r) refl
@@ -136,13 +134,6 @@ unnamed-kept script past e legal same silent h = map-same (λ b. client_picture 
 
 -- ---- numbers and frames of the buffers that are named
 
-out-low : (script : Script) (past : List Entry) (b : ℕ) (p : Place) → IsLegal script past → is_at p Pool ≡ false → place b past ≡ p → first_buffer past ≤ b
-out-low script past b p legal away at = (buffer-within script past b legal (out-own script past b legal (rw at away))).0
-
-targets-low : (script : Script) (past : List Entry) (n r i : ℕ) (same : Bool) (targets : Four Sent) → IsLegal script past → may_send script past n r i same targets ≡ true → list_all (λ t. nat_le (first_buffer past) t.buffer.0) (four_list targets) ≡ true
-targets-low script past n r i same targets legal may =
-    all-where (λ t. is_buffer past t.buffer.0) (λ t. nat_le (first_buffer past) t.buffer.0) (four_list targets) (λ t own. le-leb (first_buffer past) t.buffer.0 (buffer-within script past t.buffer.0 legal own).0) (targets-own script past n r i same targets may)
-
 one-settled : (past : List Entry) (n s : ℕ) (ts : List Sent) → list_all (λ t. is_settled n t.stream.0 past) ts ≡ true → list_any (λ t. t.stream.0 == s) ts ≡ true → is_settled n s past ≡ true
 one-settled past n s [] all has = absurd (false≢true has)
 one-settled past n s (t ∷ ts) all has =
@@ -165,7 +156,7 @@ open-out script past n s b t legal out found = elim (cases_Bool (is_open n past)
 
 picture-read : (script : Script) (h : List Move) (n s : ℕ) → is_open n (trace_of h) ≡ true → picture_of script (trace_of h) n s ≡ picture_by (parts script h) n s
 picture-read script h n s open_ =
-    ap (λ (o : Option RowView). picture_on (slice_get (streams script (trace_of h)) s) (settings_at o) n) (sym (row-stands script h n open_))
+    ap (λ (o : Option RowView). picture_on (slice_get (streams script (trace_of h)) s) (settings_at o) n) (sym (open-found script h n open_))
 
 -- ---- the picture of an early return is there
 
@@ -221,7 +212,7 @@ late-each script past d x k t c f legal found last b = elim (cases_Bool (c.0 == 
       let at : last_naming b past ≡ Some (Early k t c f) = ap (λ (i : ℕ). last_naming i past) (sym (eqb-true c.0 b here)) ∙ last in
       let yes' : (d.0 == f.0) ≡ true = eq-eqb d.0 f.0 (sym (same-fence past d.0 k t c f found)) in
       let shown : picture_after script (Late d x ∷ past) (Some (Early k t c f)) ≡ Some (picture_of script past k.0 t.0) =
-      rw yes' (ap (λ (y : List ℕ). Some y) (picture-kept script past (Late d x) k.0 t.0 legal (back-sent script past c.0 k.0 t.0 (Early k t c f) legal.1 last (both-self k.0 t.0)) refl)) in
+      rw yes' (ap (λ (y : List ℕ). Some y) (picture-kept script past (Late d x) k.0 t.0 legal (back-sent script past c.0 k.0 t.0 (Early k t c f) legal.1 last (own-stream k.0 t.0)) refl)) in
       rw here (ap (λ (o : Option Entry). picture_after script (Late d x ∷ past) o) at ∙ shown)
       )
   | inr other ↦ rw other (after-kept script past (Late d x) b (last_naming b past) legal refl refl (λ m u a g is. rw (silent-at m u a g is other) refl))
@@ -239,7 +230,7 @@ late-each script past d x k t c f legal found last b = elim (cases_Bool (c.0 == 
 shown-target : (script : Script) (h : List Move) (n s : ℕ) (t : Sent) → is_open n (trace_of h) ≡ true → target_of n s (trace_of h) ≡ Some t → slice_set (pictures script (trace_of h)) (t.buffer.0 - first_buffer (trace_of h)) (Some (picture_of script (trace_of h) n s)) ≡ showing_target (parts script h) (target_in n s (rows script h)) (picture_by (parts script h) n s)
 shown-target script h n s t open_ found =
     let p = parts script h in
-    let stands : target_in n s (rows script h) ≡ target_at s (row_of script h n) = ap (λ (o : Option RowView). option_and_then (target_at s) o) (row-stands script h n open_) in
+    let stands : target_in n s (rows script h) ≡ target_at s (row_of script h n) = ap (λ (o : Option RowView). option_and_then (target_at s) o) (open-found script h n open_) in
     ap (λ (y : List ℕ). slice_set (pictures script (trace_of h)) (t.buffer.0 - first_buffer (trace_of h)) (Some y)) (picture-read script h n s open_)
     ∙ sym (ap (λ (o : Option TargetView). showing_target p o (picture_by p n s)) (stands ∙ view-found script h n s t found))
 
@@ -256,7 +247,7 @@ finished script h (Finish n s) d x run finish =
     let c : BufferId = is.2 in
     let f : FenceNo = is.3 in
     let found : find (is_early_with d.0) past ≡ Some (Early k t c f) = is.4 in
-    let has : has_fence d.0 (early_fences n.0 s.0 past) ≡ true = ap (λ (fs : List ℕ). has_fence d.0 fs) finish.fences ∙ rw (same-self d.0) refl in
+    let has : has_fence d.0 (early_fences n.0 s.0 past) ≡ true = ap (λ (fs : List ℕ). has_fence d.0 fs) finish.fences ∙ rw (own-number d.0) refl in
     let own = and_parts (k.0 == n.0) (t.0 == s.0) (fence-frame script past d.0 k t c f n.0 s.0 legal.1 found has) in
     let lent = lent-until script past d.0 k t c f legal.1 found is.5 in
     let out : is_at (place c.0 past) Pool ≡ false = ap (λ (o : Option Entry). is_at (place_after o) Pool) lent.last in
@@ -286,24 +277,24 @@ pictures_are script h step (Filled n s c f d) run =
     let e : Entry = Filled n s c f d in
     let legal = runs_legally script (with_move step (Filled n s c f d) h) run in
     let back = filled-back script past n s c f d legal.0 in
-    let low = out-low script past c.0 Device legal.1 refl (filled-from-device script past n s c f d legal.0) in
+    let low = away-low script past c.0 Device legal.1 refl (filled-from-device script past n s c f d legal.0) in
     let open_ = open-out script past n.0 s.0 c.0 back.target legal.1 back.out back.found in
     let shown = picture-kept script past (Filled n s c f d) n.0 s.0 legal (out-sent past n.0 s.0 c.0 back.out) refl ∙ picture-read script h n.0 s.0 open_ in
     named script past (Filled n s c f d) c.0 (Some (picture_by (parts script h) n.0 s.0)) legal refl (λ b other m u a g is. refl) low (λ b. refl) (ap (λ (y : List ℕ). Some y) shown)
 pictures_are script h step (Failed n s c f) run =
     let past = trace_of h in
     let legal = runs_legally script (with_move step (Failed n s c f) h) run in
-    named script past (Failed n s c f) c.0 None legal refl (λ b other m u a g is. refl) (out-low script past c.0 Device legal.1 refl (failed-from-device past n s c f legal.0)) (λ b. refl) refl
+    named script past (Failed n s c f) c.0 None legal refl (λ b other m u a g is. refl) (away-low script past c.0 Device legal.1 refl (failed-from-device past n s c f legal.0)) (λ b. refl) refl
 pictures_are script h step (Release c f) run =
     let past = trace_of h in
     let legal = runs_legally script (with_move step (Release c f) h) run in
-    named script past (Release c f) c.0 None legal refl (λ b other m u a g is. refl) (out-low script past c.0 Client legal.1 refl (at-client (place c.0 past) (release-is past c f legal.0).0)) (λ b. refl) refl
+    named script past (Release c f) c.0 None legal refl (λ b other m u a g is. refl) (away-low script past c.0 Client legal.1 refl (at-client (place c.0 past) (release-is past c f legal.0).0)) (λ b. refl) refl
 pictures_are script h step (Early n s c d) run =
     let past = trace_of h in
     let legal = runs_legally script (with_move step (Early n s c d) h) run in
     let number = (early-is script past n s c d legal.0).4 in
     let new : is_late d.0 past ≡ false = not-late script past d.0 legal.1 (omega (arith, number)) in
-    named script past (Early n s c d) c.0 None legal refl (λ b other m u a g is. refl) (out-low script past c.0 Device legal.1 refl (early-from-device script past n s c d legal.0)) (λ b. refl) (rw new refl)
+    named script past (Early n s c d) c.0 None legal refl (λ b other m u a g is. refl) (away-low script past c.0 Device legal.1 refl (early-from-device script past n s c d legal.0)) (λ b. refl) (rw new refl)
 pictures_are script h step (Late d x) run =
     finished script h step d x run (move-behind script h step (record { step = step; entry = Some (Late d x) }) run.0)
 pictures_are script h step e run =
@@ -315,10 +306,6 @@ pool-after : (script : Script) (past : List Entry) (o : Option Entry) → place_
 pool-after script past (Some (Filled n s c f d)) home = absurd (cc)
 pool-after script past (Some (Early n s c d)) home = absurd (cc)
 pool-after script past _ home = refl
-
-in-pool : (p : Place) → is_at p Pool ≡ true → p ≡ Pool
-in-pool Pool h = refl
-in-pool _ h = absurd (false≢true h)
 
 -- a number that isn't of the configuration shows nothing
 other-none : (script : Script) (past : List Entry) (b : ℕ) → IsLegal script past → ((first_buffer past ≤ b) × (b < first_buffer past + count_in (made past)) → ⊥) → client_picture script past b ≡ None

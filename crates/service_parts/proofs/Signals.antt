@@ -29,11 +29,10 @@ use Rattle.run_model.specs.Rows.{rows}
 use Rattle.run_model.specs.Run.{IsRun}
 use Rattle.device_rows.specs.Ready.{is_finish_ready}
 use Rattle.device_rows.specs.Rows.{row_at, target_at}
-use Rattle.bounded_runs.proofs.Entries.{same-self}
-use Rattle.bounded_runs.proofs.Legal.{runs_legally}
-use Rattle.buffer_facts.specs.Homes.{held_in, homes}
-use Rattle.past_facts.specs.Settled.{has_fence}
-use Rattle.past_facts.proofs.Settled.{fence-frame}
+use Rattle.run_model.proofs.Legal.{runs_legally}
+use Rattle.state_facts.specs.Homes.{held_in, homes}
+use Rattle.trace_laws.specs.Settled.{has_fence}
+use Rattle.trace_laws.proofs.Settled.{fence-frame}
 use Rattle.run_rows.specs.Entries.{finish_entry}
 use Rattle.run_rows.specs.Moves.{finish_move}
 use Rattle.run_rows.proofs.Finish.{finish_is, finish_ready}
@@ -42,7 +41,9 @@ use Rattle.run_rows.proofs.Frames.{row-found}
 use Rattle.service_parts.specs.Moves.{digest_by, early_fence_by, late_entry, move_by}
 use Rattle.service_parts.specs.Parts.{parts}
 use Rattle.service_parts.proofs.Lent.{Lent, lent-held, lent-until, same-fence}
-use Rattle.service_parts.proofs.Pictures.{digest-read, row-stands}
+use Rattle.service_parts.proofs.Pictures.{digest-read}
+use Rattle.run_rows.proofs.WorkJobs.{open-found}
+use Rattle.basic_lemmas.proofs.Tests.{own-number}
 
 -- ---- the early return of a fence that isn't signalled
 
@@ -64,7 +65,7 @@ held-by script past n s d rest None legal at found some = absurd (false≢true s
 held-by script past n s d rest (Some (Early m t b f)) legal at found some = elim (cases_Bool (is_late d past)) [
   | inl late ↦ (let some' = rw late at some in absurd (false≢true some'))
   | inr early ↦ (
-      let has : has_fence d (early_fences n s past) ≡ true = ap (λ (fs : List ℕ). has_fence d fs) at ∙ rw (same-self d) refl in
+      let has : has_fence d (early_fences n s past) ≡ true = ap (λ (fs : List ℕ). has_fence d fs) at ∙ rw (own-number d) refl in
       let own = and_parts (m.0 == n) (t.0 == s) (fence-frame script past d m t b f n s legal found has) in
       let fence : f.0 ≡ d = same-fence past d m t b f found in
       held-at script past n s d m t b f legal (lent-until script past d m t b f legal found early) fence (eqb-true m.0 n own.0) (eqb-true t.0 s own.1)
@@ -95,7 +96,7 @@ ready-open script h n s ready = elim (cases_Bool (is_open n (trace_of h))) [
 
 fence-read : (script : Script) (h : List Move) (n s d : ℕ) → is_open n (trace_of h) ≡ true → Held (trace_of h) n s d → early_fence_by (parts script h) n s ≡ Some (record { 0 = d })
 fence-read script h n s d open_ held =
-    let row = row-stands script h n open_ in
+    let row = open-found script h n open_ in
     ap (λ (o : Option RowView). option_and_then (λ (target : TargetView). held_in (homes (trace_of h)) target.buffer.0) (option_and_then (target_at s) o)) row
     ∙ (ap (λ (o : Option TargetView). option_and_then (λ (target : TargetView). held_in (homes (trace_of h)) target.buffer.0) o) (view-found script h n s held.target held.found)
     ∙ held.held)

@@ -15,13 +15,13 @@ use Rattle.trace_model.specs.Client.{is_empty}
 use Rattle.run_model.specs.declared.step.Move.{Move}
 use Rattle.run_model.specs.declared.step.StepName.{StepName}
 use Rattle.run_model.specs.declared.step.StepName.TheVariants.{Fail, ReturnFailed, Partial, Deliver, Finish}
-use Rattle.queue_facts.specs.Turns.{Turns, next_of}
-use Rattle.queue_facts.specs.Turns as queue
-use Rattle.buffer_facts.specs.Homes.{Homes, all_home, all_signalled, count_in, put_all}
-use Rattle.buffer_facts.specs.Homes as buffers
-use Rattle.client_facts.specs.Clients.{Clients}
-use Rattle.client_facts.specs.Clients as client
-use Rattle.queue_facts.specs.Turns.{repeats_next, settings_next}
+use Rattle.state_facts.specs.Turns.{Turns, next_of}
+use Rattle.state_facts.specs.Turns as queue
+use Rattle.state_facts.specs.Homes.{Homes, all_home, all_signalled, count_in, put_all}
+use Rattle.state_facts.specs.Homes as buffers
+use Rattle.state_facts.specs.Clients.{Clients}
+use Rattle.state_facts.specs.Clients as client
+use Rattle.state_facts.specs.Turns.{repeats_next, settings_next}
 use Rattle.state_facts.specs.States.{last_after}
 use Rattle.device_rows.specs.Rows.{row_at, target_in}
 use Rattle.run_rows.specs.Changes.{after}

@@ -15,9 +15,9 @@ use Rattle.run_model.specs.declared.step.Move.{Move}
 use Rattle.run_model.specs.declared.step.StepName.{StepName}
 use Rattle.run_model.specs.declared.step.StepName.TheVariants.{Send, Release, Signal, Client, DropQueued, Fail, ReturnFailed, Shutter, SensorDone, Partial, TakeFill, FillDone, Deliver, Early, Finish}
 use Rattle.run_model.specs.Ready.{adding, or_entry, silent, where_entry}
-use Rattle.queue_facts.specs.Turns.{next_of}
-use Rattle.buffer_facts.specs.Homes.{held_in, release_in, signal_in, signalled_in}
-use Rattle.client_facts.specs.Replies.{begin_in, call_in, may_repeat_in, stopping_in}
+use Rattle.state_facts.specs.Turns.{next_of}
+use Rattle.state_facts.specs.Homes.{held_in, release_in, signal_in, signalled_in}
+use Rattle.state_facts.specs.Replies.{begin_in, call_in, may_repeat_in, stopping_in}
 use Rattle.state_facts.specs.States.{drop_in, has_room_in, send_of, targets_in}
 use Rattle.device_rows.specs.Jobs.{fill_job_at, sensor_job_at}
 use Rattle.device_rows.specs.Ready.{is_delivery_ready, is_early_ready, is_failed_return_ready, is_fill_ready, is_finish_ready, next_error, next_part, shutter_row}

@@ -11,9 +11,9 @@ use Rattle.trace_model.specs.Shutter.{next_time}
 use Rattle.run_model.specs.declared.step.Move.{Move}
 use Rattle.run_model.specs.History.{trace_of}
 use Rattle.run_model.specs.Rows.{rows}
-use Rattle.queue_facts.specs.Turns.{Turns, no_turns, turns}
-use Rattle.buffer_facts.specs.Homes.{Homes, homes, no_homes}
-use Rattle.client_facts.specs.Clients.{Clients, clients, no_clients}
+use Rattle.state_facts.specs.Turns.{Turns, no_turns, turns}
+use Rattle.state_facts.specs.Homes.{Homes, homes, no_homes}
+use Rattle.state_facts.specs.Clients.{Clients, clients, no_clients}
 use Rattle.state_facts.specs.States.{State}
 use Rattle.service_parts.specs.Pictures.{pictures}
 

@@ -9,7 +9,7 @@ use Rattle.trace_model.specs.Configuration.{streams}
 use Rattle.trace_model.specs.Fence.{is_late}
 use Rattle.trace_model.specs.Frames.{settings_of}
 use Rattle.trace_model.specs.Place.{last_naming}
-use Rattle.buffer_facts.specs.Homes.{numbers}
+use Rattle.state_facts.specs.Homes.{numbers}
 
 -- The pictures that the client has (camera3.h, process_capture_result: a buffer without an error is filled;
 -- camera3_stream_buffer.release_fence: one with a fence is filled when that is signalled).

@@ -8,9 +8,20 @@
 //! (`picture_in`). So a service whose parts these are does what the run allows, and needs nothing of its past.
 #![tactic(auto)]
 
+mod job_laws;
 mod laws;
+mod service_laws;
 
+pub use job_laws::{
+    a_frame_has_one_job, a_move_gives_a_job_back, a_move_takes_a_job_out, few_jobs_are_out,
+    jobs_that_end_are_out, no_job_is_out_at_first, no_job_is_out_at_rest,
+    other_moves_leave_the_jobs, some_job_is_taken,
+};
 pub use laws::{
     each_move_changes_the_parts, each_step_is_read_from_the_parts,
     the_clients_pictures_are_read_from_the_parts, the_end_is_read_from_the_parts,
+};
+pub use service_laws::{
+    calls_can_be_taken, configurations_come_at_rest, fences_are_given, targets_are_placed,
+    there_is_room,
 };

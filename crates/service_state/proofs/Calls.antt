@@ -19,20 +19,20 @@ use Rattle.trace_model.specs.Frames.{no_settings}
 use Rattle.run_model.specs.declared.step.StepName.TheVariants.{Client}
 use Rattle.run_model.specs.History.{trace_of}
 use Rattle.run_model.specs.Ready.{or_entry}
-use Rattle.queue_facts.specs.Turns.{next_of, turns}
-use Rattle.queue_facts.specs.Turns as queue
-use Rattle.buffer_facts.specs.Homes.{Homes, all_home, configured as configured_with, count_in}
+use Rattle.state_facts.specs.Turns.{next_of, turns}
+use Rattle.state_facts.specs.Turns as queue
+use Rattle.state_facts.specs.Homes.{Homes, all_home, configured as configured_with, count_in}
 use Rattle.cam_types.specs.Refusals.{specs_refusal}
-use Rattle.stream_config.proofs.Accepted.{few_specs}
-use Rattle.buffer_facts.specs.Homes as buffers
-use Rattle.client_facts.specs.Clients as client
+use Rattle.request_checks.proofs.Accepted.{few_specs}
+use Rattle.state_facts.specs.Homes as buffers
+use Rattle.state_facts.specs.Clients as client
 use Rattle.client_calls.specs.Around.{Fits}
 use Rattle.capture_queue.specs.Captures.{CanTake}
-use Rattle.queue_facts.specs.Turns.{settings_next}
+use Rattle.state_facts.specs.Turns.{settings_next}
 use Rattle.state_facts.specs.States.{last_after}
 use Rattle.device_rows.specs.Rows.{all_stopped}
 use Rattle.run_rows.specs.Kept.{is_no_row}
-use Rattle.service_facts.specs.Facts.{IsConfigured, IsConfiguredBy}
+use Rattle.service_parts.specs.Facts.{IsConfigured, IsConfiguredBy}
 use Rattle.cam_types.specs.Four.{four_list, four_of}
 use Rattle.cam_types.specs.Profile.{pool_size}
 use Rattle.cam_types.specs.declared.profile.Profile.{Profile}
@@ -41,15 +41,14 @@ use Rattle.cam_types.specs.declared.script.Script.{Script}
 use Rattle.cam_types.specs.declared.stream.StreamSpec.{StreamSpec}
 use Rattle.trace_model.specs.Reply.{made_for}
 use Rattle.trace_model.specs.Calls.{is_repeating, is_waiting_command, request_count}
-use Rattle.client_facts.specs.Clients.{Clients}
-use Rattle.client_facts.specs.Replies.{begin_with, call_with, may_answer_in, reply_in}
+use Rattle.state_facts.specs.Clients.{Clients}
+use Rattle.state_facts.specs.Replies.{begin_with, call_with, may_answer_in, reply_in}
 use Rattle.capture_queue.specs.Room.{IsSubmitted}
 use Rattle.service_parts.specs.Parts.{kinds}
-use Rattle.client_calls.proofs.Places.{four_list_of}
 use Rattle.std.proofs.lemmas.List.FromFn.{length-map-range_with_len}
-use Rattle.service_facts.proofs.AtRest.{configured_home, configured_rest}
-use Rattle.service_facts.proofs.Room.{buffers_fit, requests_fit}
-use Rattle.service_facts.proofs.Taken.{call_taken}
+use Rattle.service_parts.proofs.AtRest.{configured_home, configured_rest}
+use Rattle.service_parts.proofs.Room.{buffers_fit, requests_fit}
+use Rattle.service_parts.proofs.Taken.{call_taken}
 use Rattle.service_parts.specs.After.{kinds_with, parts_after, pictures_with}
 use Rattle.service_parts.specs.Moves.{move_by}
 use Rattle.service_parts.specs.Parts.{Parts}
@@ -58,6 +57,7 @@ use Rattle.service_state.specs.Configuring.{CanTakeAt, due_in, is_configuration}
 use Rattle.service_state.specs.Serving.{IsServing, Serving}
 use Rattle.service_state.proofs.Made.{fits_next, makes, same_parts}
 use Rattle.service_state.proofs.Runs.{legal_left, legal_next, moves, rows_left, whole_left}
+use Rattle.trace_laws.proofs.Due.{four_list_of}
 
 pub due_ready : (s : Serving) (e : Entry) → due_in s ≡ Some e → move_by s.script s.parts Client ≡ Some (move_with Client (Some e))
 due_ready s e due = rw due refl

@@ -7,20 +7,20 @@ use Rattle.cam_types.specs.declared.script.Command.{Command}
 use Rattle.cam_types.specs.declared.script.Command.TheVariants.{Configure}
 use Rattle.cam_types.specs.declared.script.Script.{Script}
 use Rattle.cam_types.specs.declared.reply.Reply.TheVariants.{Configured}
-use Rattle.trace_bounds.specs.Typed.{is_typed}
+use Rattle.trace_laws.specs.Typed.{is_typed}
 use Rattle.trace_model.specs.declared.entry.Entry.{Entry}
 use Rattle.trace_model.specs.declared.entry.Entry.TheVariants.{Call}
 use Rattle.trace_model.specs.Calls.{command_at}
 use Rattle.trace_model.specs.Configuration.{streams, streams_of}
 use Rattle.trace_model.specs.Legal.{IsLegal}
 use Rattle.run_model.specs.History.{trace_of}
-use Rattle.buffer_facts.specs.Homes.{homes}
+use Rattle.state_facts.specs.Homes.{homes}
 use Rattle.client_calls.specs.Around.{Fits}
 use Rattle.state_facts.proofs.Fits.{numbers_fit}
-use Rattle.service_facts.specs.Facts.{IsConfiguredBy}
-use Rattle.service_facts.proofs.AtRest.{configured_home}
+use Rattle.service_parts.specs.Facts.{IsConfiguredBy}
+use Rattle.service_parts.proofs.AtRest.{configured_home}
 use Rattle.service_parts.specs.Parts.{Parts}
-use Rattle.stream_config.proofs.Accepted.{few_specs, offered_specs}
+use Rattle.request_checks.proofs.Accepted.{few_specs, offered_specs}
 use Rattle.service_state.specs.Serving.{IsOfRun}
 use Rattle.service_state.proofs.Runs.{legal_left}
 

@@ -6,19 +6,18 @@ use Rattle.cam_types.specs.declared.number.StreamIx.{StreamIx}
 use Rattle.cam_types.specs.declared.part.Part.{Part}
 use Rattle.cam_types.specs.declared.row.RowView.{RowView}
 use Rattle.cam_types.specs.declared.row.TargetView.{TargetView}
-use Rattle.inflight_table.specs.Marks.{marked}
-use Rattle.inflight_table.specs.declared.mark.Mark.TheVariants.{Announced, RequestError, ResultError}
+use Rattle.device_rows.specs.Marks.{marked}
+use Rattle.device_rows.specs.declared.mark.Mark.TheVariants.{Announced, RequestError, ResultError}
 use Rattle.trace_model.specs.declared.entry.Entry.{Entry}
 use Rattle.trace_model.specs.declared.entry.Entry.TheVariants.{ErrorBuffer, ErrorDevice, ErrorRequest, ErrorResult, Failed, Filled, Late, Partial as PartialEntry}
 use Rattle.run_model.specs.declared.step.Move.{Move}
 use Rattle.run_model.specs.declared.step.StepName.TheVariants.{Deliver, Fail, Finish, Partial, ReturnFailed}
-use Rattle.buffer_facts.specs.Homes.{Homes, held_in, signalled_in}
-use Rattle.buffer_facts.specs.Homes as buffers
-use Rattle.client_facts.specs.Clients.{Clients}
-use Rattle.client_facts.specs.Clients as client
+use Rattle.state_facts.specs.Homes.{Homes, held_in, signalled_in}
+use Rattle.state_facts.specs.Homes as buffers
+use Rattle.state_facts.specs.Clients as client
 use Rattle.client_calls.specs.Around.{Fits}
-use Rattle.error_notify.specs.declared.entry.ErrorEntry.{ErrorEntry}
-use Rattle.error_notify.specs.declared.entry.ErrorEntry.TheVariants.{Request, Result, Buffer, Device}
+use Rattle.device_rows.specs.declared.entry.ErrorEntry.{ErrorEntry}
+use Rattle.device_rows.specs.declared.entry.ErrorEntry.TheVariants.{Request, Result, Buffer, Device}
 use Rattle.device_rows.specs.Ready.{is_delivery_ready, is_failed_return_ready, is_finish_ready, is_retire_ready, next_error, next_part}
 use Rattle.device_rows.specs.Rows.{all_stopped, delivered, returned_failed, row_at, target_in, with_part, with_row}
 use Rattle.run_rows.specs.Entries.{error_entry, failed_fence}
@@ -65,9 +64,6 @@ parted s serving n k part at =
       fits = frame_fits s serving m (PartialEntry n k part) n (with_part k) is ready;
     }
 
-pub not_parted : (s : Serving) (n : FrameNo) → next_part s.script.faults s.parts.rows n.0 ≡ None → move_by s.script s.parts (Partial n) ≡ None
-not_parted s n at = rw at refl
-
 -- ---- filled buffers
 
 filled-frame : (p : Parts) (n : FrameNo) (t : StreamIx) (target : TargetView) (digest : List ℕ) → IsOfFrame p (move_with (Deliver n t) (Some (Filled n t target.buffer None digest))) (Filled n t target.buffer None digest) n (delivered t)
@@ -85,9 +81,6 @@ delivers s serving n t target digest bytes may at picture shown =
       fits = frame_fits s serving m e n (delivered t) is ready;
     }
 
-pub not_delivered : (s : Serving) (n : FrameNo) (t : StreamIx) → is_delivery_ready s.script.faults s.parts.rows n.0 t.0 ≡ false → move_by s.script s.parts (Deliver n t) ≡ None
-not_delivered s n t may = rw may refl
-
 -- ---- pictures of buffers that came back early
 
 late-frame : (p : Parts) (n : FrameNo) (t : StreamIx) (d : FenceNo) (digest : List ℕ) → IsOfFrame p (move_with (Finish n t) (Some (Late d digest))) (Late d digest) n (delivered t)
@@ -104,9 +97,6 @@ finishes s serving n t target d digest bytes may at held picture shown =
           (same_parts _ _ (sym (frame_client s serving m e n (delivered t) is)) refl refl refl (ap (λ (x : List ℕ). showing s.parts target.buffer.0 (Some x)) shown ∙ ap (λ (o : Option TargetView). showing_target s.parts o (picture_by s.parts n.0 t.0)) (sym at)) (sym (frame_rows s serving m e n (delivered t) is)) refl refl);
       fits = frame_fits s serving m e n (delivered t) is ready;
     }
-
-pub not_finished : (s : Serving) (n : FrameNo) (t : StreamIx) → is_finish_ready s.parts.rows n.0 t.0 ≡ false → move_by s.script s.parts (Finish n t) ≡ None
-not_finished s n t may = rw may refl
 
 -- ---- buffers in error
 

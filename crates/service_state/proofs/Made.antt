@@ -8,11 +8,11 @@ use Rattle.cam_types.specs.declared.item.Settings.{Settings}
 use Rattle.trace_model.specs.declared.entry.Entry.{Entry}
 use Rattle.run_model.specs.declared.step.Move.{Move}
 use Rattle.run_model.specs.declared.step.StepName.{StepName}
-use Rattle.queue_facts.specs.Turns.{next_of}
-use Rattle.client_facts.specs.Clients.{Clients}
-use Rattle.client_facts.specs.Clients as client
+use Rattle.state_facts.specs.Turns.{next_of}
+use Rattle.state_facts.specs.Clients.{Clients}
+use Rattle.state_facts.specs.Clients as client
 use Rattle.client_calls.specs.Around.{Fits}
-use Rattle.queue_facts.specs.Turns.{repeats_next, settings_next}
+use Rattle.state_facts.specs.Turns.{repeats_next, settings_next}
 use Rattle.device_rows.specs.Ready.{is_retire_ready}
 use Rattle.device_rows.specs.Rows.{row_at, with_row}
 use Rattle.run_rows.specs.Changes.{after}
@@ -23,7 +23,7 @@ use Rattle.service_state.specs.Answers.{Makes, Stays}
 use Rattle.service_state.specs.Serving.{IsServing, Serving, left, parts_of}
 use Rattle.capture_queue.specs.Captures.{Captures}
 use Rattle.buffer_manager.specs.Managed.{Managed}
-use Rattle.fence_tokens.specs.Fences.{FencesMade}
+use Rattle.buffer_pool.specs.Fences.{FencesMade}
 use Rattle.device_core.specs.View.{DeviceView}
 use Rattle.service_state.proofs.Endings.{KeepsFrame, ending_ends, ending_rows}
 use Rattle.service_state.proofs.Fitting.{fits_left}

@@ -15,12 +15,12 @@ use Rattle.cam_types.specs.declared.script.Fault.{Fault}
 use Rattle.cam_types.specs.declared.stream.StreamSpec.{StreamSpec}
 use Rattle.trace_model.specs.Configuration.{is_made}
 use Rattle.trace_model.specs.Place.{Device, is_at}
-use Rattle.buffer_facts.specs.Homes.{place_in}
+use Rattle.state_facts.specs.Homes.{place_in}
 use Rattle.buffer_manager.specs.Managed.{IsBufferAt}
 use Rattle.fill_jobs.specs.Buffers.{IsBufferFor}
 use Rattle.device_rows.specs.Ready.{is_delivery_ready, is_early_ready, is_failed_return_ready, is_finish_ready, is_sensor_out, is_state, may_deliver, may_go_early, may_return, may_return_failed, passes_at, target_passes}
 use Rattle.device_rows.specs.Rows.{row_at, target_at, target_in}
-use Rattle.service_facts.specs.Facts.{IsAwaited, is_early, is_of}
+use Rattle.service_parts.specs.Facts.{IsAwaited, is_early, is_of}
 use Rattle.service_state.specs.Serving.{IsServing, Serving}
 use Rattle.service_state.proofs.Room.{placed}
 

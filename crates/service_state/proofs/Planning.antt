@@ -6,9 +6,9 @@ use Rattle.cam_types.specs.Picture.{is_offered}
 use Rattle.cam_types.specs.declared.profile.Profile.{Profile}
 use Rattle.cam_types.specs.declared.stream.StreamSpec.{StreamSpec}
 use Rattle.device_store.specs.Stored.{spec_of, specs_of}
-use Rattle.stream_config.specs.Plan.{plan_of, plan_stream}
-use Rattle.stream_config.specs.declared.plan.Plan.{Plan}
-use Rattle.stream_config.proofs.InOrder.{in-order}
+use Rattle.request_checks.specs.Plan.{plan_of, plan_stream}
+use Rattle.request_checks.specs.declared.plan.Plan.{Plan}
+use Rattle.request_checks.proofs.InOrder.{in-order}
 
 each-planned : (p : Profile) (specs : List StreamSpec) → map spec_of (map (plan_stream p) specs) ≡ specs
 each-planned p [] = refl

@@ -15,10 +15,10 @@ use Rattle.trace_model.specs.Send.{targets_in_order}
 use Rattle.run_model.specs.Ready.{adding, or_entry, silent, where_entry}
 use Rattle.run_model.specs.declared.step.StepName.{StepName}
 use Rattle.run_model.specs.declared.step.StepName.TheVariants.{Client, FillDone, Finish, Send, Signal}
-use Rattle.queue_facts.specs.Turns.{next_of}
-use Rattle.buffer_facts.specs.Homes.{signalled_in}
+use Rattle.state_facts.specs.Turns.{next_of}
+use Rattle.state_facts.specs.Homes.{signalled_in}
 use Rattle.buffer_manager.specs.Taking.{least_targets_in}
-use Rattle.client_facts.specs.Replies.{begin_in, call_in}
+use Rattle.state_facts.specs.Replies.{begin_in, call_in}
 use Rattle.state_facts.specs.States.{send_of, targets_in}
 use Rattle.device_rows.specs.Jobs.{fill_job_in, fill_job_of, is_fill_out}
 use Rattle.device_rows.specs.Ready.{is_finish_ready, is_state, passes_at, target_passes}

@@ -8,24 +8,24 @@ use Rattle.cam_types.specs.declared.number.FrameNo.{FrameNo}
 use Rattle.cam_types.specs.declared.number.StreamIx.{StreamIx}
 use Rattle.cam_types.specs.declared.row.RowView.{RowView}
 use Rattle.cam_types.specs.declared.row.TargetView.{TargetView}
-use Rattle.trace_bounds.specs.Bounds.{early_bound, fence_bound}
+use Rattle.trace_laws.specs.Bounds.{early_bound, fence_bound}
 use Rattle.trace_model.specs.declared.entry.Entry.TheVariants.{Early as EarlyEntry, Release as ReleaseEntry, Shutter as ShutterEntry}
 use Rattle.trace_model.specs.Shutter.{next_time}
 use Rattle.run_model.specs.declared.step.StepName.TheVariants.{Early, Release, Shutter}
 use Rattle.run_model.specs.History.{trace_of}
 use Rattle.run_model.specs.Rows.{rows}
-use Rattle.buffer_facts.specs.Homes.{homes}
+use Rattle.state_facts.specs.Homes.{homes}
 use Rattle.device_rows.specs.Kept as fences
 use Rattle.device_rows.specs.Kept.{have_made_fences}
 use Rattle.device_rows.specs.Rows.{row_at, target_in}
 use Rattle.run_rows.specs.Kept.{has_given_fences}
 use Rattle.run_rows.proofs.Given.{fences_is}
-use Rattle.buffer_facts.proofs.Readings.{fences_are}
+use Rattle.state_facts.proofs.BufferReadings.{fences_are}
 use Rattle.state_facts.proofs.Fits.{numbers_fit}
-use Rattle.service_facts.specs.Facts.{IsPlaced}
-use Rattle.service_facts.proofs.Given.{fences_given}
-use Rattle.service_facts.proofs.Placed.{targets_placed}
-use Rattle.service_facts.proofs.Room.{earlies_fit, fences_fit}
+use Rattle.service_parts.specs.Facts.{IsPlaced}
+use Rattle.service_parts.proofs.Given.{fences_given}
+use Rattle.service_parts.proofs.Placed.{targets_placed}
+use Rattle.service_parts.proofs.Room.{earlies_fit, fences_fit}
 use Rattle.service_parts.specs.After.{parts_after}
 use Rattle.service_parts.specs.Moves.{move_by, settings_at}
 use Rattle.service_state.specs.Answers.{move_with}

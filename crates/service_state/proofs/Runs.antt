@@ -10,15 +10,15 @@ use Rattle.run_model.specs.History.{trace_of}
 use Rattle.run_model.specs.Ready.{move_of}
 use Rattle.run_model.specs.Rows.{rows}
 use Rattle.run_model.specs.Run.{IsRun}
-use Rattle.bounded_runs.proofs.Legal.{runs_legally}
+use Rattle.run_model.proofs.Legal.{runs_legally}
 use Rattle.run_rows.specs.Changes.{after, may_end}
 use Rattle.run_rows.specs.Kept.{frames_rise}
 use Rattle.run_rows.proofs.Counted.{frames_rise_is}
 use Rattle.run_rows.proofs.Moved.{changed_is}
 use Rattle.run_rows.proofs.Whole.{all-open, whole_is}
-use Rattle.queue_facts.specs.Turns.{settings_next}
-use Rattle.queue_facts.specs.Turns.{next_of}
-use Rattle.queue_facts.proofs.Readings.{next_is}
+use Rattle.state_facts.specs.Turns.{settings_next}
+use Rattle.state_facts.specs.Turns.{next_of}
+use Rattle.state_facts.proofs.Readings.{next_is}
 use Rattle.service_parts.specs.After.{parts_after, rows_after}
 use Rattle.service_parts.specs.Moves.{move_by}
 use Rattle.service_parts.specs.Parts.{Parts}

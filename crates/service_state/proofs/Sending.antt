@@ -13,13 +13,13 @@ use Rattle.trace_model.specs.Queue.{next as next_item}
 use Rattle.trace_model.specs.Send.{are_last, targets_in_order}
 use Rattle.run_model.specs.declared.step.StepName.TheVariants.{DropQueued, Send}
 use Rattle.run_model.specs.History.{trace_of}
-use Rattle.queue_facts.specs.Turns.{next_of, turns}
-use Rattle.queue_facts.specs.Turns as queue
-use Rattle.queue_facts.proofs.Readings.{next_is}
-use Rattle.buffer_facts.specs.Homes as buffers
-use Rattle.client_facts.specs.Clients as client
+use Rattle.state_facts.specs.Turns.{next_of, turns}
+use Rattle.state_facts.specs.Turns as queue
+use Rattle.state_facts.proofs.Readings.{next_is}
+use Rattle.state_facts.specs.Homes as buffers
+use Rattle.state_facts.specs.Clients as client
 use Rattle.client_calls.specs.Around.{Fits}
-use Rattle.queue_facts.specs.Turns.{settings_next}
+use Rattle.state_facts.specs.Turns.{settings_next}
 use Rattle.state_facts.specs.States.{targets_in}
 use Rattle.state_facts.proofs.Fits.{numbers_fit}
 use Rattle.run_rows.specs.Changes.{fresh_row, fresh_target, fresh_targets}
@@ -29,7 +29,7 @@ use Rattle.std.proofs.lemmas.Bool.{false≢true}
 use Rattle.cam_types.specs.declared.request.WaitingItem.{WaitingItem}
 use Rattle.cam_types.specs.declared.stream.StreamSpec.{StreamSpec}
 use Rattle.buffer_pool.specs.declared.parked.Parked.{Parked}
-use Rattle.buffer_facts.specs.Homes.{least_in, put_all}
+use Rattle.state_facts.specs.Homes.{least_in, put_all}
 use Rattle.buffer_manager.specs.Taking.{AreTaken, IsTakenAt, IsTakenFor, least_targets_in, target_with_fence}
 use Rattle.device_store.specs.Stored.{AreParked, IsParkedAt, IsParkedIn}
 use Rattle.trace_model.specs.Send.{with_target}
@@ -81,12 +81,6 @@ send_fits s serving next targets at ready =
     rw same (fits_next s serving m ready)
 
 -- ---- not ready
-
-pub nothing_next : (s : Serving) → next_of s.parts.queue ≡ None → move_by s.script s.parts Send ≡ None
-nothing_next s at = rw at refl
-
-pub may_not_go : (s : Serving) (next : Queued) → next_of s.parts.queue ≡ Some next → may_go_by s.script s.parts next ≡ false → move_by s.script s.parts Send ≡ None
-may_not_go s next at may = rw at (rw may refl)
 
 pub no_buffer : (s : Serving) (next : Queued) → next_of s.parts.queue ≡ Some next → targets_in (base s.parts) (targets_in_order next.item) ≡ None → move_by s.script s.parts Send ≡ None
 no_buffer s next at took = elim (cases_Bool (may_go_by s.script s.parts next)) [
@@ -150,10 +144,6 @@ same_targets p (t ∷ ts) = by (least_in p.buffers t) (same_targets p ts)
     by : (o : Option ℕ) → targets_in (base p) ts ≡ least_targets_in p.buffers ts → with_target (target_in (base p) t o) (targets_in (base p) ts) ≡ with_target (target_with_fence p.buffers t o) (least_targets_in p.buffers ts)
     by (Some b) rest = rw rest refl
     by None rest = refl
-
-pub no_fault : (o : Option ℕ) → is_none o ≡ true → o ≡ None
-no_fault None e = refl
-no_fault (Some k) e = absurd (false≢true e)
 
 parked-at : (specs : List StreamSpec) (sent : Option Sent) (parked : Option Parked) → IsTakenAt specs sent parked → IsParkedAt specs (option_map fresh_target sent) parked
 parked-at specs (Some sent) (Some parked) taken = by (slice_get specs sent.stream.0) taken

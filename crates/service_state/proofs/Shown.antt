@@ -15,7 +15,7 @@ use Rattle.cam_types.specs.declared.row.TargetState.TheVariants.{Waiting}
 use Rattle.cam_types.specs.declared.stream.StreamSpec.{StreamSpec}
 use Rattle.buffer_manager.specs.Managed.{fence_from}
 use Rattle.buffer_pool.specs.declared.parked.Parked.{Parked}
-use Rattle.fence_tokens.specs.Fences.{FencesMade, is_signalled}
+use Rattle.buffer_pool.specs.Fences.{FencesMade, is_signalled}
 use Rattle.fill_jobs.specs.Buffers.{IsBufferFor}
 use Rattle.trace_model.specs.Picture.{digest, digest_on}
 use Rattle.device_rows.specs.Kept.{has_made_fence, have_made_fences, is_made}
@@ -27,7 +27,7 @@ use Rattle.run_rows.specs.Kept.{has_given_fences}
 use Rattle.service_parts.specs.Moves.{settings_at}
 use Rattle.service_parts.specs.Pictures.{picture_on}
 
-all-at : (specs : List StreamSpec) (s : ℕ) (spec : StreamSpec) → list_all is_offered specs ≡ true → slice_get specs s ≡ Some spec → is_offered spec ≡ true
+pub all-at : (specs : List StreamSpec) (s : ℕ) (spec : StreamSpec) → list_all is_offered specs ≡ true → slice_get specs s ≡ Some spec → is_offered spec ≡ true
 all-at [] s spec all at = absurd (cc)
 all-at (x ∷ specs) zero spec all at =
     let same : x ≡ spec = cc in

@@ -3,7 +3,7 @@ use Rattle.std.proofs.Common.{arith, ◌≡◌, ◌<◌, ◌≤◌, ℕ, zero, s
 use Rattle.std.specs.List.{list_all}
 use Rattle.std.proofs.lemmas.Bool.{and_from, cases_Bool, false≢true}
 use Rattle.std.proofs.lemmas.Bool.Decides.{nat_tests}
-use Rattle.pending_signals.specs.Pending.{are_below, stands, without}
+use Rattle.buffer_pool.specs.Pending.{are_below, stands, without}
 use Rattle.service_state.specs.Serving.{unsignalled}
 
 -- ---- the numbers from n on

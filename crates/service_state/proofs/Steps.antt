@@ -13,10 +13,10 @@ use Rattle.trace_model.specs.declared.entry.Entry.TheVariants.{Dropped, Early as
 use Rattle.trace_model.specs.Place.{Client, is_at}
 use Rattle.trace_model.specs.Queue.{first_in}
 use Rattle.run_model.specs.declared.step.StepName.TheVariants.{DropQueued, Early, FillDone, Release, SensorDone, Shutter, Signal, TakeFill}
-use Rattle.queue_facts.specs.Turns as queue
-use Rattle.buffer_facts.specs.Homes.{held_in, place_in, release_in, signal_in, signalled_in, there_in}
-use Rattle.buffer_facts.specs.Homes as buffers
-use Rattle.client_facts.specs.Replies.{stopping_in}
+use Rattle.state_facts.specs.Turns as queue
+use Rattle.state_facts.specs.Homes.{held_in, place_in, signalled_in, there_in}
+use Rattle.state_facts.specs.Homes as buffers
+use Rattle.state_facts.specs.Replies.{stopping_in}
 use Rattle.device_rows.specs.Jobs.{fill_job_at, sensor_job_at}
 use Rattle.device_rows.specs.Ready.{is_early_ready, is_fill_ready, shutter_row}
 use Rattle.device_rows.specs.Rows.{exposed, fill_begun, fill_ended, gone_early, row_at, sensor_home, target_in, with_row}
@@ -36,9 +36,6 @@ released s serving b may f next =
     let ready : move_by s.script s.parts (Release b) ≡ Some m = rw (may, fence) refl in
     makes s (record s.parts { buffers = buffers.noted (ReleaseEntry b f) s.parts.buffers; pictures = showing s.parts b.0 None }) m ready
     (same_parts _ _ refl refl refl refl refl (sym (whole_left s.script s.parts serving.run m ready refl)) refl refl)
-
-pub not_released : (s : Serving) (b : BufferId) → (is_at (place_in s.parts.buffers b.0) Client && there_in s.parts.buffers (held_in s.parts.buffers b.0)) ≡ false → move_by s.script s.parts (Release b) ≡ None
-not_released s b may = rw may refl
 
 pub signalled : (s : Serving) → IsServing s → (f : FenceNo) → (nat_lt f.0 (length s.parts.buffers.signalled) && not (slice_index_or s.parts.buffers.signalled f.0 false)) ≡ true → Makes s (record { script = s.script; parts = record s.parts { buffers = buffers.noted (SignalEntry f) s.parts.buffers } }) (move_with (Signal f) (Some (SignalEntry f)))
 signalled s serving f may =
@@ -60,12 +57,6 @@ dropped s serving w n stops first next =
     makes s (record s.parts { queue = queue.noted s.script (Dropped n w.request w.index) s.parts.queue }) m ready
     (same_parts _ _ refl refl refl refl refl (sym (whole_left s.script s.parts serving.run m ready refl)) refl refl)
 
-pub none_stopping : (s : Serving) → stopping_in s.parts.client ≡ false → move_by s.script s.parts DropQueued ≡ None
-none_stopping s stops = rw stops refl
-
-pub none_waiting : (s : Serving) → stopping_in s.parts.client ≡ true → first_in s.parts.queue.waiting ≡ None → move_by s.script s.parts DropQueued ≡ None
-none_waiting s stops first = rw (stops, first) refl
-
 -- ---- exposures
 
 pub begun : (s : Serving) → IsServing s → (row : RowView) → shutter_row s.script.faults s.parts.rows ≡ Some row → Makes s (record { script = s.script; parts = record s.parts { rows = with_row row.frame.0 (exposed s.parts.clock) s.parts.rows; clock = s.parts.clock + max frame_time (settings_at (row_at row.frame.0 s.parts.rows)).exposure } }) (move_with Shutter (Some (ShutterEntry row.frame s.parts.clock)))
@@ -74,9 +65,6 @@ begun s serving row at =
     let ready : move_by s.script s.parts Shutter ≡ Some m = rw at refl in
     makes s (record s.parts { rows = with_row row.frame.0 (exposed s.parts.clock) s.parts.rows; clock = s.parts.clock + max frame_time (settings_at (row_at row.frame.0 s.parts.rows)).exposure }) m ready
     (same_parts _ _ refl refl refl refl refl (sym (whole_left s.script s.parts serving.run m ready refl)) refl refl)
-
-pub not_begun : (s : Serving) → shutter_row s.script.faults s.parts.rows ≡ None → move_by s.script s.parts Shutter ≡ None
-not_begun s at = rw at refl
 
 pub sensed : (s : Serving) → IsServing s → (job : JobView) → sensor_job_at job.frame.0 s.parts.rows ≡ Some job → Makes s (record { script = s.script; parts = record s.parts { rows = with_row job.frame.0 sensor_home s.parts.rows } }) (move_with (SensorDone job.frame) None)
 sensed s serving job out =
@@ -113,13 +101,3 @@ gone s serving n t target d early may at next =
     let ready : move_by s.script s.parts (Early n t) ≡ Some m = rw (early, may, at, fence) refl in
     makes s (record s.parts { buffers = buffers.noted (EarlyEntry n t target.buffer d) s.parts.buffers; pictures = showing s.parts target.buffer.0 None; rows = with_row n.0 (gone_early t) s.parts.rows }) m ready
     (same_parts _ _ refl refl refl refl refl (sym (whole_left s.script s.parts serving.run m ready refl)) refl refl)
-
-pub never_early : (s : Serving) (n : FrameNo) (t : StreamIx) → s.script.early ≡ false → move_by s.script s.parts (Early n t) ≡ None
-never_early s n t early = rw early refl
-
-pub not_early : (s : Serving) (n : FrameNo) (t : StreamIx) → is_early_ready s.script.faults s.parts.rows n.0 t.0 ≡ false → move_by s.script s.parts (Early n t) ≡ None
-not_early s n t may = by s.script.early
-  where
-    by : (b : Bool) → move_by (record s.script { early = b }) s.parts (Early n t) ≡ None
-    by true = rw may refl
-    by false = refl

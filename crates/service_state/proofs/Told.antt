@@ -4,12 +4,12 @@ use Rattle.std.proofs.Common.{◌≡◌, ◌&&◌, ℕ, Bool, true, false, List,
 use Rattle.cam_types.specs.declared.number.FrameNo.{FrameNo}
 use Rattle.cam_types.specs.declared.row.RowView.{RowView}
 use Rattle.cam_types.specs.declared.script.Fault.{Fault}
-use Rattle.error_notify.specs.declared.entry.ErrorEntry.{ErrorEntry}
-use Rattle.error_notify.specs.declared.entry.ErrorEntry.TheVariants.{Request, Result, Buffer, Device}
+use Rattle.device_rows.specs.declared.entry.ErrorEntry.{ErrorEntry}
+use Rattle.device_rows.specs.declared.entry.ErrorEntry.TheVariants.{Request, Result, Buffer, Device}
 use Rattle.cam_types.specs.declared.row.RowVerdict.{RowVerdict}
 use Rattle.cam_types.specs.declared.row.RowVerdict.TheVariants as verdict
-use Rattle.error_notify.specs.Next.{least, lost_buffer, missing_streams, next_due}
-use Rattle.flush_path.specs.Due.{verdict_of}
+use Rattle.device_rows.specs.Next.{least, lost_buffer, missing_streams, next_due}
+use Rattle.device_rows.specs.Due.{verdict_of}
 use Rattle.device_rows.specs.Faults.{faults_of}
 use Rattle.device_rows.specs.Ready.{error_of as error_in, fails_device_at, may_end_metadata, next_error}
 use Rattle.service_state.proofs.Shown.{found-frame}

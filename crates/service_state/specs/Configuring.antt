@@ -4,14 +4,14 @@ use Rattle.cam_types.specs.declared.reply.Reply.{Reply}
 use Rattle.cam_types.specs.declared.reply.Reply.TheVariants.{Configured}
 use Rattle.trace_model.specs.declared.entry.Entry.{Entry}
 use Rattle.run_model.specs.Ready.{or_entry}
-use Rattle.client_facts.specs.Replies.{begin_in, call_in}
+use Rattle.state_facts.specs.Replies.{begin_in, call_in}
 use Rattle.run_rows.specs.Kept.{is_no_row}
 use Rattle.service_state.specs.Serving.{Serving}
 use Rattle.cam_types.specs.declared.script.Command.{Command}
 use Rattle.cam_types.specs.declared.script.Command.TheVariants.{Configure}
 use Rattle.cam_types.specs.declared.script.Word.{Word}
 use Rattle.trace_model.specs.Calls.{word_of}
-use Rattle.queue_facts.specs.Turns.{Turns}
+use Rattle.state_facts.specs.Turns.{Turns}
 use Rattle.capture_queue.specs.Captures.{CanTake}
 
 -- A command that begins, or is answered.

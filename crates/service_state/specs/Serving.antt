@@ -2,13 +2,13 @@ use Rattle.std.specs.Prelude.{◌≡◌, ℕ, ◌+◌, Bool, true, false, List, 
 use Rattle.cam_types.specs.Script.{is_valid}
 use Rattle.cam_types.specs.declared.item.Settings.{Settings}
 use Rattle.cam_types.specs.declared.script.Script.{Script}
-use Rattle.trace_bounds.specs.Bounds.{early_bound, fence_bound}
-use Rattle.trace_bounds.specs.Typed.{is_typed}
+use Rattle.trace_laws.specs.Bounds.{early_bound, fence_bound}
+use Rattle.trace_laws.specs.Typed.{is_typed}
 use Rattle.run_model.specs.declared.step.Move.{Move}
 use Rattle.run_model.specs.Run.{IsRun}
-use Rattle.client_facts.specs.Clients.{Clients}
-use Rattle.fence_tokens.specs.Fences.{FencesMade}
-use Rattle.pending_signals.specs.Pending.{Pending}
+use Rattle.state_facts.specs.Clients.{Clients}
+use Rattle.buffer_pool.specs.Fences.{FencesMade}
+use Rattle.buffer_pool.specs.Pending.{Pending}
 use Rattle.capture_queue.specs.Captures.{Captures}
 use Rattle.buffer_manager.specs.Managed.{Managed, homes_with}
 use Rattle.device_core.specs.View.{DeviceView}

@@ -1,35 +1,35 @@
 //! The client's next command begins, or is answered.
 ghost use Rattle.std.specs.Prelude.{◌≡◌, ◌+◌, ◌<◌, ◌^◌, [], None, Some, IsTrue, length, true, if◌then◌else◌};
 ghost use Rattle.std.specs.List.{list_all};
-ghost use Rattle.buffer_facts.specs.Homes.{all_home};
+ghost use Rattle.state_facts.specs.Homes.{all_home};
 ghost use Rattle.buffer_manager.specs.Managed.{homes_with, is_given, reopened};
 ghost use Rattle.cam_types.specs.Profile.{is_profile};
 ghost use Rattle.cam_types.specs.Refusals.{specs_refusal};
 ghost use Rattle.client_calls.specs.Around.{IsAround};
 ghost use Rattle.device_core.specs.View.{with_plan, with_rows};
 ghost use Rattle.device_rows.specs.Rows.{all_stopped};
-ghost use Rattle.fence_tokens.specs.Fences.{made};
+ghost use Rattle.buffer_pool.specs.Fences.{made};
 ghost use Rattle.run_model.specs.declared.step.StepName.TheVariants.{Client};
 ghost use Rattle.run_rows.specs.Kept.{is_no_row};
 ghost use Rattle.service_state.specs.Answers.{Answers, Makes, move_with};
 ghost use Rattle.service_state.specs.Configuring.{CanTakeAt, IsAccepted, due_in, is_configuration};
 ghost use Rattle.capture_queue.specs.Room.{IsSubmitted};
-ghost use Rattle.queue_facts.specs.Turns.{noted};
+ghost use Rattle.state_facts.specs.Turns.{noted};
 ghost use Rattle.service_parts.specs.After.{kinds_with};
 ghost use Rattle.trace_model.specs.Calls.{command_at};
 ghost use Rattle.service_state.specs.Serving.{IsServing};
-ghost use Rattle.stream_config.specs.Plan.{plan_of};
+ghost use Rattle.request_checks.specs.Plan.{plan_of};
 ghost use Rattle.trace_model.specs.Configuration.{streams_of};
 ghost use Rattle.trace_model.specs.Entry.{is_stop_word};
 
 use crate::state::ServiceState;
 use buffer_manager::BufferManager;
+use buffer_pool::Fences;
 use cam_types::{Command, Profile, Reply, Script, SpecList, Word};
 use capture_queue::CaptureQueue;
 use client_calls::Around;
 use device_core::Device;
-use fence_tokens::Fences;
-use stream_config::check;
+use request_checks::check;
 use trace_model::Entry;
 
 impl ServiceState {

@@ -1,7 +1,7 @@
 //! The entry of a frame that may be its last.
 ghost use Rattle.std.specs.Prelude.{◌≡◌, ◌&&◌, false};
 ghost use Rattle.client_calls.specs.Around.{Fits};
-ghost use Rattle.client_facts.specs.Clients.{noted};
+ghost use Rattle.state_facts.specs.Clients.{noted};
 ghost use Rattle.device_core.specs.View.{with_rows};
 ghost use Rattle.device_rows.specs.Ready.{is_retire_ready};
 ghost use Rattle.device_rows.specs.Rows.{row_at};

@@ -8,7 +8,7 @@ ghost use Rattle.service_state.specs.Serving.{IsServing};
 use crate::end_frame::{note_end, repeats};
 use crate::state::ServiceState;
 use cam_types::FrameNo;
-use error_notify::ErrorEntry;
+use device_rows::ErrorEntry;
 use trace_model::Entry;
 
 impl ServiceState {

@@ -7,13 +7,12 @@ ghost use Rattle.service_state.specs.Serving.{IsServing, opened};
 
 use crate::state::ServiceState;
 use buffer_manager::BufferManager;
+use buffer_pool::{Fences, PendingSignals};
 use cam_types::{FIRST_SHUTTER, Fault, FaultList, NoMemory, Script};
 use capture_queue::CaptureQueue;
 use client_calls::ClientCalls;
 use device_core::Device;
-use fence_tokens::Fences;
-use pending_signals::PendingSignals;
-use script_bounds::{early_bound, fence_bound};
+use run_model::{early_bound, fence_bound};
 use std::alloc::Global;
 
 impl ServiceState {

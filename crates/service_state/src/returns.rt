@@ -7,8 +7,8 @@ ghost use Rattle.service_state.specs.Serving.{IsServing};
 
 use crate::end_frame::{note_end, repeats};
 use crate::state::ServiceState;
+use buffer_pool::Waiter;
 use cam_types::{FenceNo, FrameNo, StreamIx};
-use fence_tokens::Waiter;
 use trace_model::Entry;
 
 impl ServiceState {

@@ -13,7 +13,7 @@ ghost use Rattle.service_state.specs.Serving.{IsServing};
 use crate::state::ServiceState;
 use cam_types::{FRAME_TIME, FrameNo, RowView};
 use device_core::Device;
-use sensor_sim::{ExposedJob, SensorJob};
+use picture_stages::{ExposedJob, SensorJob};
 use trace_model::Entry;
 
 impl ServiceState {

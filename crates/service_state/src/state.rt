@@ -5,12 +5,11 @@ ghost use Rattle.trace_model.specs.Client.{is_empty};
 ghost use Rattle.service_parts.specs.After.{is_over};
 
 use buffer_manager::BufferManager;
+use buffer_pool::{Fences, PendingSignals};
 use cam_types::{Script, Settings};
 use capture_queue::CaptureQueue;
 use client_calls::ClientCalls;
 use device_core::Device;
-use fence_tokens::Fences;
-use pending_signals::PendingSignals;
 use std::marker::Model;
 
 /// The parts of a service: what its client has called, its queue, its buffers, its fences and its device. Each call

@@ -4,7 +4,7 @@ use Rattle.std.proofs.lemmas.Bool.{false≢true}
 use Rattle.cam_types.specs.declared.job.FillTarget.{FillTarget}
 use Rattle.cam_types.specs.declared.job.JobView.{JobView}
 use Rattle.cam_types.specs.declared.script.Script.{Script}
-use Rattle.job_moves.specs.Outs.{AreOut}
+use Rattle.service_parts.specs.Outs.{AreOut}
 use Rattle.run_model.specs.Jobs.{IsOutWith}
 use Rattle.run_model.specs.declared.step.Move.{Move}
 use Rattle.service_core.specs.Answers.{IsNoJobOut}

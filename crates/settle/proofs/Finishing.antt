@@ -5,14 +5,14 @@ use Rattle.cam_types.specs.declared.job.FillTarget.{FillTarget}
 use Rattle.cam_types.specs.declared.job.JobView.{JobView}
 use Rattle.cam_types.specs.declared.number.StreamIx.{StreamIx}
 use Rattle.cam_types.specs.declared.script.Script.{Script}
-use Rattle.job_hands.specs.Held.{held_at, name_of}
-use Rattle.job_hands.specs.declared.name.JobName.{JobName}
-use Rattle.job_moves.specs.Outs.{AreOut}
+use Rattle.fill_jobs.specs.Held.{held_at, name_of}
+use Rattle.fill_jobs.specs.declared.name.JobName.{JobName}
+use Rattle.service_parts.specs.Outs.{AreOut}
 use Rattle.run_model.specs.declared.step.Move.{Move}
 use Rattle.run_model.specs.declared.step.StepName.TheVariants.{FillDone, SensorDone}
 use Rattle.run_model.specs.Jobs.{IsJobOut, IsOutWith, is_fill_out, is_sensor_out}
 use Rattle.run_model.specs.Ready.{is_ready}
-use Rattle.room_log.specs.State.{State}
+use Rattle.run_model.specs.State.{State}
 use Rattle.service_core.specs.Answers.{after}
 use Rattle.settle.specs.Stepping.{EndsJob, IsFinishedBy, ends_a_job}
 

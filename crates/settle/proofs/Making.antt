@@ -16,11 +16,12 @@ use Rattle.run_model.specs.declared.step.StepName.TheVariants.{TakeFill}
 use Rattle.run_model.specs.Jobs.{IsJobOut}
 use Rattle.run_model.specs.Ready.{is_ready, move_of}
 use Rattle.run_model.specs.Run.{IsRun}
-use Rattle.room_log.specs.State.{State}
-use Rattle.job_hands.specs.Held.{fill_job_in, held_at, is_of_stream, sensor_job_in}
-use Rattle.job_moves.specs.Outs.{AreOut, Takes, TakesWith}
-use Rattle.job_moves.proofs.Held.{held-frame}
+use Rattle.run_model.specs.State.{State}
+use Rattle.fill_jobs.specs.Held.{fill_job_in, held_at, is_of_stream, sensor_job_in}
+use Rattle.service_parts.specs.Outs.{AreOut, Takes, TakesWith}
+use Rattle.service_parts.proofs.Held.{held-frame}
 use Rattle.service_core.specs.Answers.{after}
+use Rattle.service_parts.proofs.Moved.{fill-found}
 
 -- ---- the run with one more move
 
@@ -82,13 +83,6 @@ pub record IsFillOf (n : FrameNo) (s : StreamIx) (job : JobView) : Type 0 where
   pub frame : job.frame ≡ n
   pub stream : target.stream ≡ s
 
-fill-in : (s : ℕ) (o : Option JobView) (job : JobView) → fill_job_in s o ≡ Some job → (o ≡ Some job) × (is_of_stream s job.fill ≡ true)
-fill-in s None job h = absurd (cc)
-fill-in s (Some j) job h = elim (cases_Bool (is_of_stream s j.fill)) [
-  | inl y ↦ (let h' : Some j ≡ Some job = rw y at h in let same : j ≡ job = cc in (h', rw (← same) y))
-  | inr n ↦ (let h' = rw n at h in absurd (cc))
-]
-
 abbrev stream-of : ℕ → StreamIx
 stream-of n = record { 0 = n }
 
@@ -101,5 +95,5 @@ target-in n s job (Some t) is frame h = record { target = t; fill = is; frame = 
 
 pub fill_of : (jobs : List JobView) (job : JobView) (n : FrameNo) (s : StreamIx) → fill_job_in s.0 (held_at n.0 jobs) ≡ Some job → IsFillOf n s job
 fill_of jobs job n s h =
-    let found = fill-in s.0 (held_at n.0 jobs) job h in
+    let found = fill-found s.0 (held_at n.0 jobs) job h in
     target-in n s job job.fill refl (frame-same job.frame n (held-frame n.0 jobs job found.0)) found.1

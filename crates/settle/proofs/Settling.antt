@@ -10,8 +10,8 @@ use Rattle.run_model.specs.History.{trace_of}
 use Rattle.run_model.specs.Played.{candidates, move_at}
 use Rattle.run_model.specs.Ready.{move_of}
 use Rattle.trace_model.specs.Complete.{IsComplete}
-use Rattle.script_bounds.proofs.Few.{few}
-use Rattle.room_log.specs.State.{State}
+use Rattle.run_model.proofs.Few.{few}
+use Rattle.run_model.specs.State.{State}
 use Rattle.service_core.specs.Answers.{after}
 use Rattle.settle.specs.Stepping.{AreFirst, MakesPicked}
 
@@ -21,9 +21,6 @@ pub record Adds (old new : State) (count : ℕ) : Type 0 where
   pub many : length moves ≡ count
   pub left : new ≡ record { script = old.script; history = moves ++ old.history }
   pub first : AreFirst old.script moves old.history
-
-pub none_added : (old : State) → Adds old old 0
-none_added old = record { moves = []; many = refl; left = refl; first = tt }
 
 -- the move is of the first candidate of a run that isn't complete
 abbrev IsFirst : State → Move → Type 0

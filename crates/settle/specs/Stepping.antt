@@ -8,8 +8,8 @@ use Rattle.run_model.specs.declared.step.StepName.{StepName}
 use Rattle.run_model.specs.declared.step.StepName.TheVariants.{FillDone, SensorDone}
 use Rattle.run_model.specs.History.{trace_of}
 use Rattle.run_model.specs.Played.{candidates, move_at}
-use Rattle.room_log.specs.State.{State}
-use Rattle.job_moves.specs.Outs.{AreOut}
+use Rattle.run_model.specs.State.{State}
+use Rattle.service_parts.specs.Outs.{AreOut}
 use Rattle.service_core.specs.Answers.{Makes}
 use Rattle.settle.specs.declared.stepping.Stepped.{Stepped}
 use Rattle.settle.specs.declared.stepping.Stepped.TheVariants.{Done, Finished}

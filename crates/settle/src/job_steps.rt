@@ -1,17 +1,17 @@
 //! The steps that take a job out, which then is in the player's hands, and those that give one back: it is worked on
 //! just before.
 ghost use Rattle.std.specs.Prelude.{◌≡◌, Some, IsTrue, option_map, slice_get};
-ghost use Rattle.job_hands.specs.Held.{name_of};
+ghost use Rattle.fill_jobs.specs.Held.{name_of};
 ghost use Rattle.run_model.specs.declared.step.StepName.TheVariants.{FillDone, SensorDone, Shutter, TakeFill};
 ghost use Rattle.run_model.specs.Ready.{is_ready};
 ghost use Rattle.settle.specs.Stepping.{EndsJob, HoldsJobs, MakesStep};
 
 use cam_types::{FrameNo, StreamIx};
-use job_hands::{Hands, JobName, the_first_job_is_found_by_its_frame};
-use job_moves::{
+use fill_jobs::{Hands, JobName, the_first_job_is_found_by_its_frame};
+use service_core::{Service, Shuttered};
+use service_parts::{
     a_move_gives_a_job_back, a_move_takes_a_job_out, few_jobs_are_out, jobs_that_end_are_out,
 };
-use service_core::{Service, Shuttered};
 
 /// Begins an exposure.
 pub(crate) fn expose(service: &mut Service, hands: &mut Hands)

@@ -2,7 +2,7 @@
 //! and every history.
 ghost use Rattle.std.specs.Prelude.{◌≡◌, List, [], Some, length, IsTrue};
 ghost use Rattle.cam_types.specs.declared.script.Script.{Script as SomeScript};
-ghost use Rattle.job_moves.specs.Outs.{AreOut};
+ghost use Rattle.service_parts.specs.Outs.{AreOut};
 ghost use Rattle.run_model.specs.declared.step.Move.{Move as SomeMove};
 ghost use Rattle.run_model.specs.History.{trace_of};
 ghost use Rattle.run_model.specs.Played.{IsPlayedRun, chosen, pick_at};

@@ -5,9 +5,9 @@ ghost use Rattle.settle.specs.Stepping.{HoldsJobs, IsFinishedBy, IsSettledBy};
 
 use crate::job_steps::end_job;
 use crate::stepping::{Stepped, pick_step, step_at};
-use job_hands::Hands;
-use job_moves::{jobs_that_end_are_out, no_job_is_out_at_rest};
+use fill_jobs::Hands;
 use service_core::Service;
+use service_parts::{jobs_that_end_are_out, no_job_is_out_at_rest};
 
 /// Makes the steps that the picks choose until the run is complete. No job is out then.
 pub fn play(service: &mut Service, hands: &mut Hands)

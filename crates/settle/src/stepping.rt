@@ -3,17 +3,16 @@ ghost use Rattle.std.specs.Prelude.{◌≡◌, ◌<◌, ◌%◌, Some, length, I
 ghost use Rattle.run_model.specs.Played.{pick_at};
 ghost use Rattle.run_model.specs.Ready.{is_ready};
 ghost use Rattle.run_model.specs.History.{trace_of};
-ghost use Rattle.service_choice.specs.Candidates.{candidates_by};
+ghost use Rattle.service_core.specs.Candidates.{candidates_by};
 ghost use Rattle.service_state.specs.Serving.{IsServing};
 ghost use Rattle.trace_model.specs.Complete.{IsComplete};
 ghost use Rattle.settle.specs.Stepping.{AnswersPick, HoldsJobs, picked};
 
 use crate::steps::make;
-use job_hands::Hands;
-use never_stuck::a_run_is_never_stuck;
+use fill_jobs::Hands;
 use run_model::StepName;
-use service_choice::{candidate_at, candidate_count, candidates_are_read_from_the_parts};
-use service_core::Service;
+use run_rows::a_run_is_never_stuck;
+use service_core::{Service, candidate_at, candidate_count, candidates_are_read_from_the_parts};
 use service_state::ServiceState;
 
 /// What became of a step.

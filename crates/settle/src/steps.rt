@@ -1,14 +1,14 @@
 //! A step that is ready is made, whatever its kind.
 ghost use Rattle.std.specs.Prelude.{◌≡◌, false, IsTrue};
 ghost use Rattle.run_model.specs.Ready.{is_ready};
-ghost use Rattle.job_moves.specs.Outs.{moves_a_job};
+ghost use Rattle.service_parts.specs.Outs.{moves_a_job};
 ghost use Rattle.settle.specs.Stepping.{HoldsJobs, MakesStep};
 
 use crate::job_steps::{end_exposure, end_fill, expose, fill};
-use job_hands::Hands;
-use job_moves::other_moves_leave_the_jobs;
+use fill_jobs::Hands;
 use run_model::StepName;
 use service_core::{Service, Step};
+use service_parts::other_moves_leave_the_jobs;
 
 /// Makes a step that is ready.
 pub(crate) fn make(service: &mut Service, hands: &mut Hands, step: StepName)

@@ -12,11 +12,11 @@ use Rattle.run_model.specs.declared.step.StepName.TheVariants.{Shutter, SensorDo
 use Rattle.run_model.specs.History.{trace_of}
 use Rattle.run_model.specs.Played.{candidates, steps}
 use Rattle.run_model.specs.Ready.{is_ready, move_of}
-use Rattle.trace_bounds.proofs.Shapes.{found-passes}
-use Rattle.job_moves.specs.Outs.{moves_a_job, takes_a_job}
-use Rattle.service_choice.specs.Kinds.{first_of, is_of}
+use Rattle.service_parts.specs.Outs.{moves_a_job, takes_a_job}
+use Rattle.service_core.specs.Kinds.{first_of, is_of}
 use Rattle.shared_camera.specs.Choices.{first_of_kinds, or_step}
 use Rattle.shared_camera.specs.Moves.{are_alone, is_of_jobs}
+use Rattle.basic_lemmas.proofs.Lists.{found-passes}
 
 found-in : (q p : StepName → Bool) (xs : List StepName) (x : StepName) → find p (filter q xs) ≡ Some x → q x ≡ true
 found-in q p [] x h = absurd (cc)

@@ -2,7 +2,7 @@
 use Rattle.std.proofs.Common.{◌≡◌, List, [], subst, IsPermutation}
 use Rattle.cam_types.specs.declared.job.JobView.{JobView}
 use Rattle.cam_types.specs.declared.script.Script.{Script}
-use Rattle.job_moves.specs.Outs.{AreOut}
+use Rattle.service_parts.specs.Outs.{AreOut}
 use Rattle.run_model.specs.declared.step.Move.{Move}
 use Rattle.shared_camera.specs.JobsOut.{jobs_out}
 use Rattle.turn_lock.proofs.ForCallers.{idle}

@@ -4,9 +4,8 @@ use Rattle.std.proofs.lemmas.Bool.{and_parts, cases_Bool, eq-eqb, eqb-true, fals
 use Rattle.std.proofs.lemmas.List.Sorted.{IsPermutation-middle, IsPermutation-sym}
 use Rattle.cam_types.specs.declared.job.JobView.{JobView}
 use Rattle.cam_types.specs.declared.number.FrameNo.{FrameNo}
-use Rattle.job_hands.specs.Held.{IsWith, frames_differ, held_at, is_held}
-use Rattle.turn_lock.specs.Rule.{NoneTwice}
-use Rattle.turn_lock.proofs.JobLists.{contains_rest, none_twice_cons}
+use Rattle.fill_jobs.specs.Held.{IsWith, frames_differ, held_at, is_held}
+use Rattle.turn_lock.proofs.JobLists.{contains_rest}
 use Rattle.shared_camera.specs.JobsOut.{without_frame}
 
 -- ---- jobs that stand in the list
@@ -50,13 +49,6 @@ contained-found (x ∷ xs) job differ at =
           (λ (c : Contains xs job). rw other (contained-found xs job parts.1 c))
           (contains_rest x xs job at)
     ]
-
--- none stands there twice
-pub none-twice : (jobs : List JobView) → frames_differ jobs ≡ true → NoneTwice jobs
-none-twice [] differ = λ a b d lt lb e. omega arith
-none-twice (x ∷ xs) differ =
-    let parts = and_parts (not (is_held x.frame.0 xs)) (frames_differ xs) differ in
-    none_twice_cons x xs (λ c. false≢true (sym (not-true (is_held x.frame.0 xs) parts.0) ∙ contained-held xs x c)) (none-twice xs parts.1)
 
 -- ---- the list without a frame's job
 

@@ -8,21 +8,19 @@ use Rattle.run_model.specs.declared.step.Kind.{Kind}
 use Rattle.run_model.specs.declared.step.Kind.TheVariants as kind
 use Rattle.run_model.specs.declared.step.Move.{Move}
 use Rattle.run_model.specs.declared.step.StepName.{StepName}
-use Rattle.run_model.specs.declared.step.StepName.TheVariants.{Shutter, SensorDone, TakeFill, FillDone}
+use Rattle.run_model.specs.declared.step.StepName.TheVariants.{Shutter, TakeFill}
 use Rattle.run_model.specs.Played.{candidates}
-use Rattle.run_model.specs.Ready.{move_of}
-use Rattle.room_log.specs.State.{State}
-use Rattle.job_moves.specs.Outs.{Takes, TakesWith}
-use Rattle.service_choice.specs.Kinds.{first_of}
-use Rattle.service_core.specs.Answers.{AnswersStep, Makes, adds, silent}
+use Rattle.run_model.specs.State.{State}
+use Rattle.service_parts.specs.Outs.{Takes, TakesWith}
+use Rattle.service_core.specs.Kinds.{first_of}
+use Rattle.service_core.specs.Answers.{AnswersStep, adds, silent}
 use Rattle.service_core.specs.Jobs.{AnswersShutter, AnswersTake}
 use Rattle.service_core.specs.declared.sensor.Shuttered.{Shuttered}
 use Rattle.service_core.specs.declared.sensor.Shuttered.TheVariants.{Began, NotBegun}
 use Rattle.service_core.specs.declared.step.Step.{Step}
 use Rattle.service_core.specs.declared.step.Step.TheVariants.{Did, NotReady}
-use Rattle.shared_camera.specs.Moves.{AnswersChoice, AnswersExposure, AnswersFilling, Returns}
+use Rattle.shared_camera.specs.Moves.{AnswersChoice, AnswersExposure, AnswersFilling}
 use Rattle.shared_camera.specs.Choices.{first_of_kinds}
-use Rattle.shared_camera.specs.Turns.{GivesWith}
 use Rattle.shared_camera.proofs.Firsts.{chosen-moves, first-moves, first-of-kind, is-shutter}
 
 -- the first ready step of the kind
@@ -65,17 +63,3 @@ filling-made n s old new (Some job) first told = record {
 filling-made n s old new None first told = absurd (first-moves old.script old.history kind.TakeFill (TakeFill n s) first told.unready)
 
 -- ---- a job that comes back
-
-pub exposure-ended : (job : JobView) (old new : State) → job.fill ≡ None → Makes (silent (SensorDone job.frame)) old new → Returns job old new
-exposure-ended job old new none made = record {
-  move = silent (SensorDone job.frame);
-  gives = subst (λ (o : Option FillTarget). GivesWith (silent (SensorDone job.frame)) job o) (sym none) refl;
-  made = made;
-}
-
-pub fill-ended : (job : JobView) (target : FillTarget) (old new : State) → job.fill ≡ Some target → IfSome job.fill (λ t. Makes (silent (FillDone job.frame t.stream)) old new) → Returns job old new
-fill-ended job target old new some made = record {
-  move = silent (FillDone job.frame target.stream);
-  gives = subst (λ (o : Option FillTarget). GivesWith (silent (FillDone job.frame target.stream)) job o) (sym some) refl;
-  made = subst (λ (o : Option FillTarget). IfSome o (λ t. Makes (silent (FillDone job.frame t.stream)) old new)) some made;
-}

@@ -11,7 +11,7 @@ use Rattle.trace_model.specs.declared.entry.Entry.{Entry}
 use Rattle.trace_model.specs.declared.entry.Entry.TheVariants.{Shutter as ShutterEntry}
 use Rattle.trace_model.specs.declared.entry.Sent.{Sent}
 use Rattle.trace_model.specs.Configuration.{streams}
-use Rattle.trace_model.specs.Frames.{settings_of, target_of}
+use Rattle.trace_model.specs.Frames.{target_of}
 use Rattle.run_model.specs.declared.step.Move.{Move}
 use Rattle.run_model.specs.declared.step.StepName.{StepName}
 use Rattle.run_model.specs.declared.step.StepName.TheVariants.{Shutter, SensorDone, TakeFill, FillDone}
@@ -19,18 +19,17 @@ use Rattle.run_model.specs.History.{is_silent, trace_of}
 use Rattle.run_model.specs.Jobs.{IsFillJob, IsJobOut, IsOutWith, IsSensorJob, is_fill_out, is_sensor_out}
 use Rattle.run_model.specs.Ready.{move_of}
 use Rattle.run_model.specs.Run.{IsRun}
-use Rattle.bounded_runs.proofs.Legal.{adds-none}
-use Rattle.job_hands.specs.Held.{IsWith, held_at}
-use Rattle.job_moves.specs.Outs.{AreOut, Takes, TakesWith, moves_a_job, takes_a_job}
-use Rattle.job_moves.proofs.Given.{fill-job, fill-out, some_taken}
-use Rattle.job_moves.proofs.Moved.{gives-back, none_at_first, none_before, others_leave, takes_out}
-use Rattle.job_moves.proofs.Held.{first-held}
-use Rattle.job_moves.proofs.Shapes.{silent-none}
-use Rattle.turn_lock.specs.Rule.{NoneTwice}
+use Rattle.run_model.proofs.Legal.{adds-none}
+use Rattle.fill_jobs.specs.Held.{IsWith}
+use Rattle.service_parts.specs.Outs.{AreOut, Takes, TakesWith, moves_a_job, takes_a_job}
+use Rattle.service_parts.proofs.JobGiven.{fill-job, fill-out, some_taken}
+use Rattle.service_parts.proofs.Moved.{gives-back, none_at_first, none_before, others_leave, takes_out}
+use Rattle.service_parts.proofs.Held.{first-held}
+use Rattle.service_parts.proofs.JobShapes.{silent-none}
 use Rattle.service_core.specs.Answers.{IsNoJobOut}
 use Rattle.shared_camera.specs.JobsOut.{after_step, exposed_by, filled_by, filling, job_on, jobs_out, with_job, without_frame}
 use Rattle.shared_camera.specs.Turns.{Gives, GivesWith}
-use Rattle.shared_camera.proofs.Lists.{contained-found, none-twice, not-contained, one-less, with-permuted}
+use Rattle.shared_camera.proofs.Lists.{contained-found, not-contained, one-less, with-permuted}
 
 -- ---- the job that a move takes out
 
@@ -102,9 +101,6 @@ are_out script [] run = none_at_first script
 are_out script (m ∷ h) run = by-step script m h m.step (jobs_out script h) refl run (are_out script h run.1)
 
 -- ---- what a turn asks
-
-pub none-twice-out : (script : Script) (h : List Move) → IsRun script h → NoneTwice (jobs_out script h)
-none-twice-out script h run = none-twice (jobs_out script h) (are_out script h run).once
 
 -- a job in the list is out
 pub contained-out : (script : Script) (h : List Move) (job : JobView) → IsRun script h → Contains (jobs_out script h) job → IsJobOut script h job

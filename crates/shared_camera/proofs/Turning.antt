@@ -7,11 +7,9 @@ use Rattle.std.proofs.lemmas.List.Sorted.{Contains-permutation, IsPermutation-re
 use mathlib.Core.List.{IsPrefix}
 use Rattle.cam_types.specs.declared.job.JobView.{JobView}
 use Rattle.cam_types.specs.declared.script.Script.{Script}
-use Rattle.trace_model.specs.declared.entry.Entry.{Entry}
 use Rattle.run_model.specs.declared.step.Kind.{Kind}
 use Rattle.run_model.specs.declared.step.Kind.TheVariants as kind
 use Rattle.run_model.specs.declared.step.Move.{Move}
-use Rattle.run_model.specs.declared.step.StepName.{StepName}
 use Rattle.run_model.specs.declared.step.StepName.TheVariants.{Shutter}
 use Rattle.trace_model.specs.Complete.{IsComplete}
 use Rattle.run_model.specs.History.{trace_of}
@@ -19,16 +17,15 @@ use Rattle.run_model.specs.Jobs.{IsJobOut}
 use Rattle.run_model.specs.Played.{candidates}
 use Rattle.run_model.specs.Ready.{move_of}
 use Rattle.run_model.specs.Run.{IsRun}
-use Rattle.room_log.specs.State.{State}
-use Rattle.job_moves.specs.Outs.{Takes, moves_a_job, takes_a_job}
-use Rattle.service_choice.specs.Kinds.{first_of}
+use Rattle.run_model.specs.State.{State}
+use Rattle.service_parts.specs.Outs.{moves_a_job, takes_a_job}
+use Rattle.service_core.specs.Kinds.{first_of}
 use Rattle.service_core.specs.Answers.{Makes, after}
 use Rattle.service_core.specs.declared.sensor.Shuttered.{Shuttered}
 use Rattle.service_core.specs.declared.sensor.Shuttered.TheVariants.{Began, NotBegun}
 use Rattle.service_core.specs.declared.step.Step.{Step}
 use Rattle.service_core.specs.declared.step.Step.TheVariants.{Did, NotReady}
 use Rattle.turn_lock.specs.declared.view.View.{View}
-use Rattle.turn_lock.specs.Rule.{NoneTwice}
 use Rattle.turn_lock.specs.Turns.{Enters, MayLeave, Leaves}
 use Rattle.turn_lock.proofs.Beginnings.{begins_itself, begins_through}
 use Rattle.turn_lock.proofs.ForCallers.{may_leave, may_leave_with, may_leave_without, own_jobs, own_jobs_with, own_jobs_without}
@@ -39,7 +36,7 @@ use Rattle.shared_camera.specs.Turns.{AnswersShutterTurn, AnswersTakeTurn, Answe
 use Rattle.shared_camera.specs.Choices.{Choice, first_of_kinds}
 use Rattle.shared_camera.specs.Moves.{AnswersChoice, AnswersExposure, AnswersFilling, Lends, MakesChosen, Returns, Waits, are_alone}
 use Rattle.shared_camera.proofs.Firsts.{chosen-alone, first-of-kind, is-shutter, is-taking}
-use Rattle.shared_camera.proofs.Outs.{contained-out, none-twice-out, one-fewer, one-more, same-jobs}
+use Rattle.shared_camera.proofs.Outs.{contained-out, one-fewer, one-more, same-jobs}
 
 abbrev camera : State → Camera
 camera s = record { service = s }

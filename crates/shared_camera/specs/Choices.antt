@@ -2,7 +2,7 @@
 use Rattle.std.specs.Prelude.{List, [], ◌∷◌, Option, Some, None}
 use Rattle.run_model.specs.declared.step.Kind.{Kind}
 use Rattle.run_model.specs.declared.step.StepName.{StepName}
-use Rattle.service_choice.specs.Kinds.{first_of}
+use Rattle.service_core.specs.Kinds.{first_of}
 
 -- a choice among the steps that are ready
 abbrev pub Choice : Type 0

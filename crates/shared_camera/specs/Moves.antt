@@ -8,9 +8,9 @@ use Rattle.run_model.specs.declared.step.Kind.TheVariants as kind
 use Rattle.run_model.specs.declared.step.Move.{Move}
 use Rattle.run_model.specs.Jobs.{IsJobOut}
 use Rattle.run_model.specs.Played.{candidates}
-use Rattle.job_moves.specs.Outs.{Takes}
-use Rattle.room_log.specs.State.{State}
-use Rattle.service_choice.specs.Kinds.{first_of}
+use Rattle.service_parts.specs.Outs.{Takes}
+use Rattle.run_model.specs.State.{State}
+use Rattle.service_core.specs.Kinds.{first_of}
 use Rattle.service_core.specs.Answers.{Makes}
 use Rattle.service_core.specs.declared.sensor.Shuttered.{Shuttered}
 use Rattle.service_core.specs.declared.sensor.Shuttered.TheVariants.{Began, NotBegun}

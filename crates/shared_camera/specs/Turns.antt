@@ -13,8 +13,8 @@ use Rattle.run_model.specs.Jobs.{IsJobOut}
 use Rattle.run_model.specs.Played.{candidates}
 use Rattle.run_model.specs.Ready.{move_of}
 use Rattle.run_model.specs.Run.{IsRun}
-use Rattle.job_moves.specs.Outs.{Takes}
-use Rattle.service_choice.specs.Kinds.{first_of}
+use Rattle.service_parts.specs.Outs.{Takes}
+use Rattle.service_core.specs.Kinds.{first_of}
 use Rattle.service_core.specs.declared.sensor.Shuttered.{Shuttered}
 use Rattle.service_core.specs.declared.sensor.Shuttered.TheVariants.{Began, NotBegun}
 use Rattle.turn_lock.specs.declared.view.View.{View}

@@ -9,7 +9,7 @@ use crate::camera::CamSeat;
 use crate::moves::{end_exposure, end_fill, expose, take_first};
 use crate::shared::Shared;
 use fill_jobs::{FillJob, FilledJob};
-use sensor_sim::ExposedJob;
+use picture_stages::ExposedJob;
 use service_core::Shuttered;
 use std::sync::Wait;
 

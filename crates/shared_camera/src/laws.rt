@@ -1,7 +1,7 @@
 //! Laws on the jobs that are out: functions that do nothing, and whose contracts hold of every run.
 ghost use Rattle.std.specs.Prelude.{List, [], IsPermutation};
 ghost use Rattle.cam_types.specs.declared.script.Script.{Script as SomeScript};
-ghost use Rattle.job_moves.specs.Outs.{AreOut};
+ghost use Rattle.service_parts.specs.Outs.{AreOut};
 ghost use Rattle.run_model.specs.Run.{IsRun};
 ghost use Rattle.run_model.specs.declared.step.Move.{Move as SomeMove};
 ghost use Rattle.shared_camera.specs.JobsOut.{jobs_out};

@@ -2,15 +2,14 @@
 ghost use Rattle.std.specs.Prelude.{◌≡◌, None, Some, IsTrue};
 ghost use Rattle.run_model.specs.Jobs.{IsJobOut};
 ghost use Rattle.run_model.specs.Played.{candidates};
-ghost use Rattle.service_choice.specs.Kinds.{first_of};
+ghost use Rattle.service_core.specs.Kinds.{first_of};
 ghost use Rattle.shared_camera.specs.Choices.{first_of_kinds};
 ghost use Rattle.shared_camera.specs.Moves.{AnswersChoice, AnswersExposure, AnswersFilling, Returns, are_alone};
 
 use fill_jobs::{FillJob, FilledJob};
+use picture_stages::ExposedJob;
 use run_model::{Kind, StepName};
-use sensor_sim::ExposedJob;
-use service_choice::first;
-use service_core::{Service, Shuttered, Step};
+use service_core::{Service, Shuttered, Step, first};
 
 /// Makes the first ready step of the first of these kinds that has one. They are of no job.
 pub(crate) fn make_first(service: &mut Service, kinds: &[Kind]) -> Step

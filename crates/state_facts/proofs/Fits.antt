@@ -1,5 +1,5 @@
 -- Each number of the state of a legal run of a valid script fits its type.
-use Rattle.std.proofs.Common.{◌≡◌, ℕ, ◌==◌, ◌+◌, ◌^◌, ◌%◌, ◌<◌, ◌≤◌, Bool, true, ◌&&◌, not, List, [], ◌∷◌, Option, Some, None, refl, arith, inl, inr, filter, find, length, map, nat_le, nat_lt, append-nil}
+use Rattle.std.proofs.Common.{◌≡◌, ℕ, ◌==◌, ◌+◌, ◌^◌, ◌%◌, ◌<◌, ◌≤◌, Bool, true, ◌&&◌, not, List, [], ◌∷◌, Option, Some, None, refl, ◌∙◌, arith, inl, inr, filter, length, map, nat_le, nat_lt, append-nil}
 use Rattle.std.specs.List.{list_all}
 use Rattle.std.proofs.Math.Nat.{mod-le}
 use Rattle.std.proofs.lemmas.Bool.{and_from, and_parts, cases_Bool, eqb-true}
@@ -24,35 +24,36 @@ use Rattle.trace_model.specs.Frames.{frames, is_repeating_frame, is_sent, send_o
 use Rattle.trace_model.specs.Legal.{IsLegal}
 use Rattle.trace_model.specs.Configuration.{made}
 use Rattle.trace_model.specs.Numbers.{next_number}
-use Rattle.trace_model.specs.Open.{early_fences, is_done, is_open}
+use Rattle.trace_model.specs.Open.{early_fences, is_done}
 use Rattle.trace_model.specs.Partial.{part_count}
 use Rattle.trace_model.specs.Place.{last_naming}
 use Rattle.trace_model.specs.Printable.{fence_fits, is_filled, is_printable, is_small, sent_fits}
 use Rattle.trace_model.specs.Queue.{is_taken, named, queued, queued_items, repeating, sent_for, submitted}
 use Rattle.trace_model.specs.Send.{repeated_since_call}
 use Rattle.trace_model.specs.Shutter.{next_time}
-use Rattle.trace_bounds.specs.Bounds.{time_bound}
-use Rattle.trace_bounds.specs.Typed.{is_typed}
-use Rattle.trace_bounds.proofs.Calls.{calls_bounded, requests_bounded}
-use Rattle.trace_bounds.proofs.EarlyLemmas.{earlies_bounded}
-use Rattle.trace_bounds.proofs.FenceLemmas.{fences_bounded}
-use Rattle.trace_bounds.proofs.FrameLemmas.{frames_bounded, sends_bounded}
-use Rattle.trace_bounds.proofs.NextFits.{all-kept, at-all}
-use Rattle.trace_bounds.proofs.Printing.{prints_all}
-use Rattle.trace_bounds.proofs.RepeatLemmas.{repeating-stands}
-use Rattle.trace_bounds.proofs.StreamLemmas.{few-made, low-fits, made-all-low}
-use Rattle.trace_bounds.proofs.TimeLemmas.{next-time-bounded}
-use Rattle.trace_bounds.proofs.ValidLemmas.{Valid, bounds_most, queues_few, valid}
-use Rattle.frame_laws.proofs.Parts.{part-is}
-use Rattle.frame_laws.proofs.Sends.{all-sent, sent-below}
-use Rattle.frame_laws.proofs.Submitted.{request-number}
-use Rattle.queue_facts.specs.Turns.{placed}
-use Rattle.buffer_facts.specs.Homes.{numbers}
-use Rattle.buffer_facts.proofs.Readings.{earlies_are, fences_are, made_is}
-use Rattle.row_facts.specs.Rows.{row, rows, slot}
+use Rattle.trace_laws.specs.Bounds.{time_bound}
+use Rattle.trace_laws.specs.Typed.{is_typed}
+use Rattle.trace_laws.proofs.Calls.{calls_bounded, requests_bounded}
+use Rattle.trace_laws.proofs.EarlyLemmas.{earlies_bounded}
+use Rattle.trace_laws.proofs.FenceLemmas.{fences_bounded}
+use Rattle.trace_laws.proofs.FrameLemmas.{frames_bounded, sends_bounded}
+use Rattle.trace_laws.proofs.Printing.{prints_all}
+use Rattle.trace_laws.proofs.RepeatLemmas.{repeating-stands}
+use Rattle.trace_laws.proofs.StreamLemmas.{few-made, low-fits, made-all-low}
+use Rattle.trace_laws.proofs.TimeLemmas.{next-time-bounded}
+use Rattle.trace_laws.proofs.ValidLemmas.{Valid, bounds_most, queues_few, valid}
+use Rattle.trace_laws.proofs.Parts.{part-is}
+use Rattle.trace_laws.proofs.Sends.{sent-below}
+use Rattle.trace_laws.proofs.Submitted.{request-number}
+use Rattle.state_facts.specs.Turns.{placed}
+use Rattle.state_facts.specs.Homes.{numbers}
+use Rattle.state_facts.proofs.BufferReadings.{earlies_are, fences_are, made_is}
+use Rattle.state_facts.specs.Row.{in_order, is_open_row, open_rows, row_of, target_at}
+use Rattle.state_facts.proofs.Order.{order-sent}
 use Rattle.state_facts.specs.States.{state}
-use Rattle.state_facts.specs.Fits.{NumbersFit, row_fits, slot_fits, time_fits, turn_fits, waiting_fits}
+use Rattle.state_facts.specs.Fits.{NumbersFit, row_fits, target_fits, time_fits, turn_fits, waiting_fits}
 use Rattle.basic_lemmas.proofs.Counts.{count-cons, count-one, count-over}
+use Rattle.basic_lemmas.proofs.Lists.{all-filtered, all-at, all-map, all-mapped, all-found, all-where}
 
 small : (n m : ℕ) → n ≤ m → m ≤ 300000 → is_small n ≡ true
 small n m l k = grind (arith, nat_tests)
@@ -70,7 +71,7 @@ named-fit r k (item ∷ items) h few =
 
 items-few : (script : Script) (i : ℕ) (o : Option Command) → Valid script → command_at script i ≡ o → length (queued_items o) ≤ 32
 items-few script i None v at = omega arith
-items-few script i (Some c) v at = queues_few c (at-all command_fits script.commands i c v.fit at)
+items-few script i (Some c) v at = queues_few c (all-at command_fits script.commands i c v.fit at)
 
 submitted-fit : (script : Script) (past : List Entry) → Valid script → IsLegal script past → list_all waiting_fits (submitted script past) ≡ true
 submitted-fit script [] v legal = refl
@@ -84,7 +85,7 @@ submitted-fit script (Call i word (Submitted q) ∷ past) v legal =
 submitted-fit script (e ∷ past) v legal = rw (append-nil (submitted script past)) (submitted-fit script past v legal.1)
 
 queued-fit : (script : Script) (past : List Entry) → Valid script → IsLegal script past → list_all waiting_fits (queued script past) ≡ true
-queued-fit script past v legal = all-kept waiting_fits (λ w. not (is_taken past w)) (submitted script past) (submitted-fit script past v legal)
+queued-fit script past v legal = all-filtered waiting_fits (λ w. not (is_taken past w)) (submitted script past) (submitted-fit script past v legal)
 
 sent-few : (r : ℕ) (past : List Entry) → sent_for r past ≤ next_number past
 sent-few r [] = omega arith
@@ -114,29 +115,16 @@ turn-fits script past (Some q) v few legal at =
 
 -- ---- fences of buffers
 
-found-fits : {X : Type 0} (p q : X → Bool) (xs : List X) (x : X) → list_all p xs ≡ true → find q xs ≡ Some x → p x ≡ true
-found-fits p q [] x all h = absurd (cc)
-found-fits p q (y ∷ xs) x all h =
-    let parts = and_parts (p y) (list_all p xs) all in
-    elim (cases_Bool (q y)) [
-      | inl here ↦ (let h' = rw here at h in let same : y ≡ x = cc in rw same at parts.0)
-      | inr other ↦ (let h' = rw other at h in found-fits p q xs x parts.1 h')
-    ]
-
 fence-fits : (past : List Entry) (b : ℕ) (o : Option Entry) → list_all is_printable past ≡ true → last_naming b past ≡ o → fence_fits (fence_after o) ≡ true
 fence-fits past b None all at = refl
-fence-fits past b (Some (Release c f)) all at = (and_parts (is_small c.0) (is_small f.0) (found-fits is_printable (names b) past (Release c f) all at)).1
-fence-fits past b (Some (Failed n s c f)) all at = (and_parts _ (fence_fits f) (found-fits is_printable (names b) past (Failed n s c f) all at)).1
+fence-fits past b (Some (Release c f)) all at = (and_parts (is_small c.0) (is_small f.0) (all-found is_printable (names b) past (Release c f) all at)).1
+fence-fits past b (Some (Failed n s c f)) all at = (and_parts _ (fence_fits f) (all-found is_printable (names b) past (Failed n s c f) all at)).1
 fence-fits past b (Some _) all at = refl
 
 held-fits : (past : List Entry) (b : ℕ) (o : Option Entry) → list_all is_printable past ≡ true → last_naming b past ≡ o → fence_fits (early_fence_after o) ≡ true
 held-fits past b None all at = refl
-held-fits past b (Some (Early n s c d)) all at = (and_parts _ (is_small d.0) (found-fits is_printable (names b) past (Early n s c d) all at)).1
+held-fits past b (Some (Early n s c d)) all at = (and_parts _ (is_small d.0) (all-found is_printable (names b) past (Early n s c d) all at)).1
 held-fits past b (Some _) all at = refl
-
-mapped-fit : {X Y : Type 0} (p : Y → Bool) (f : X → Y) (xs : List X) → ((x : X) → p (f x) ≡ true) → list_all p (map f xs) ≡ true
-mapped-fit p f [] each = refl
-mapped-fit p f (x ∷ xs) each = rw (each x, mapped-fit p f xs each) refl
 
 -- ---- rows
 
@@ -150,7 +138,7 @@ time-fits n (Shutter m time ∷ past) all =
     ]
 time-fits n (e ∷ past) all = time-fits n past (and_parts (is_printable e) (list_all is_printable past) all).1
 
-parts-few : (script : Script) (past : List Entry) (n : ℕ) → IsLegal script past → part_count n past ≤ 3
+pub parts-few : (script : Script) (past : List Entry) (n : ℕ) → IsLegal script past → part_count n past ≤ 3
 parts-few script [] n legal = omega arith
 parts-few script (Partial m k part ∷ past) n legal =
     let ih = parts-few script past n legal.1 in
@@ -182,35 +170,28 @@ given-fit n s (e ∷ past) all = given-fit n s past (and_parts (is_printable e) 
 targets-fit : (past : List Entry) (n : ℕ) (o : Option Entry) → list_all is_printable past ≡ true → send_of n past ≡ o → list_all sent_fits (targets_in o) ≡ true
 targets-fit past n None all at = refl
 targets-fit past n (Some (Send m r i same targets)) all at =
-    let fits = found-fits is_printable (sends n) past (Send m r i same targets) all at in
+    let fits = all-found is_printable (sends n) past (Send m r i same targets) all at in
     (and_parts (is_filled targets) (list_all sent_fits (four_list targets)) (and_parts _ (is_filled targets && list_all sent_fits (four_list targets)) fits).1).1
 targets-fit past n (Some _) all at = refl
 
-slots-fit : (past : List Entry) (n : ℕ) (targets : List Sent) → list_all is_printable past ≡ true → list_all sent_fits targets ≡ true → list_all slot_fits (map (slot past n) targets) ≡ true
-slots-fit past n [] all fits = refl
-slots-fit past n (t ∷ targets) all fits =
+rows-targets-fit : (past : List Entry) (n : ℕ) (targets : List Sent) → list_all is_printable past ≡ true → list_all sent_fits targets ≡ true → list_all target_fits (map (target_at n past) targets) ≡ true
+rows-targets-fit past n [] all fits = refl
+rows-targets-fit past n (t ∷ targets) all fits =
     let parts = and_parts (sent_fits t) (list_all sent_fits targets) fits in
-    and_from _ _ (and_from (sent_fits t) _ parts.0 (given-fit n t.stream.0 past all)) (slots-fit past n targets all parts.1)
+    and_from _ _ (and_from (sent_fits t) _ parts.0 (given-fit n t.stream.0 past all)) (rows-targets-fit past n targets all parts.1)
 
-row-fits : (script : Script) (past : List Entry) (n : ℕ) → next_number past ≤ 65664 → list_all is_printable past ≡ true → IsLegal script past → is_sent n past ≡ true → row_fits (row script past n) ≡ true
+row-fits : (script : Script) (past : List Entry) (n : ℕ) → next_number past ≤ 65664 → list_all is_printable past ≡ true → IsLegal script past → is_sent n past ≡ true → row_fits (row_of script past n) ≡ true
 row-fits script past n few all legal sent =
     let low = sent-below script past n legal sent in
     let frame = small n 65664 (omega (arith, low, few)) (omega arith) in
     let short = parts-few script past n legal in
     let parts : nat_le (part_count n past) 3 ≡ true = grind (arith, nat_tests, short) in
-    and_from _ _ frame (and_from _ _ (time-fits n past all) (and_from _ _ parts (slots-fit past n (targets_of n past) all (targets-fit past n (send_of n past) all refl))))
+    and_from _ _ frame (and_from _ _ (time-fits n past all) (and_from _ _ parts (rows-targets-fit past n (targets_of n past) all (targets-fit past n (send_of n past) all refl))))
 
-rows-fit : (script : Script) (past : List Entry) → next_number past ≤ 65664 → list_all is_printable past ≡ true → IsLegal script past → list_all row_fits (rows script past) ≡ true
-rows-fit script past few all legal = by-frames (frames past) (all-sent past)
-  where
-    by-frames : (xs : List ℕ) → list_all (λ n. is_sent n past) xs ≡ true → list_all row_fits (map (row script past) (filter (λ n. is_open n past) xs)) ≡ true
-    by-frames [] sent = refl
-    by-frames (n ∷ xs) sent =
-        let parts = and_parts (is_sent n past) (list_all (λ m. is_sent m past) xs) sent in
-        elim (cases_Bool (is_open n past)) [
-          | inl yes' ↦ rw (yes', row-fits script past n few all legal parts.0) (by-frames xs parts.1)
-          | inr no' ↦ rw no' (by-frames xs parts.1)
-        ]
+rows-fit : (script : Script) (past : List Entry) → next_number past ≤ 65664 → list_all is_printable past ≡ true → IsLegal script past → list_all row_fits (open_rows script past) ≡ true
+rows-fit script past few all legal =
+    all-filtered row_fits is_open_row (map (row_of script past) (in_order past))
+    (all-mapped row_fits (row_of script past) (in_order past) ∙ all-where (λ n. is_sent n past) (λ n. row_fits (row_of script past n)) (in_order past) (λ n sent. row-fits script past n few all legal sent) (order-sent past))
 
 -- ---- counts of the client
 
@@ -270,8 +251,8 @@ numbers_fit script past typed valid' legal =
       made = low-fits (made past) (made-all-low script past v legal);
       fences = below _ 262656 (omega (arith, released, fences, most.1)) (omega arith);
       device_fences = below _ 262656 (omega (arith, given, earlies, most.2)) (omega arith);
-      at_home = mapped-fit fence_fits (λ b. fence_of b past) (numbers past) (λ b. fence-fits past b (last_naming b past) all refl);
-      held = mapped-fit fence_fits (λ b. early_fence_of b past) (numbers past) (λ b. held-fits past b (last_naming b past) all refl);
+      at_home = all-map fence_fits (λ b. fence_of b past) (numbers past) (λ b. fence-fits past b (last_naming b past) all refl);
+      held = all-map fence_fits (λ b. early_fence_of b past) (numbers past) (λ b. held-fits past b (last_naming b past) all refl);
       calls = below _ 512 (omega (arith, calls, v.commands)) (omega arith);
       repeated = below _ 65664 (omega (arith, repeated, few)) (omega arith);
       done = below _ 65664 (omega (arith, done, sent, most.0)) (omega arith);

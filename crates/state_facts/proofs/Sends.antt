@@ -1,113 +1,128 @@
--- The sends and drops that are due are read from the state.
-use Rattle.std.proofs.Common.{◌≡◌, ℕ, ◌==◌, Bool, true, false, ◌&&◌, ◌||◌, not, List, [], ◌∷◌, Option, Some, None, refl, ap, ◌∙◌, arith, inl, inr, nat_lt, find, length, slice_get, if◌then◌else◌}
-use Rattle.std.specs.List.{list_any, list_all}
-use Rattle.std.proofs.lemmas.Bool.{cases_Bool}
-use Rattle.cam_types.specs.Four.{four_list}
+-- What a send, a drop and a call do to the queue and to the turn of the repeating list.
+use Rattle.std.proofs.Common.{◌≡◌, ℕ, ◌==◌, ◌+◌, ◌%◌, Bool, true, false, ◌||◌, not, List, [], ◌∷◌, ◌++◌, Option, Some, None, refl, sym, ap, ◌∙◌, arith, filter, length, nat_lt, slice_get, append-nil, if◌then◌else◌}
+use Rattle.std.proofs.Math.Nat.{mod-add-mod}
+use Rattle.std.proofs.lemmas.Bool.{and_parts, both_ways, false≢true, ne_eqb, not-true}
+use Rattle.std.proofs.lemmas.List.Elements.{filter-append}
 use Rattle.cam_types.specs.declared.four.Four.{Four}
+use Rattle.cam_types.specs.declared.item.Item.{Item}
+use Rattle.cam_types.specs.declared.number.FrameNo.{FrameNo}
+use Rattle.cam_types.specs.declared.number.RequestId.{RequestId}
+use Rattle.cam_types.specs.declared.reply.Reply.TheVariants.{Submitted}
 use Rattle.cam_types.specs.declared.script.Script.{Script}
+use Rattle.cam_types.specs.declared.script.Word.{Word}
 use Rattle.trace_model.specs.declared.entry.Entry.{Entry}
+use Rattle.trace_model.specs.declared.entry.Entry.TheVariants.{Call, Send, Dropped}
 use Rattle.trace_model.specs.declared.entry.Sent.{Sent}
-use Rattle.trace_model.specs.Configuration.{buffers_of, streams}
-use Rattle.cam_types.specs.Profile.{max_buffers_of}
+use Rattle.trace_model.specs.Calls.{command_at, is_repeating, request_count}
+use Rattle.trace_model.specs.Client.{call_due}
 use Rattle.trace_model.specs.Drop.{drop_due, drop_of}
-use Rattle.trace_model.specs.Fence.{fence_of, is_same_fence}
+use Rattle.trace_model.specs.Entry.{sends_for}
 use Rattle.trace_model.specs.Legal.{IsLegal}
-use Rattle.trace_model.specs.Numbers.{next_number}
-use Rattle.trace_model.specs.Place.{Pool, is_at, place}
-use Rattle.trace_model.specs.Printable.{is_filled}
-use Rattle.trace_model.specs.Queue.{first_in, next, queued}
-use Rattle.cam_types.specs.declared.request.Queued.{Queued}
+use Rattle.trace_model.specs.Queue.{first_in, is_taken, named, next_at, next_from, next_repeating, puts, queued, queued_items, repeating, sent_for, submitted}
+use Rattle.cam_types.specs.Requests.{Repeating}
 use Rattle.cam_types.specs.declared.request.WaitingItem.{WaitingItem}
-use Rattle.trace_model.specs.Send.{are_streams, fits_next, has_room, is_same_bool, least_in_pool, least_target, least_targets, mark_of, may_go, may_repeat, may_send, send_due, send_next, send_with, takes_from_pool, target_with, targets_in_order, with_target}
+use Rattle.trace_model.specs.Send.{fits_next, may_send}
 use Rattle.trace_model.specs.Stopping.{is_stopping}
-use Rattle.buffer_laws.proofs.Own.{stream-buffer}
-use Rattle.buffer_facts.specs.Homes.{fence_in, homes, least_in, place_in}
-use Rattle.buffer_facts.proofs.Readings.{at_device_is, fence_is, least_is, place_is}
-use Rattle.queue_facts.proofs.Readings.{next_is}
-use Rattle.row_facts.proofs.Readings.{count_is}
-use Rattle.state_facts.specs.States.{drop_in, drop_with, fits_in, has_room_in, may_go_in, may_send_in, send_in, send_next_in, send_of, state, takes_in, target_in, targets_in}
-use Rattle.basic_lemmas.proofs.Lists.{all-agree}
+use Rattle.trace_model.proofs.LawLemmas.{goes}
+use Rattle.trace_laws.proofs.RepeatLemmas.{repeating-stands}
+use Rattle.trace_laws.proofs.Submitted.{is_settled, request-number, settled}
+use Rattle.state_facts.specs.Turns.{moved, placed, tail, turn_sent}
+use Rattle.state_facts.proofs.Names.{untaken}
+use Rattle.state_facts.proofs.Apart.{filter-tail, is_named, submitted-apart}
+use Rattle.basic_lemmas.proofs.Counts.{count-one, count-over}
+use Rattle.basic_lemmas.proofs.Lists.{filter-none-left, first-passes}
 
--- ---- targets
+-- ---- the queue
 
-takes-by : (a p q : Bool) (f g : Bool) → p ≡ q → (a ≡ true → f ≡ g) → (a && (p && f)) ≡ (a && (q && g))
-takes-by true p q f g x y = rw (x, y refl) refl
-takes-by false p q f g x y = refl
+by-name : (past : List Entry) (w : WaitingItem) (r i : ℕ) (xs rest : List WaitingItem) → r ≡ w.request.0 → i ≡ w.index → filter (λ x. not (is_named w.request.0 w.index x || is_taken past x)) xs ≡ rest → filter (λ x. not (is_named r i x || is_taken past x)) xs ≡ rest
+by-name past w r i xs rest a b h = rw (a, b) h
 
-takes-is : (script : Script) (past : List Entry) (t : Sent) → IsLegal script past → takes_from_pool past t ≡ takes_in (state script past) t
-takes-is script past t legal =
-    takes-by (list_any (λ b. b == t.buffer.0) (buffers_of past t.stream.0)) (is_at (place t.buffer.0 past) Pool) (is_at (place_in (homes past) t.buffer.0) Pool) (is_same_fence t.fence (fence_of t.buffer.0 past)) (is_same_fence t.fence (fence_in (homes past) t.buffer.0))
-    (ap (λ p. is_at p Pool) (place_is script past t.buffer.0 legal))
-    (λ own. ap (λ f. is_same_fence t.fence f) (fence_is script past t.buffer.0 legal (stream-buffer past t.stream.0 t.buffer.0 own)))
+-- what takes the first by its name leaves the rest
+pub queue-sent : (script : Script) (past : List Entry) (w : WaitingItem) (rest : List WaitingItem) (n : FrameNo) (r : RequestId) (i : ℕ) (same : Bool) (targets : Four Sent) → IsLegal script past → queued script past ≡ w ∷ rest → r.0 ≡ w.request.0 → i ≡ w.index → queued script (Send n r i same targets ∷ past) ≡ rest
+queue-sent script past w rest n r i same targets legal at a b =
+    rw (append-nil (submitted script past)) (by-name past w r.0 i (submitted script past) rest a b (filter-tail (is_taken past) w rest (submitted script past) (submitted-apart script past legal) at))
 
-found-listed : (p : ℕ → Bool) (xs : List ℕ) (x : ℕ) → find p xs ≡ Some x → list_any (λ y. y == x) xs ≡ true
-found-listed p [] x h = absurd (cc)
-found-listed p (y ∷ xs) x h =
-    elim (cases_Bool (p y)) [
-      | inl here ↦ (let h' = rw here at h in let same : y ≡ x = cc in let own : (x == x) ≡ true = grind arith in rw (same, own) refl)
-      | inr no' ↦ (let h' = rw no' at h in let ih = found-listed p xs x h' in grind (arith, ih))
-    ]
+pub queue-dropped : (script : Script) (past : List Entry) (w : WaitingItem) (rest : List WaitingItem) (n : FrameNo) (r : RequestId) (i : ℕ) → IsLegal script past → queued script past ≡ w ∷ rest → r.0 ≡ w.request.0 → i ≡ w.index → queued script (Dropped n r i ∷ past) ≡ rest
+queue-dropped script past w rest n r i legal at a b =
+    rw (append-nil (submitted script past)) (by-name past w r.0 i (submitted script past) rest a b (filter-tail (is_taken past) w rest (submitted script past) (submitted-apart script past legal) at))
 
-target-by : (script : Script) (past : List Entry) (s : ℕ) (o : Option ℕ) → IsLegal script past → least_in_pool past s ≡ o → target_with past s o ≡ target_in (state script past) s o
-target-by script past s None legal at = refl
-target-by script past s (Some b) legal at =
-    let own = stream-buffer past s b (found-listed (λ c. is_at (place c past) Pool) (buffers_of past s) b at) in
-    ap (λ f. Some (record { stream = record { 0 = s }; buffer = record { 0 = b }; fence = f })) (fence_is script past b legal own)
+pub queue-empty : (script : Script) (past : List Entry) (e : Entry) → puts script e ≡ [] → queued script past ≡ [] → queued script (e ∷ past) ≡ []
+queue-empty script past e none at =
+    rw (none, append-nil (submitted script past)) (filter-none-left (λ w. not (is_taken past w)) (λ w. not (is_taken (e ∷ past) w)) (λ w h. grind arith) (submitted script past) at)
 
-target-is : (script : Script) (past : List Entry) (s : ℕ) → IsLegal script past → least_target past s ≡ target_in (state script past) s (least_in (homes past) s)
-target-is script past s legal = target-by script past s (least_in_pool past s) legal refl ∙ ap (λ (o : Option ℕ). target_in (state script past) s o) (least_is script past s legal)
+named-kept : (p : WaitingItem → Bool) (r : RequestId) (k : ℕ) (items : List Item) → ((w : WaitingItem) → w.request.0 ≡ r.0 → p w ≡ true) → filter p (named r k items) ≡ named r k items
+named-kept p r k [] each = refl
+named-kept p r k (item ∷ items) each = rw (each (record { request = r; index = k; item = item }) refl, named-kept p r (k + 1) items each) refl
 
-targets-are : (script : Script) (past : List Entry) (streams : List ℕ) → IsLegal script past → least_targets past streams ≡ targets_in (state script past) streams
-targets-are script past [] legal = refl
-targets-are script past (s ∷ streams) legal =
-    ap (λ (t : Option Sent). with_target t (least_targets past streams)) (target-is script past s legal)
-    ∙ ap (λ (ts : Option (List Sent)). with_target (target_in (state script past) s (least_in (homes past) s)) ts) (targets-are script past streams legal)
+pub queue-submitted : (script : Script) (past : List Entry) (i : ℕ) (word : Word) (q : RequestId) → IsLegal script past → call_due script past ≡ Some (Call i word (Submitted q)) → queued script (Call i word (Submitted q) ∷ past) ≡ queued script past ++ puts script (Call i word (Submitted q))
+queue-submitted script past i word q legal may =
+    let number = request-number script past i word q may in
+    let new = named-kept (λ w. not (is_taken past w)) q 0 (queued_items (command_at script i)) (λ w at. rw (untaken script past w legal (omega (arith, number, at))) refl) in
+    filter-append (λ w. not (is_taken past w)) (submitted script past) (named q 0 (queued_items (command_at script i))) ∙ ap (λ ws. queued script past ++ ws) new
 
--- ---- whether an item may go
+-- ---- the turn
 
-room-is : (script : Script) (past : List Entry) (s : ℕ) → IsLegal script past → has_room script past s ≡ has_room_in script (state script past) s
-room-is script past s legal = ap (λ n. nat_lt n (max_buffers_of script.profile (slice_get (streams script past) s))) (at_device_is script past s legal)
+-- an entry that sends nothing for a repeating list leaves its turn
+turn-over : (past : List Entry) (e : Entry) (q : Repeating) → sends_for q.request.0 e ≡ false → placed (e ∷ past) (Some q) ≡ placed past (Some q)
+turn-over past e q over = rw (count-over (sends_for q.request.0) e past over) refl
 
-go-is : (script : Script) (past : List Entry) (w : Queued) → IsLegal script past → may_go script past w ≡ may_go_in script (state script past) w
-go-is script past w legal =
-    ap (λ n. not (is_stopping past) && ((nat_lt n script.profile.depth && list_all (has_room script past) (targets_in_order w.item)) && (not w.repeating || may_repeat script past))) (count_is script past)
-    ∙ ap (λ b. not (is_stopping past) && ((nat_lt (length (state script past).rows) script.profile.depth && b) && (not w.repeating || may_repeat script past))) (all-agree (has_room script past) (has_room_in script (state script past)) (targets_in_order w.item) (λ s. room-is script past s legal))
+turn-on : (past : List Entry) (e : Entry) (q : Repeating) → sends_for q.request.0 e ≡ true → placed (e ∷ past) (Some q) ≡ moved (placed past (Some q))
+turn-on past e q here =
+    let one = count-one (sends_for q.request.0) e past here in
+    let more : sent_for q.request.0 (e ∷ past) ≡ sent_for q.request.0 past + 1 = omega (arith, one) in
+    rw (more, mod-add-mod (sent_for q.request.0 past) (length q.items) 1) refl
 
--- ---- sends
+-- what waits is of a request that doesn't repeat
+other-request : (script : Script) (past : List Entry) (w : WaitingItem) (rest : List WaitingItem) (q : Repeating) (r : ℕ) → IsLegal script past → queued script past ≡ w ∷ rest → repeating script past ≡ Some q → r ≡ w.request.0 → (r == q.request.0) ≡ false
+other-request script past w rest q r legal at list is =
+    let settled' = first-passes (λ x. not (is_taken past x)) (is_settled script past) w rest (submitted script past) (settled script past legal) at in
+    let once = not-true (is_repeating script past w.request.0) (and_parts (nat_lt w.request.0 (request_count past)) (not (is_repeating script past w.request.0)) settled').1 in
+    let stands = repeating-stands script past q legal list in
+    let repeats : is_repeating script past q.request.0 ≡ true = rw (stands.0) refl in
+    ne_eqb r q.request.0 (λ same.
+    let same' : w.request.0 ≡ q.request.0 = sym is ∙ same in
+    let repeats' : is_repeating script past w.request.0 ≡ true = rw same' repeats in
+    both_ways (is_repeating script past w.request.0) once repeats')
 
-fits-is : (script : Script) (past : List Entry) (o : Option Queued) (n r i : ℕ) (same : Bool) (targets : Four Sent) → IsLegal script past → fits_next script past o n r i same targets ≡ fits_in script (state script past) o n r i same targets
-fits-is script past None n r i same targets legal = refl
-fits-is script past (Some w) n r i same targets legal =
-    let name = (n == next_number past) && ((r == w.request.0) && (i == w.index)) in
-    let streams = are_streams (four_list targets) (targets_in_order w.item) in
-    let mark = is_same_bool same (mark_of script past w.item.settings) in
-    ap (λ b. name && (b && ((streams && (is_filled targets && list_all (takes_from_pool past) (four_list targets))) && mark))) (go-is script past w legal)
-    ∙ ap (λ b. name && (may_go_in script (state script past) w && ((streams && (is_filled targets && b)) && mark))) (all-agree (takes_from_pool past) (takes_in (state script past)) (four_list targets) (λ t. takes-is script past t legal))
+-- ---- a send
 
-pub may_send_is : (script : Script) (past : List Entry) (n r i : ℕ) (same : Bool) (targets : Four Sent) → IsLegal script past → may_send script past n r i same targets ≡ may_send_in script (state script past) n r i same targets
-may_send_is script past n r i same targets legal =
-    fits-is script past (next script past) n r i same targets legal ∙ ap (λ (o : Option Queued). fits_in script (state script past) o n r i same targets) (next_is script past)
+abbrev pub IsKept : Script → List Entry → List WaitingItem → Option Repeating → Entry → Type 0
+IsKept script past xs q e = (queued script (e ∷ past) ≡ tail xs) × (placed (e ∷ past) q ≡ turn_sent xs (placed past q))
 
-send-by : (a b : Bool) (x y : Option Entry) → a ≡ b → x ≡ y → (if a then x else None) ≡ (if b then y else None)
-send-by a b x y h k = rw (h, k) refl
+sent-by-list : (script : Script) (past : List Entry) (q : Repeating) (k : ℕ) (o : Option Item) (n : FrameNo) (r : RequestId) (i : ℕ) (same : Bool) (targets : Four Sent) → queued script past ≡ [] → fits_next script past (next_at q.request k o) n.0 r.0 i same targets ≡ true → IsKept script past [] (Some q) (Send n r i same targets)
+sent-by-list script past q k None n r i same targets at may = absurd (false≢true may)
+sent-by-list script past q k (Some item) n r i same targets at may =
+    let g = goes script past (record { request = q.request; index = k; item = item; repeating = true }) n.0 r.0 i same targets may in
+    let own : (r.0 == q.request.0) ≡ true = rw (g.request) (grind arith) in
+    (queue-empty script past (Send n r i same targets) refl at, turn-on past (Send n r i same targets) q own)
 
-send-with : (script : Script) (past : List Entry) (w : Queued) (o : Option (List Sent)) → send_with script past w o ≡ send_of (state script past) w o
-send-with script past w None = refl
-send-with script past w (Some targets) = refl
+turn-queued : (script : Script) (past : List Entry) (w : WaitingItem) (rest : List WaitingItem) (q : Option Repeating) (n : FrameNo) (r : RequestId) (i : ℕ) (same : Bool) (targets : Four Sent) → IsLegal script past → queued script past ≡ w ∷ rest → repeating script past ≡ q → r.0 ≡ w.request.0 → placed (Send n r i same targets ∷ past) q ≡ placed past q
+turn-queued script past w rest None n r i same targets legal at list is = refl
+turn-queued script past w rest (Some q) n r i same targets legal at list is =
+    turn-over past (Send n r i same targets) q (other-request script past w rest q r.0 legal at list is)
 
-send-next : (script : Script) (past : List Entry) (o : Option Queued) → IsLegal script past → send_next script past o ≡ send_next_in script (state script past) o
-send-next script past None legal = refl
-send-next script past (Some w) legal =
-    send-by _ _ _ _ (go-is script past w legal) (send-with script past w (least_targets past (targets_in_order w.item)) ∙ ap (λ (o : Option (List Sent)). send_of (state script past) w o) (targets-are script past (targets_in_order w.item) legal))
+sent-by : (script : Script) (past : List Entry) (xs : List WaitingItem) (q : Option Repeating) (n : FrameNo) (r : RequestId) (i : ℕ) (same : Bool) (targets : Four Sent) → IsLegal script past → queued script past ≡ xs → repeating script past ≡ q → fits_next script past (next_from (first_in xs) (next_repeating q past)) n.0 r.0 i same targets ≡ true → IsKept script past xs q (Send n r i same targets)
+sent-by script past [] None n r i same targets legal at list may = absurd (false≢true may)
+sent-by script past [] (Some q) n r i same targets legal at list may =
+    let k = sent_for q.request.0 past % length q.items in
+    sent-by-list script past q k (slice_get q.items k) n r i same targets at may
+sent-by script past (w ∷ rest) q n r i same targets legal at list may =
+    let g = goes script past (record { request = w.request; index = w.index; item = w.item; repeating = false }) n.0 r.0 i same targets may in
+    (queue-sent script past w rest n r i same targets legal at g.request g.index, turn-queued script past w rest q n r i same targets legal at list g.request)
 
-pub send_is : (script : Script) (past : List Entry) → IsLegal script past → send_due script past ≡ send_in script (state script past)
-send_is script past legal = send-next script past (next script past) legal ∙ ap (λ (o : Option Queued). send_next_in script (state script past) o) (next_is script past)
+pub sent-kept : (script : Script) (past : List Entry) (n : FrameNo) (r : RequestId) (i : ℕ) (same : Bool) (targets : Four Sent) → IsLegal script past → may_send script past n.0 r.0 i same targets ≡ true → IsKept script past (queued script past) (repeating script past) (Send n r i same targets)
+sent-kept script past n r i same targets legal may = sent-by script past (queued script past) (repeating script past) n r i same targets legal refl refl may
 
--- ---- drops
+-- ---- a drop
 
-drop-with : (past : List Entry) (o : Option WaitingItem) → drop_of past o ≡ drop_with (next_number past) o
-drop-with past (Some w) = refl
-drop-with past None = refl
+dropped-by : (script : Script) (past : List Entry) (xs : List WaitingItem) (stopping : Bool) (n : FrameNo) (r : RequestId) (i : ℕ) → IsLegal script past → queued script past ≡ xs → (if stopping then drop_of past (first_in xs) else None) ≡ Some (Dropped n r i) → queued script (Dropped n r i ∷ past) ≡ tail xs
+dropped-by script past [] true n r i legal at h = absurd (cc)
+dropped-by script past [] false n r i legal at h = absurd (cc)
+dropped-by script past (w ∷ rest) false n r i legal at h = absurd (cc)
+dropped-by script past (w ∷ rest) true n r i legal at h =
+    let request : w.request ≡ r = cc in
+    let index : w.index ≡ i = cc in
+    queue-dropped script past w rest n r i legal at (rw (← request) refl) (sym index)
 
-pub drop_is : (script : Script) (past : List Entry) → drop_due script past ≡ drop_in (state script past)
-drop_is script past = ap (λ (o : Option Entry). if is_stopping past then o else None) (drop-with past (first_in (queued script past)))
+pub dropped-kept : (script : Script) (past : List Entry) (n : FrameNo) (r : RequestId) (i : ℕ) → IsLegal script past → drop_due script past ≡ Some (Dropped n r i) → queued script (Dropped n r i ∷ past) ≡ tail (queued script past)
+dropped-kept script past n r i legal h = dropped-by script past (queued script past) (is_stopping past) n r i legal refl h

@@ -6,9 +6,9 @@ use Rattle.cam_types.specs.declared.script.Script.{Script}
 use Rattle.trace_model.specs.declared.entry.Entry.{Entry}
 use Rattle.trace_model.specs.Legal.{IsLegal}
 use Rattle.trace_model.specs.Printable.{fence_fits, is_small, made_fits, sent_fits}
-use Rattle.trace_bounds.specs.Typed.{is_typed}
-use Rattle.queue_facts.specs.Turns.{Turn}
-use Rattle.row_facts.specs.Rows.{Row, Slot}
+use Rattle.trace_laws.specs.Typed.{is_typed}
+use Rattle.state_facts.specs.Turns.{Turn}
+use Rattle.state_facts.specs.Row.{Row, Target}
 use Rattle.state_facts.specs.States.{State, state}
 
 -- The numbers of the state fit their types: 32 bits, and 64 for times (our own choice of types).
@@ -28,12 +28,13 @@ time_fits (Some time) = nat_lt time (2 ^ 64)
 time_fits None = true
 
 -- a buffer of a row has a target and device fences that fit
-abbrev pub slot_fits : Slot → Bool
-slot_fits x = sent_fits x.target && list_all is_small x.given
+abbrev pub target_fits : Target → Bool
+target_fits t = sent_fits t.sent && list_all is_small t.given
 
 -- a row has a frame, a time and buffers that fit, and at most three parts
 abbrev pub row_fits : Row → Bool
-row_fits r = is_small r.frame && (time_fits r.time && (nat_le r.parts 3 && list_all slot_fits r.slots))
+row_fits r =
+    is_small r.number && (time_fits r.shutter && (nat_le r.parts 3 && list_all target_fits r.targets))
 
 pub record NumbersFit (s : State) : Type 0 where
   pub frames : s.queue.numbers < 2 ^ 32

@@ -1,4 +1,4 @@
-use Rattle.std.specs.Prelude.{ℕ, ◌==◌, ◌+◌, Bool, false, ◌&&◌, ◌||◌, not, List, [], ◌∷◌, Option, Some, None, max, nat_lt, length, slice_get, if◌then◌else◌}
+use Rattle.std.specs.Prelude.{ℕ, ◌==◌, Bool, false, ◌&&◌, ◌||◌, not, List, [], ◌∷◌, Option, Some, None, find, nat_lt, length, slice_get, if◌then◌else◌}
 use Rattle.std.specs.List.{list_any, list_all}
 use Rattle.cam_types.specs.Four.{four_list, four_of}
 use Rattle.cam_types.specs.declared.four.Four.{Four}
@@ -6,12 +6,10 @@ use Rattle.cam_types.specs.declared.item.Settings.{Settings}
 use Rattle.cam_types.specs.declared.reply.Reply.TheVariants.{Configured}
 use Rattle.cam_types.specs.declared.script.Script.{Script}
 use Rattle.trace_model.specs.declared.entry.Entry.{Entry}
-use Rattle.trace_model.specs.declared.entry.Entry.TheVariants.{Call, Send, Dropped, Shutter}
+use Rattle.trace_model.specs.declared.entry.Entry.TheVariants.{Call, Send, Dropped, ErrorDevice}
 use Rattle.trace_model.specs.declared.entry.Sent.{Sent}
-use Rattle.cam_types.specs.Limits.{frame_time}
 use Rattle.cam_types.specs.Profile.{max_buffers_of}
 use Rattle.trace_model.specs.Fence.{is_same_fence}
-use Rattle.trace_model.specs.Frames.{no_settings}
 use Rattle.trace_model.specs.Place.{Pool, is_at}
 use Rattle.trace_model.specs.Printable.{is_filled}
 use Rattle.trace_model.specs.Queue.{first_in}
@@ -19,17 +17,17 @@ use Rattle.cam_types.specs.declared.request.Queued.{Queued}
 use Rattle.cam_types.specs.declared.request.WaitingItem.{WaitingItem}
 use Rattle.trace_model.specs.Send.{are_last, are_streams, is_same_bool, last_settings, targets_in_order, with_target}
 use Rattle.trace_model.specs.Shutter.{next_time}
-use Rattle.queue_facts.specs.Turns.{Turns, next_of, repeats_next, settings_next, turns}
-use Rattle.queue_facts.specs.Turns as queue
-use Rattle.buffer_facts.specs.Homes.{Homes, at_device_in, fence_in, homes, least_in, place_in, stream_in}
-use Rattle.buffer_facts.specs.Homes as buffers
-use Rattle.client_facts.specs.Clients.{Clients, clients}
-use Rattle.client_facts.specs.Clients as client
-use Rattle.client_facts.specs.Replies.{may_repeat_in, stopping_in}
-use Rattle.row_facts.specs.Rows.{Row, find_row, finishes_in, rows}
-use Rattle.row_facts.specs.Rows as frame
+use Rattle.state_facts.specs.Turns.{Turns, next_of, repeats_next, settings_next, turns}
+use Rattle.state_facts.specs.Turns as queue
+use Rattle.state_facts.specs.Homes.{Homes, at_device_in, fence_in, homes, least_in, passed_in, place_in, stream_in}
+use Rattle.state_facts.specs.Homes as buffers
+use Rattle.state_facts.specs.Clients.{Clients, clients}
+use Rattle.state_facts.specs.Clients as client
+use Rattle.state_facts.specs.Replies.{may_repeat_in, stopping_in}
+use Rattle.state_facts.specs.Row.{Row, open_rows, rows_after}
+use Rattle.state_facts.specs.FrameReadings.{buffer_row, device_fails, early_row, failed_row, filled_row, finishes_in, has_pending, late_row, next_exposed, on_row, part_row, request_row, result_row, row_at, shutter_from, time_after}
 
--- The whole state, and what each entry makes of it.
+-- The whole state, what each entry makes of it, and what is due by it.
 
 -- the queue, the buffers, the client and the open frames; the settings that were sent last, and the time of the next
 -- shutter
@@ -47,26 +45,16 @@ state script past = record {
   queue = turns script past;
   buffers = homes past;
   client = clients script past;
-  rows = rows script past;
+  rows = open_rows script past;
   last = last_settings script past;
   clock = next_time script past;
 }
-
--- the settings of a row
-abbrev pub settings_row : Option Row → Settings
-settings_row (Some r) = r.settings
-settings_row None = no_settings
 
 -- the settings that were sent last: none after a configuration
 abbrev pub last_after : Settings → Entry → Option Settings → Option Settings
 last_after settings (Call _ _ (Configured _)) old = None
 last_after settings (Send _ _ _ _ _) old = Some settings
 last_after settings _ old = old
-
--- the next shutter follows this one by the time of a frame, or its exposure if that is more
-abbrev pub clock_after : List Row → Entry → ℕ → ℕ
-clock_after rs (Shutter n time) old = time + max frame_time (settings_row (find_row n.0 rs)).exposure
-clock_after rs _ old = old
 
 -- the state after an entry, from the state before it alone
 abbrev pub noted : Script → Entry → State → State
@@ -76,9 +64,9 @@ noted script e s =
       queue = queue.noted script e s.queue;
       buffers = buffers.noted e s.buffers;
       client = client.noted script (repeats_next next) (finishes_in e s.rows) e s.client;
-      rows = frame.noted (settings_next next) (repeats_next next) e s.rows;
+      rows = rows_after (settings_next next) (repeats_next next) e s.rows;
       last = last_after (settings_next next) e s.last;
-      clock = clock_after s.rows e s.clock;
+      clock = time_after s.rows e s.clock;
     }
 
 -- ---- sends and drops
@@ -152,3 +140,43 @@ drop_with n None = None
 -- the drop that is due
 abbrev pub drop_in : State → Option Entry
 drop_in s = if stopping_in s.client then drop_with s.queue.numbers (first_in s.queue.waiting) else None
+
+-- ---- frames
+
+-- the shutter that is due, at the time that the clock tells
+abbrev pub shutter_in : Script → State → Option Entry
+shutter_in script s = shutter_from script (stopping_in s.client) s.clock (next_exposed s.rows)
+
+-- the device's failure that is due
+abbrev pub error_device_in : Script → State → Option Entry
+error_device_in script s =
+    if device_fails script (stopping_in s.client) (next_exposed s.rows) then Some ErrorDevice else None
+
+-- the metadata result of frame n that is due
+abbrev pub partial_in : Script → State → ℕ → Option Entry
+partial_in script s n = on_row (part_row script s.rows) (row_at n s.rows)
+
+-- the error of the whole capture, that of the metadata and that of stream t's buffer that are due of frame n
+abbrev pub error_request_in : Script → State → ℕ → Option Entry
+error_request_in script s n = on_row (request_row script) (row_at n s.rows)
+
+abbrev pub error_result_in : Script → State → ℕ → Option Entry
+error_result_in script s n = on_row (result_row script s.rows) (row_at n s.rows)
+
+abbrev pub error_buffer_in : Script → State → ℕ → ℕ → Option Entry
+error_buffer_in script s n t = on_row (buffer_row script t) (row_at n s.rows)
+
+-- the filled, the early and the failed buffer of stream t that are due of frame n
+abbrev pub filled_in : Script → State → ℕ → ℕ → Option Entry
+filled_in script s n t = on_row (filled_row script s.client.streams s.rows (passed_in s.buffers) t) (row_at n s.rows)
+
+abbrev pub early_in : Script → State → ℕ → ℕ → Option Entry
+early_in script s n t =
+    on_row (early_row script s.rows (passed_in s.buffers) (length s.buffers.late) t) (row_at n s.rows)
+
+abbrev pub failed_in : State → ℕ → ℕ → Option Entry
+failed_in s n t = on_row (failed_row (passed_in s.buffers) t) (row_at n s.rows)
+
+-- the signal of device fence d that is due, of the row that waits for it
+abbrev pub late_in : State → ℕ → Option Entry
+late_in s d = on_row (late_row s.client.streams d) (find (has_pending d) s.rows)

@@ -1,2 +1,5 @@
 pub mod Film
 pub mod Choice
+pub mod Samples
+pub mod Colours
+pub mod Files

@@ -2,3 +2,10 @@ pub mod Cuts
 pub mod Lines
 pub mod Words
 pub mod Numbers
+pub mod Causes
+pub mod Values
+pub mod LineWords
+pub mod LineReading
+pub mod Reader
+pub mod CommandWords
+pub mod Forms

@@ -1,9 +1,9 @@
 //! Texts that are read and what is answered, and texts that are refused, with line and cause.
-use arbiter_text::{line_text, read};
+use arbiter_call::{line_text, read};
 use camera_arbiter::arbitrate;
-use line_reading::TextRefused;
 use std::alloc::Global;
 use std::test::Fail;
+use text_parts::TextRefused;
 
 /// Texts, with the line and the number of the cause for which each is refused.
 const REFUSED: &[(&str, u32, u8)] = &[

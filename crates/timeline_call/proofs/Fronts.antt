@@ -15,28 +15,16 @@ use Rattle.trace_model.specs.Printable.{is_printable}
 use Rattle.timeline_model.specs.Drawings.{all_drawn, drawn_of}
 use Rattle.timeline_model.specs.declared.drawn.Drawn.{Drawn}
 use Rattle.timeline_call.specs.Fronts.{fault_in, front}
+use Rattle.basic_lemmas.proofs.Lists.{all-reversed, all-taken}
 
 pub front_legal : (script : Script) (entries : List Entry) (v : Verdict) → IsVerdict script entries v → IsLegal script (reverse (front entries v))
 front_legal script entries Legal judged = judged.legal
 front_legal script entries (IllegalAt p rule) judged = judged.before
 front_legal script entries (Incomplete part) judged = judged.legal
 
-all_back : {X : Type 0} (p : X → Bool) (xs : List X) → list_all p xs ≡ true → list_all p (reverse xs) ≡ true
-all_back p [] h = refl
-all_back p (x ∷ xs) h =
-    let parts = and_parts (p x) (list_all p xs) h in
-    rw (reverse-append (x ∷ []) xs, list_all-append, all_back p xs parts.1, parts.0) refl
-
-all_taken : {X : Type 0} (p : X → Bool) (n : ℕ) (xs : List X) → list_all p xs ≡ true → list_all p (take n xs) ≡ true
-all_taken p zero [] h = refl
-all_taken p (suc n) [] h = refl
-all_taken p zero (x ∷ xs) h = refl
-all_taken p (suc n) (x ∷ xs) h =
-    let parts = and_parts (p x) (list_all p xs) h in and_from (p x) (list_all p (take n xs)) parts.0 (all_taken p n xs parts.1)
-
 front_prints : (entries : List Entry) (v : Verdict) → list_all is_printable entries ≡ true → list_all is_printable (front entries v) ≡ true
 front_prints entries Legal h = h
-front_prints entries (IllegalAt p rule) h = all_taken is_printable p entries h
+front_prints entries (IllegalAt p rule) h = all-taken is_printable p entries h
 front_prints entries (Incomplete part) h = h
 
 drawn_prints : (script : Script) (past : List Entry) → list_all is_printable past ≡ true → list_all (λ (one : Drawn). is_printable one.entry) (all_drawn script past) ≡ true
@@ -46,7 +34,7 @@ drawn_prints script (e ∷ past) h =
     rw (list_all-append (λ (one : Drawn). is_printable one.entry) (all_drawn script past) (drawn_of script e past ∷ []), drawn_prints script past parts.1, parts.0) refl
 
 pub all_print : (script : Script) (entries : List Entry) (v : Verdict) → list_all is_printable entries ≡ true → list_all (λ (one : Drawn). is_printable one.entry) (all_drawn script (reverse (front entries v))) ≡ true
-all_print script entries v h = drawn_prints script (reverse (front entries v)) (all_back is_printable (front entries v) (front_prints entries v h))
+all_print script entries v h = drawn_prints script (reverse (front entries v)) (all-reversed is_printable (front entries v) (front_prints entries v h))
 
 one_prints : (entries : List Entry) (p : ℕ) → list_all is_printable entries ≡ true → IfSome (slice_get entries p) (λ e. IsTrue (is_printable e))
 one_prints [] p h = tt

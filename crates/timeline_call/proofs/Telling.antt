@@ -1,6 +1,7 @@
 -- The status that belongs to an input of `timeline` is 0 or 1.
-use Rattle.std.proofs.Common.{◌≤◌, ℕ, Bool, true, false, List, Result, Ok, Err, arith, inl, inr, if◌then◌else◌}
-use Rattle.call_status.proofs.Sinks.{AreAnswers}
+use Rattle.std.proofs.Common.{◌≤◌, ◌<◌, ℕ, Bool, true, false, List, Result, Ok, Err, length, arith, inl, inr, if◌then◌else◌}
+use Rattle.call_parts.specs.Answers.{AreAnswers}
+use Rattle.call_parts.proofs.Meanings.{long_limited, of_limited, of_verdict}
 use Rattle.cam_types.specs.declared.script.Script.{Script}
 use Rattle.hal_timeline.specs.Charts.{breaches_of}
 use Rattle.hal_timeline.specs.Groups.{is_some_breach}
@@ -8,27 +9,21 @@ use Rattle.hal_text.specs.Meaning.{log_of}
 use Rattle.hal_text.specs.declared.log.HalLog.{HalLog}
 use Rattle.hal_text.specs.declared.refused.LogRefused.{LogRefused}
 use Rattle.hal_text.specs.declared.refused.LogRefused.TheVariants.{Bad as BadLog, NoMemory as NoLogMemory}
-use Rattle.line_reading.specs.declared.cause.TextRefused.{TextRefused}
-use Rattle.line_reading.specs.declared.cause.TextRefused.TheVariants.{Bad, NoMemory}
+use Rattle.text_parts.specs.declared.cause.TextRefused.{TextRefused}
+use Rattle.text_parts.specs.declared.cause.TextRefused.TheVariants.{Bad, NoMemory}
 use Rattle.script_text.specs.Grammar.{script_of}
-use Rattle.trace_check.specs.declared.verdict.Verdict.{Verdict}
-use Rattle.trace_check.specs.declared.verdict.Verdict.TheVariants.{Legal, IllegalAt, Incomplete}
 use Rattle.trace_model.specs.declared.list.TraceList.{TraceList}
 use Rattle.trace_reader.specs.Grammar.{trace_of}
 use Rattle.trace_reader.specs.declared.cause.TraceRefused.{TraceRefused}
 use Rattle.trace_reader.specs.declared.cause.TraceRefused.TheVariants.{Bad as BadTrace, NoMemory as NoTraceMemory}
-use Rattle.judge_text.specs.Lines.{verdict_status}
+use Rattle.judge_text.specs.Lines.{refused_trace_text}
 use Rattle.judge_text.specs.Parts.{first_line, script_part, trace_part}
-use Rattle.timeline_call.specs.Shown.{ShowsBoth, ShowsKind, ShowsLog, ShowsParts, ShowsTrace}
+use Rattle.timeline_call.specs.Shown.{Shows, ShowsBoth, ShowsKind, ShowsLog, ShowsParts, ShowsTrace}
+use Rattle.timeline_call.specs.Kinds.{is_hal}
 use Rattle.timeline_call.specs.declared.form.Form.{Form}
 
-few : (verdict : Verdict) → verdict_status verdict ≤ 2
-few Legal = omega arith
-few (IllegalAt position rule) = omega arith
-few (Incomplete part) = omega arith
-
 both : (form : Form) (n : ℕ) (script : Script) (trace : TraceList) → AreAnswers (ShowsBoth form n script trace)
-both form n script trace wanted text (inl h) = let small = few h.1.verdict in omega (arith, h.1.number, small)
+both form n script trace wanted text (inl h) = let small = of_verdict h.1.verdict in omega (arith, h.1.number, small)
 both form n script trace wanted text (inr h) = omega (arith, h.1)
 
 of-trace : (form : Form) (n : ℕ) (script : Script) (meaning : Result TraceList TraceRefused) → AreAnswers (ShowsTrace form n script meaning)
@@ -41,7 +36,7 @@ of-parts form n (Ok script) trace wanted text h = of-trace form n script trace w
 of-parts form n (Err (Bad line cause)) trace wanted text h = omega (arith, h.0)
 of-parts form n (Err NoMemory) trace wanted text h = absurd h
 
-one-few : (broken : Bool) → (if broken then 1 else 0) ≤ 2
+one-few : (broken : Bool) → (if broken then 1 else 0) ≤ 1
 one-few true = omega arith
 one-few false = omega arith
 
@@ -50,7 +45,13 @@ of-log form (Ok log) wanted text h = let small = one-few (is_some_breach (breach
 of-log form (Err (BadLog line cause)) wanted text h = omega (arith, h.0)
 of-log form (Err NoLogMemory) wanted text h = absurd h
 
-pub are-shown : (form : Form) (input : List ℕ) (kind : Bool) → AreAnswers (ShowsKind form input kind)
-are-shown form input true wanted text h = of-log form (log_of input) wanted text h
-are-shown form input false wanted text h =
+of-kind : (form : Form) (input : List ℕ) (kind : Bool) → AreAnswers (ShowsKind form input kind)
+of-kind form input true wanted text h = of-log form (log_of input) wanted text h
+of-kind form input false wanted text h =
     of-parts form (first_line input) (script_of (script_part input)) (trace_of (first_line input) (trace_part input)) wanted text h
+
+pub are_shown : (form : Form) (input : List ℕ) → AreAnswers (Shows form input)
+are_shown form input = of_limited _ (λ short. ShowsKind form short (is_hal short)) input (of-kind form input (is_hal input))
+
+pub long_refused : (form : Form) (input : List ℕ) → 134217728 < length input → Shows form input 1 (refused_trace_text 0 45)
+long_refused form input l = long_limited _ (λ short. ShowsKind form short (is_hal short)) input l

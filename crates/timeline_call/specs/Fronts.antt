@@ -4,7 +4,7 @@ use Rattle.cam_types.specs.declared.script.Script.{Script}
 use Rattle.trace_check.specs.declared.verdict.Verdict.{Verdict}
 use Rattle.trace_check.specs.declared.verdict.Verdict.TheVariants.{IllegalAt}
 use Rattle.trace_model.specs.declared.entry.Entry.{Entry}
-use Rattle.timeline_chart.specs.declared.chart.Chart.{Chart}
+use Rattle.timeline_model.specs.declared.chart.Chart.{Chart}
 use Rattle.timeline_model.specs.Charts.{chart_of}
 use Rattle.timeline_model.specs.Timelines.{timeline}
 use Rattle.timeline_svg.specs.Pictures.{svg_text}

@@ -1,6 +1,6 @@
 -- Whether an input is a hal log. (docs/FORMATS.md, Hal log)
 use Rattle.std.specs.Prelude.{ℕ, Bool, false, List, [], ◌∷◌, Option, Some, None, codes, bytes_eq, if◌then◌else◌}
-use Rattle.line_reading.specs.Lines.{is_comment}
+use Rattle.text_parts.specs.LineReading.{is_comment}
 use Rattle.text_parts.specs.Lines.{lines_of}
 use Rattle.text_parts.specs.Words.{loose_words}
 

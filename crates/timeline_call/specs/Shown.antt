@@ -1,5 +1,5 @@
 -- What `timeline` answers and writes. (docs/FORMATS.md)
-use Rattle.std.specs.Prelude.{◌≡◌, ◌≢◌, ℕ, Bool, List, Result, Ok, Err, length, nat_lt, reverse, true, false, ◌⊎◌}
+use Rattle.std.specs.Prelude.{◌≡◌, ◌≢◌, ℕ, Bool, List, Result, Ok, Err, reverse, true, false, ◌⊎◌}
 use Rattle.io_edge.specs.States.{SinkState, Writes}
 use Rattle.cam_types.specs.declared.script.Script.{Script}
 use Rattle.hal_text.specs.Meaning.{log_of}
@@ -9,9 +9,9 @@ use Rattle.hal_text.specs.declared.log.HalLog.{HalLog}
 use Rattle.hal_person.specs.Refusal.{refused_text as refused_log_text}
 use Rattle.hal_timeline.specs.Charts.{breaches_of}
 use Rattle.hal_timeline.specs.Groups.{is_some_breach}
-use Rattle.line_reading.specs.Causes.{number_of}
-use Rattle.line_reading.specs.declared.cause.TextRefused.{TextRefused}
-use Rattle.line_reading.specs.declared.cause.TextRefused.TheVariants.{Bad, NoMemory}
+use Rattle.text_parts.specs.Causes.{number_of}
+use Rattle.text_parts.specs.declared.cause.TextRefused.{TextRefused}
+use Rattle.text_parts.specs.declared.cause.TextRefused.TheVariants.{Bad, NoMemory}
 use Rattle.script_text.specs.Grammar.{script_of}
 use Rattle.trace_check.specs.Verdict.{IsVerdict}
 use Rattle.trace_check.specs.declared.verdict.Verdict.{Verdict}
@@ -23,9 +23,9 @@ use Rattle.trace_reader.specs.Grammar.{trace_of}
 use Rattle.trace_reader.specs.declared.cause.TraceRefused.{TraceRefused}
 use Rattle.trace_reader.specs.declared.cause.TraceRefused.TheVariants.{Bad as BadTrace, NoMemory as NoTraceMemory}
 use Rattle.judge_text.specs.Lines.{refused_script_text, refused_trace_text, verdict_status}
-use Rattle.judge_text.specs.Meaning.{input_limit}
 use Rattle.judge_text.specs.Parts.{first_line, script_part, trace_part}
 use Rattle.judge_text.specs.Profiles.{profile_of}
+use Rattle.call_parts.specs.Meanings.{OfLimited}
 use Rattle.timeline_call.specs.declared.form.Form.{Form}
 use Rattle.timeline_call.specs.Fronts.{text_of}
 use Rattle.timeline_call.specs.Kinds.{is_hal}
@@ -78,8 +78,7 @@ ShowsKind form input false status text = ShowsWhole form input status text
 -- the status and the whole text that belong to an input: it is too long, or is of one of the kinds
 abbrev pub Shows : Form → List ℕ → ℕ → List ℕ → Type 0
 Shows form input status text =
-    ((nat_lt input_limit (length input) ≡ true) × (status ≡ 1) × (text ≡ refused_trace_text 0 45))
-    ⊎ ((nat_lt input_limit (length input) ≡ false) × ShowsKind form input (is_hal input) status text)
+    OfLimited (refused_trace_text 0 45) (λ short. ShowsKind form short (is_hal short)) input status text
 
 -- the input is a script and a trace of its profile, the trace is a complete legal run of the script, and its timeline
 -- was written, and nothing else

@@ -5,8 +5,8 @@ ghost use Rattle.trace_model.specs.Printable.{is_printable};
 ghost use Rattle.std.specs.Io.KnownBytes.{IsAtEnd};
 ghost use Rattle.trace_reader.specs.Grammar.{trace_of};
 ghost use Rattle.judge_text.specs.Lines.{verdict_status};
-ghost use Rattle.call_status.specs.Answers.{AnswersWithMemory, Tells, TellsBy};
-ghost use Rattle.call_status.specs.Ends.{CountsSink, CountsSource, ReadsBy};
+ghost use Rattle.call_parts.specs.Answers.{AnswersWithMemory, Tells, TellsBy};
+ghost use Rattle.call_parts.specs.Ends.{CountsSink, CountsSource, ReadsBy};
 ghost use Rattle.trace_check.specs.Verdict.{IsVerdict};
 ghost use Rattle.timeline_call.specs.Fronts.{text_of};
 ghost use Rattle.timeline_call.specs.Kinds.{is_hal};
@@ -16,19 +16,41 @@ use crate::form::Form;
 use crate::kind::is_hal;
 use crate::log::show_log;
 use crate::picture::text_of;
-use call_status::{Status, answer};
+use call_parts::{InputWork, Status, TOO_LONG, answer, answer_input, refuse_script, refuse_trace};
 use cam_types::Script;
-use input_refusals::{TOO_LONG, refuse_script, refuse_trace};
-use io_edge::{ReadBytes, ReadFault, Sink, Source, read_all};
+use io_edge::{Sink, Source};
 use judge_text::{parts_of, profiles_agree};
-use line_reading::TextRefused;
 use std::alloc::Global;
+use text_parts::TextRefused;
 use trace_check::{Verdict, check};
 use trace_model::TraceList;
 use trace_reader::{TRACE_BYTES, TraceRefused, read_is_spelled};
 
 /// The cause of a trace whose profile isn't the script's.
 const PROFILE_DIFFERS: u8 = 46;
+
+/// What `timeline` makes of its input.
+impl InputWork for Form {
+    ghost use Rattle.judge_text.specs.Lines.{refused_trace_text};
+    ghost use Rattle.timeline_call.specs.Shown.{Shows};
+
+    ghost limit = { 134217728 };
+
+    ghost belongs = { Shows };
+
+    ghost refusal = { λ _. refused_trace_text 0 45 };
+
+    fn refuse_long<K: Sink>(&self, alloc: Global, sink: &mut K) -> Status {
+        refuse_trace(alloc, 0, TOO_LONG, sink)
+    }
+
+    fn answer_whole<K: Sink>(&self, alloc: Global, input: &[u8], sink: &mut K) -> Status {
+        show_input(alloc, *self, input, sink)
+    }
+
+    #[tactic(auto, using(crate::proofs::Telling::are_shown, crate::proofs::Telling::long_refused))]
+    fn keeps_the_laws(&self) {}
+}
 
 /// Reads a script followed by a trace, and writes the timeline of the trace, also of one that isn't legal or complete;
 /// or reads a hal log, and writes its timeline, also of one that breaks rules. Where the input isn't that, it writes the
@@ -54,12 +76,7 @@ pub fn timeline_call<S: Source, K: Sink>(
     ensures known { result.number ≤ 5 }
     ensures no_usage { result.number ≢ 2 }
 {
-    match read_all(alloc, source, TRACE_BYTES) {
-        Err(ReadFault::Failed) => Status::SOURCE_FAILED,
-        Err(ReadFault::NoMemory) => Status::NO_MEMORY,
-        Ok(ReadBytes::TooLong) => refuse_trace(alloc, 0, TOO_LONG, sink),
-        Ok(ReadBytes::Whole(bytes)) => show_input(alloc, form, bytes.as_slice(), sink),
-    }
+    answer_input(alloc, source, sink, TRACE_BYTES, &form)
 }
 
 /// Writes the timeline of an input that was read.

@@ -4,8 +4,8 @@ ghost use Rattle.timeline_call.specs.Fronts.{text_in};
 
 use cam_types::NoMemory;
 use std::alloc::Global;
-use timeline_chart::Chart;
 use timeline_json::json_text;
+use timeline_model::Chart;
 use timeline_svg::svg_text;
 
 /// The form of a timeline.

@@ -1,7 +1,7 @@
 //! The timeline of a hal log: it is read, judged, and drawn.
 ghost use Rattle.std.specs.Prelude.{◌≡◌, IfOk, IsTrue, if◌then◌else◌};
 ghost use Rattle.std.specs.List.{list_all};
-ghost use Rattle.call_status.specs.Answers.{AnswersWithMemory, TellsBy};
+ghost use Rattle.call_parts.specs.Answers.{AnswersWithMemory, TellsBy};
 ghost use Rattle.hal_person.specs.Refusal.{refused_text as refused_log_text};
 ghost use Rattle.hal_spelling.specs.Fits.{is_valid, is_well_made};
 ghost use Rattle.hal_text.specs.Meaning.{log_of};
@@ -11,7 +11,7 @@ ghost use Rattle.timeline_call.specs.Logs.{log_status, log_text};
 ghost use Rattle.timeline_call.specs.Shown.{ShowsLog};
 
 use crate::form::{Form, text_in};
-use call_status::{Status, answer};
+use call_parts::{Status, answer};
 use cam_types::NoMemory;
 use hal_person::refused_text;
 use hal_text::{Cause, HalLog, LogRefused, read};

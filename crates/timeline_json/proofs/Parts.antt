@@ -4,12 +4,12 @@ use Rattle.std.specs.List.{flat_map}
 use Rattle.serde_json.specs.Data.{Data}
 use Rattle.serde_json.specs.Written.{compact_text, items_text}
 use Rattle.serde_json.proofs.OnLiterals.{serde_json_on_literals}
-use Rattle.timeline_chart.specs.declared.chart.Chart.{Chart}
-use Rattle.timeline_chart.specs.declared.chart.Group.{Group}
-use Rattle.timeline_chart.specs.declared.chart.Kind.{Kind}
-use Rattle.timeline_chart.specs.declared.chart.Kind.TheVariants.{Trace, Hal}
-use Rattle.timeline_chart.specs.declared.chart.Lane.{Lane}
-use Rattle.timeline_chart.specs.declared.chart.Piece.{Piece}
+use Rattle.timeline_model.specs.declared.chart.Chart.{Chart}
+use Rattle.timeline_model.specs.declared.chart.Group.{Group}
+use Rattle.timeline_model.specs.declared.chart.Kind.{Kind}
+use Rattle.timeline_model.specs.declared.chart.Kind.TheVariants.{Trace, Hal}
+use Rattle.timeline_model.specs.declared.chart.Lane.{Lane}
+use Rattle.timeline_model.specs.declared.chart.Piece.{Piece}
 use Rattle.timeline_json.specs.Events.{verdict_data}
 use Rattle.timeline_json.specs.Timelines.{behind_commas, call_threads, call_threads_text, camera_data, camera_text, events_text, fault_events, fault_group_text, fault_of, group_events, group_text, hal_threads, hal_threads_text, head_text, items_of, json_text, level_events, more_events, names_text, note_line, piece_events, piece_text, rest_text, stream_name, thread, thread_names, thread_text, threads_text, told_of, trace_data, trace_threads, trace_threads_text, unfinished_event, verdict_text}
 

@@ -3,18 +3,17 @@ use Rattle.std.specs.Prelude.{ℕ, ◌+◌, ◌-◌, Bool, true, false, ◌||◌
 use Rattle.std.specs.List.{flat_map}
 use Rattle.serde_json.specs.Data.{Data, Items, array, object, member, no_members, item, no_items}
 use Rattle.serde_json.specs.Written.{compact_text}
-use Rattle.timeline_chart.specs.declared.chart.Chart.{Chart}
-use Rattle.timeline_chart.specs.declared.chart.Group.{Group}
-use Rattle.timeline_chart.specs.declared.chart.Kind.{Kind}
-use Rattle.timeline_chart.specs.declared.chart.Kind.TheVariants.{Trace, Hal}
-use Rattle.timeline_chart.specs.declared.chart.Lane.{Lane}
-use Rattle.timeline_chart.specs.declared.chart.Piece.{Piece}
-use Rattle.timeline_chart.specs.declared.look.Look.{Look}
-use Rattle.timeline_chart.specs.declared.look.Look.TheVariants.{Send, Filled, Failed, Early, Late, RequestBegin, Unclear}
+use Rattle.timeline_model.specs.declared.chart.Chart.{Chart}
+use Rattle.timeline_model.specs.declared.chart.Group.{Group}
+use Rattle.timeline_model.specs.declared.chart.Kind.{Kind}
+use Rattle.timeline_model.specs.declared.chart.Kind.TheVariants.{Trace, Hal}
+use Rattle.timeline_model.specs.declared.chart.Lane.{Lane}
+use Rattle.timeline_model.specs.declared.chart.Piece.{Piece}
+use Rattle.timeline_model.specs.declared.look.Look.{Look}
+use Rattle.timeline_model.specs.declared.look.Look.TheVariants.{Send, Filled, Failed, Early, Late, RequestBegin, Unclear}
 use Rattle.timeline_json.specs.Events.{called_data, count_data, flow_data, levels_data, line_data, naming_data, slice_data, verdict_data}
 use Rattle.timeline_json.specs.Plain.{plain}
-use Rattle.timeline_json.specs.Tracks.{call_text, fault_text, look_text, named, own, track_of}
-use Rattle.timeline_json.specs.declared.track.Track.{Track}
+use Rattle.timeline_json.specs.Tracks.{fault_text, look_text, named, own, track_of}
 
 -- a slice begins where what ends there began, or else at its place
 abbrev pub start_of : ℕ → Option ℕ → ℕ

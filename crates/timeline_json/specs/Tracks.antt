@@ -1,13 +1,13 @@
 -- The tracks, and what a slice is called (our own choice).
 use Rattle.std.specs.Prelude.{ℕ, ◌+◌, List, ◌∷◌, ◌++◌, Option, Some, None, codes, decimal}
-use Rattle.command_words.specs.Words.{word_text}
-use Rattle.timeline_chart.specs.declared.chart.Kind.{Kind}
-use Rattle.timeline_chart.specs.declared.chart.Kind.TheVariants.{Trace, Hal}
-use Rattle.timeline_chart.specs.declared.look.HalCall.{HalCall}
-use Rattle.timeline_chart.specs.declared.look.HalCall.TheVariants.{Open, Init, Template, Configure, Flush, Close}
-use Rattle.timeline_chart.specs.declared.look.Look.{Look}
-use Rattle.timeline_chart.specs.declared.look.Look.TheVariants.{Begin, Call, Send, Dropped, Shutter, Partial, Filled, Failed, ErrorRequest, ErrorResult, ErrorBuffer, ErrorDevice, Release, Signal, Early, Late, CallBegin, CallOk, CallError, RequestBegin, RequestOk, RequestError, Refused, Unclear, Unfinished}
-use Rattle.timeline_chart.specs.declared.seat.Seat.{Seat}
+use Rattle.text_parts.specs.CommandWords.{word_text}
+use Rattle.timeline_model.specs.declared.chart.Kind.{Kind}
+use Rattle.timeline_model.specs.declared.chart.Kind.TheVariants.{Trace, Hal}
+use Rattle.timeline_model.specs.declared.look.HalCall.{HalCall}
+use Rattle.timeline_model.specs.declared.look.HalCall.TheVariants.{Open, Init, Template, Configure, Flush, Close}
+use Rattle.timeline_model.specs.declared.look.Look.{Look}
+use Rattle.timeline_model.specs.declared.look.Look.TheVariants.{Begin, Call, Send, Dropped, Shutter, Partial, Filled, Failed, ErrorRequest, ErrorResult, ErrorBuffer, ErrorDevice, Release, Signal, Early, Late, CallBegin, CallOk, CallError, RequestBegin, RequestOk, RequestError, Refused, Unclear, Unfinished}
+use Rattle.timeline_model.specs.declared.seat.Seat.{Seat}
 use Rattle.timeline_json.specs.declared.track.Track.{Track}
 
 -- what the whole camera does are threads of process 1

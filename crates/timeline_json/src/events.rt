@@ -9,7 +9,7 @@ use crate::text::put_plain;
 use crate::track::{fault_text, look_text, named, own, track_of};
 use cam_types::NoMemory;
 use std::alloc::Global;
-use timeline_chart::{Group, Kind, Look, Piece};
+use timeline_model::{Group, Kind, Look, Piece};
 
 /// Where a slice begins.
 fn start_of(place: u32, since: Option<u32>) -> u64

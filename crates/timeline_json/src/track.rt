@@ -3,9 +3,9 @@ ghost use Rattle.std.specs.Prelude.{◌≡◌, IfOk, string_bytes};
 ghost use Rattle.timeline_json.specs.Tracks.{call_text, call_thread, fault_text, look_text, named, own, row_track, track_of};
 
 use cam_types::NoMemory;
-use command_words::word_text;
 use std::alloc::Global;
-use timeline_chart::{HalCall, Kind, Look, Seat};
+use text_parts::word_text;
+use timeline_model::{HalCall, Kind, Look, Seat};
 
 /// A track: a thread of a process, as the trace events call them. Process 1 has what the whole camera does, and each
 /// stream has a process of its own, whose threads are its rows.

@@ -10,7 +10,7 @@ use crate::text::{put, put_plain, put_value};
 use crate::track::{Track, named, own};
 use cam_types::NoMemory;
 use std::alloc::Global;
-use timeline_chart::{Chart, Kind, Lane, Series};
+use timeline_model::{Chart, Kind, Lane, Series};
 
 /// Writes the name of a thread.
 #[tactic(auto, unfolding(crate::specs::Timelines::thread_text))]

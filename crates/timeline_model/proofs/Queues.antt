@@ -1,7 +1,6 @@
 -- How many items wait after an entry of a legal trace.
 use Rattle.std.proofs.Common.{◌≡◌, ℕ, suc, ◌+◌, ◌-◌, List, [], ◌∷◌, ◌++◌, length, refl, ap, sym, ◌∙◌, arith, length-append}
 use Rattle.cam_types.specs.declared.item.Item.{Item}
-use Rattle.cam_types.specs.declared.number.RequestId.{RequestId}
 use Rattle.cam_types.specs.declared.reply.Reply.TheVariants.{Ok, Submitted, Configured, Refused}
 use Rattle.cam_types.specs.declared.request.WaitingItem.{WaitingItem}
 use Rattle.cam_types.specs.declared.script.Script.{Script}
@@ -10,13 +9,10 @@ use Rattle.trace_model.specs.Legal.{IsLegal}
 use Rattle.trace_model.specs.Queue.{named, puts, queued, queued_items}
 use Rattle.trace_model.specs.declared.entry.Entry.{Entry}
 use Rattle.trace_model.specs.declared.entry.Entry.TheVariants.{Call, Send, Dropped}
-use Rattle.queue_facts.specs.Turns.{Turns, noted, tail, turns}
-use Rattle.queue_facts.proofs.Steps.{noted_is}
+use Rattle.state_facts.specs.Turns.{Turns, noted, tail, turns}
+use Rattle.state_facts.proofs.Steps.{noted_is}
 use Rattle.timeline_model.specs.Walks.{queued_by}
-
-named-length : (r : RequestId) (i : ℕ) (items : List Item) → length (named r i items) ≡ length items
-named-length r i [] = refl
-named-length r i (item ∷ items) = ap (λ n. suc n) (named-length r (i + 1) items)
+use Rattle.trace_laws.proofs.FrameLemmas.{named-length}
 
 tail-length : (ws : List WaitingItem) → length (tail ws) ≡ length ws - 1
 tail-length [] = refl

@@ -1,19 +1,19 @@
 -- A timeline as a chart (our own choice of what is drawn).
 use Rattle.std.specs.Prelude.{ℕ, ◌+◌, Bool, true, false, List, [], ◌∷◌, ◌++◌, Option, Some, None, length, map, min, nat_lt, if◌then◌else◌}
 use Rattle.std.specs.Option.{option_map}
-use Rattle.timeline_chart.specs.declared.chart.Chart.{Chart}
-use Rattle.timeline_chart.specs.declared.chart.Group.{Group}
-use Rattle.timeline_chart.specs.declared.chart.Kind.TheVariants as kind
-use Rattle.timeline_chart.specs.declared.chart.Lane.{Lane}
-use Rattle.timeline_chart.specs.declared.chart.Piece.{Piece}
-use Rattle.timeline_chart.specs.declared.look.Look.{Look}
-use Rattle.timeline_chart.specs.declared.look.Look.TheVariants as look
-use Rattle.timeline_chart.specs.declared.seat.Seat.{Seat}
+use Rattle.timeline_model.specs.declared.chart.Chart.{Chart}
+use Rattle.timeline_model.specs.declared.chart.Group.{Group}
+use Rattle.timeline_model.specs.declared.chart.Kind.TheVariants as kind
+use Rattle.timeline_model.specs.declared.chart.Lane.{Lane}
+use Rattle.timeline_model.specs.declared.chart.Piece.{Piece}
+use Rattle.timeline_model.specs.declared.look.Look.{Look}
+use Rattle.timeline_model.specs.declared.look.Look.TheVariants as look
+use Rattle.timeline_model.specs.declared.seat.Seat.{Seat}
 use Rattle.trace_model.specs.declared.entry.Entry.{Entry}
 use Rattle.trace_model.specs.declared.entry.Entry.TheVariants.{Begin, Call, Send, Dropped, Shutter, Partial, Filled, Failed, ErrorRequest, ErrorResult, ErrorBuffer, ErrorDevice, Release, Signal, Early, Late}
 use Rattle.timeline_model.specs.declared.drawn.Drawn.{Drawn}
 use Rattle.timeline_model.specs.declared.drawn.Timeline.{Timeline}
-use Rattle.timeline_model.specs.Lines.{shown_line}
+use Rattle.timeline_model.specs.TraceLines.{shown_line}
 
 abbrev pub look_of : Entry → Look
 look_of (Begin _) = look.Begin

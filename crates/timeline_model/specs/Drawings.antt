@@ -12,8 +12,8 @@ use Rattle.trace_model.specs.declared.entry.Sent.{Sent}
 use Rattle.trace_model.specs.Entry.{is_early_with}
 use Rattle.trace_model.specs.Queue.{queued}
 use Rattle.trace_model.specs.Stopping.{is_stopping}
-use Rattle.timeline_chart.specs.Seats.{is_seat_of, with_seat, without}
-use Rattle.timeline_chart.specs.declared.seat.Seat.{Seat}
+use Rattle.timeline_model.specs.Seats.{is_seat_of, with_seat, without}
+use Rattle.timeline_model.specs.declared.seat.Seat.{Seat}
 use Rattle.timeline_model.specs.declared.drawn.Drawn.{Drawn}
 use Rattle.timeline_model.specs.declared.past.Target.{Target}
 

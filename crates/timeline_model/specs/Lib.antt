@@ -1,5 +1,7 @@
+pub mod Lines
+pub mod Seats
 pub mod Drawings
 pub mod Walks
 pub mod Timelines
-pub mod Lines
+pub mod TraceLines
 pub mod Charts

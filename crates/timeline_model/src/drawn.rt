@@ -1,7 +1,7 @@
 //! What is drawn.
 
+use crate::{Seat, Series};
 use cam_types::Listing;
-use timeline_chart::{Seat, Series};
 use trace_model::Entry;
 
 /// What is drawn of an entry at its place.

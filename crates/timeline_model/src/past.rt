@@ -3,9 +3,9 @@ ghost use Rattle.std.specs.Prelude.{◌≡◌, reverse, option_copied, find};
 ghost use Rattle.trace_model.specs.Entry.{is_early_with};
 ghost use Rattle.timeline_model.specs.Drawings.{since, since_seat, target_in, target_of};
 
+use crate::Seat;
 use cam_types::{FenceNo, FrameNo, StreamIx};
 use judge_entries::entry::is_early_with;
-use timeline_chart::Seat;
 use trace_model::Entry;
 
 /// A frame's target.

@@ -8,9 +8,9 @@ ghost use Rattle.timeline_model.specs.Walks.{Fits};
 use crate::drawn::{Drawn, Timeline};
 use crate::past::{Target, since, target_in};
 use crate::walk::Walk;
+use crate::{Seat, Series, seat_of};
 use cam_types::{Listing, NoMemory, Script};
 use std::alloc::Global;
-use timeline_chart::{Seat, Series, seat_of};
 use trace_model::Entry;
 
 /// The seat of a target, where there is one.

@@ -10,11 +10,11 @@ ghost use Rattle.timeline_model.specs.Drawings.{begun_at, begun_anew, configured
 ghost use Rattle.timeline_model.specs.Walks.{Fits, queued_by};
 
 use crate::past::{Target, target_in};
+use crate::{Seat, keep_other, seat_of, take_seat};
 use cam_types::{Four, FrameNo, Made, NoMemory, Reply, Script};
 use judge_entries::command::{command_at, queued_items};
 use judge_entries::entry::is_stop_word;
 use std::alloc::Global;
-use timeline_chart::{Seat, keep_other, seat_of, take_seat};
 use trace_model::{Entry, Sent};
 
 /// What stands after the entries so far.

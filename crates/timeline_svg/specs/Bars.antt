@@ -1,7 +1,7 @@
 -- Bars (our own choice).
 use Rattle.std.specs.Prelude.{ℕ, ◌+◌, List, [], ◌∷◌, ◌++◌, Option, Some, None, codes, decimal}
-use Rattle.timeline_chart.specs.declared.chart.Piece.{Piece}
-use Rattle.timeline_chart.specs.declared.seat.Seat.{Seat}
+use Rattle.timeline_model.specs.declared.chart.Piece.{Piece}
+use Rattle.timeline_model.specs.declared.seat.Seat.{Seat}
 use Rattle.timeline_svg.specs.Places.{mark_y, x_of}
 use Rattle.timeline_svg.specs.declared.place.Layout.{Layout}
 

@@ -1,8 +1,8 @@
 -- What is drawn of a line of the input (our own choice).
 use Rattle.std.specs.Prelude.{ℕ, Bool, List, [], ◌∷◌, ◌++◌, Option, Some, None, codes, decimal, if◌then◌else◌}
 use Rattle.std.specs.List.{flat_map}
-use Rattle.timeline_chart.specs.declared.chart.Group.{Group}
-use Rattle.timeline_chart.specs.declared.chart.Piece.{Piece}
+use Rattle.timeline_model.specs.declared.chart.Group.{Group}
+use Rattle.timeline_model.specs.declared.chart.Piece.{Piece}
 use Rattle.timeline_svg.specs.Bars.{bar_of}
 use Rattle.timeline_svg.specs.Escapes.{escaped}
 use Rattle.timeline_svg.specs.Marks.{class_of, mark_text}

@@ -1,9 +1,9 @@
 -- The lanes behind the marks, with their names, and the ruler above them (our own choice). 72 is `H`, 118 `v`.
 use Rattle.std.specs.Prelude.{ℕ, ◌+◌, ◌-◌, ◌%◌, ◌==◌, List, [], ◌∷◌, ◌++◌, codes, decimal, if◌then◌else◌}
 use Rattle.std.specs.List.{flat_map}
-use Rattle.timeline_chart.specs.declared.chart.Kind.{Kind}
-use Rattle.timeline_chart.specs.declared.chart.Kind.TheVariants.{Trace, Hal}
-use Rattle.timeline_chart.specs.declared.chart.Lane.{Lane}
+use Rattle.timeline_model.specs.declared.chart.Kind.{Kind}
+use Rattle.timeline_model.specs.declared.chart.Kind.TheVariants.{Trace, Hal}
+use Rattle.timeline_model.specs.declared.chart.Lane.{Lane}
 use Rattle.timeline_svg.specs.Places.{lane_height, lane_top, lower, shift, x_of}
 use Rattle.timeline_svg.specs.declared.lane.TheConstants.{HAL_NAMES, TRACE_NAMES}
 use Rattle.timeline_svg.specs.declared.place.Layout.{Layout}

@@ -1,8 +1,8 @@
 -- What goes through the whole picture (our own choice): lines that take a step at each place. 86 is `V`.
 use Rattle.std.specs.Prelude.{ℕ, ◌+◌, ◌-◌, ◌*◌, Bool, List, ◌∷◌, ◌++◌, codes, decimal, min, if◌then◌else◌}
 use Rattle.std.specs.List.{flat_map}
-use Rattle.timeline_chart.specs.declared.chart.Group.{Group}
-use Rattle.timeline_chart.specs.declared.chart.Kind.{Kind}
+use Rattle.timeline_model.specs.declared.chart.Group.{Group}
+use Rattle.timeline_model.specs.declared.chart.Kind.{Kind}
 use Rattle.timeline_svg.specs.Places.{shift}
 
 -- where the line of the level has its ground

@@ -1,8 +1,8 @@
 -- The mark of a piece (our own choice).
 use Rattle.std.specs.Prelude.{ℕ, List, ◌∷◌, ◌++◌, codes, decimal}
-use Rattle.timeline_chart.specs.declared.chart.Piece.{Piece}
-use Rattle.timeline_chart.specs.declared.look.Look.{Look}
-use Rattle.timeline_chart.specs.declared.look.Look.TheVariants.{Begin, Call, Send, Dropped, Shutter, Partial, Filled, Failed, ErrorRequest, ErrorResult, ErrorBuffer, ErrorDevice, Release, Signal, Early, Late, CallBegin, CallOk, CallError, RequestBegin, RequestOk, RequestError, Refused, Unclear, Unfinished}
+use Rattle.timeline_model.specs.declared.chart.Piece.{Piece}
+use Rattle.timeline_model.specs.declared.look.Look.{Look}
+use Rattle.timeline_model.specs.declared.look.Look.TheVariants.{Begin, Call, Send, Dropped, Shutter, Partial, Filled, Failed, ErrorRequest, ErrorResult, ErrorBuffer, ErrorDevice, Release, Signal, Early, Late, CallBegin, CallOk, CallError, RequestBegin, RequestOk, RequestError, Refused, Unclear, Unfinished}
 use Rattle.timeline_svg.specs.Places.{mark_y, x_of}
 use Rattle.timeline_svg.specs.declared.place.Layout.{Layout}
 

@@ -1,7 +1,7 @@
 -- The whole picture (our own choice).
 use Rattle.std.specs.Prelude.{ℕ, ◌+◌, List, ◌++◌, codes, decimal, length}
 use Rattle.std.specs.List.{flat_map}
-use Rattle.timeline_chart.specs.declared.chart.Chart.{Chart}
+use Rattle.timeline_model.specs.declared.chart.Chart.{Chart}
 use Rattle.timeline_svg.specs.Escapes.{escaped}
 use Rattle.timeline_svg.specs.Groups.{fault_of, group_text, unfinished_text}
 use Rattle.timeline_svg.specs.Lanes.{lanes_text, names_text, ruler_step}

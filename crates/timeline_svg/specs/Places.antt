@@ -1,12 +1,12 @@
 -- Where things stand in the picture, in pixels (our own choice).
 use Rattle.std.specs.Prelude.{ℕ, ◌+◌, ◌*◌, Option, Some, None, max, min}
-use Rattle.timeline_chart.specs.declared.chart.Kind.{Kind}
-use Rattle.timeline_chart.specs.declared.chart.Kind.TheVariants.{Trace, Hal}
-use Rattle.timeline_chart.specs.declared.look.HalCall.{HalCall}
-use Rattle.timeline_chart.specs.declared.look.HalCall.TheVariants as call
-use Rattle.timeline_chart.specs.declared.look.Look.{Look}
-use Rattle.timeline_chart.specs.declared.look.Look.TheVariants as look
-use Rattle.timeline_chart.specs.declared.seat.Seat.{Seat}
+use Rattle.timeline_model.specs.declared.chart.Kind.{Kind}
+use Rattle.timeline_model.specs.declared.chart.Kind.TheVariants.{Trace, Hal}
+use Rattle.timeline_model.specs.declared.look.HalCall.{HalCall}
+use Rattle.timeline_model.specs.declared.look.HalCall.TheVariants as call
+use Rattle.timeline_model.specs.declared.look.Look.{Look}
+use Rattle.timeline_model.specs.declared.look.Look.TheVariants as look
+use Rattle.timeline_model.specs.declared.seat.Seat.{Seat}
 use Rattle.timeline_svg.specs.declared.place.Layout.{Layout}
 
 -- ten pixels a line of the input

@@ -1,9 +1,9 @@
 -- Words beside marks (our own choice).
 use Rattle.std.specs.Prelude.{ℕ, ◌+◌, ◌/◌, List, [], ◌∷◌, ◌++◌, codes, decimal}
-use Rattle.command_words.specs.Words.{word_text}
-use Rattle.timeline_chart.specs.declared.chart.Kind.{Kind}
-use Rattle.timeline_chart.specs.declared.look.Look.{Look}
-use Rattle.timeline_chart.specs.declared.look.Look.TheVariants.{Call, Shutter}
+use Rattle.text_parts.specs.CommandWords.{word_text}
+use Rattle.timeline_model.specs.declared.chart.Kind.{Kind}
+use Rattle.timeline_model.specs.declared.look.Look.{Look}
+use Rattle.timeline_model.specs.declared.look.Look.TheVariants.{Call, Shutter}
 use Rattle.timeline_svg.specs.Places.{lower, x_of}
 
 -- the beginning of a word that stands aslant above its mark

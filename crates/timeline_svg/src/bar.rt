@@ -5,7 +5,7 @@ ghost use Rattle.timeline_svg.specs.Bars.{bar_of, bar_text, end_text, label_of, 
 use crate::pen::{put, put_number};
 use crate::place::{Layout, mark_y, x_of};
 use cam_types::NoMemory;
-use timeline_chart::{Piece, Seat};
+use timeline_model::{Piece, Seat};
 
 /// Writes where a bar ends, and its way back.
 #[tactic(auto, unfolding(crate::specs::Bars::end_text))]

@@ -9,7 +9,7 @@ use crate::pen::{put, put_escaped, put_number};
 use crate::place::{Layout, x_of};
 use crate::word::put_word_of;
 use cam_types::NoMemory;
-use timeline_chart::{Group, Piece};
+use timeline_model::{Group, Piece};
 
 /// Writes the bar that ends with a piece, its mark, and a word.
 fn put_drawing(out: &mut Vec<u8>, layout: Layout, place: u32, piece: &Piece) -> Result<(), NoMemory>

@@ -6,7 +6,7 @@ ghost use Rattle.timeline_svg.specs.Lanes.{fences_stripe, kind_names, lanes_text
 use crate::pen::{put, put_number};
 use crate::place::{Layout, lane_height, lane_top, lower, shift, x_of};
 use cam_types::NoMemory;
-use timeline_chart::{Group, Kind, Lane};
+use timeline_model::{Group, Kind, Lane};
 
 /// The names of the lanes that each picture of a trace has.
 pub const TRACE_NAMES: &[u8] =

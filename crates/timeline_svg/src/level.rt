@@ -6,7 +6,7 @@ ghost use Rattle.timeline_svg.specs.Levels.{band_step, band_y, bands_text, groun
 use crate::pen::{put, put_number};
 use crate::place::shift;
 use cam_types::NoMemory;
-use timeline_chart::{Group, Kind};
+use timeline_model::{Group, Kind};
 
 /// Where the line of the level has its ground.
 fn ground_y(kind: Kind) -> u64

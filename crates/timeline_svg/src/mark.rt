@@ -5,7 +5,7 @@ ghost use Rattle.timeline_svg.specs.Marks.{class_of, mark_text, shape_of};
 use crate::pen::{put, put_number};
 use crate::place::{Layout, mark_y, x_of};
 use cam_types::NoMemory;
-use timeline_chart::{Look, Piece};
+use timeline_model::{Look, Piece};
 
 /// The class of a look: one letter, of which the style sheet has the colour.
 pub fn class_of(look: Look) -> u8

@@ -11,7 +11,7 @@ use crate::place::{Layout, bottom, height, width};
 use crate::style::STYLE;
 use cam_types::NoMemory;
 use std::alloc::Global;
-use timeline_chart::{Chart, Series};
+use timeline_model::{Chart, Series};
 
 /// Writes the picture's size.
 #[tactic(auto, unfolding(crate::specs::Pictures::size_text))]

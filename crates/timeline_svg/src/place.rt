@@ -2,7 +2,7 @@
 ghost use Rattle.std.specs.Prelude.{◌≡◌, ◌<◌, ◌≤◌, ◌^◌};
 ghost use Rattle.timeline_svg.specs.Places.{bottom, call_y, height, lane_height, lane_top, lower, mark_y, part_y, row_y, shift, top, width, x_of};
 
-use timeline_chart::{HalCall, Kind, Look, Piece, Seat};
+use timeline_model::{HalCall, Kind, Look, Piece, Seat};
 
 /// Which lanes there are, and how many rows that of a stream has.
 #[derive(Clone, Copy, Debug, PartialEq, Eq)]

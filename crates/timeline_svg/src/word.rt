@@ -5,8 +5,8 @@ ghost use Rattle.timeline_svg.specs.Words.{turned_text, word_of};
 use crate::pen::{put, put_number};
 use crate::place::{lower, x_of};
 use cam_types::NoMemory;
-use command_words::word_text;
-use timeline_chart::{Kind, Look};
+use text_parts::word_text;
+use timeline_model::{Kind, Look};
 
 /// Writes the beginning of a word that stands aslant above its mark.
 #[tactic(auto, unfolding(crate::specs::Words::turned_text))]

@@ -1,10 +1,10 @@
 use Rattle.std.specs.Prelude.{ℕ, Bool, List, Option, Some, None, if◌then◌else◌}
 use Rattle.io_edge.specs.States.{SinkState, Writes}
-use Rattle.call_status.specs.Answers.{Answers, Tells}
+use Rattle.call_parts.specs.Answers.{Answers, Tells}
 use Rattle.hal_call.specs.Judging.{IsUnbroken, Judges}
 use Rattle.hal_call.specs.declared.form.Form.{Form}
 use Rattle.hal_call.specs.declared.form.Form.TheVariants.{Person, Plain}
-use Rattle.hal_of_call.specs.Shown.{IsShown as IsHalLog, Shows as ShowsHalLog}
+use Rattle.hal_call.specs.Shown.{IsShown as IsHalLog, Shows as ShowsHalLog}
 use Rattle.candidates_call.specs.Says.{IsWhole as IsMoves, Says as SaysMoves}
 use Rattle.explain_call.specs.Explaining.{Explains, IsExplainedLegal}
 use Rattle.timeline_call.specs.Shown.{IsShown as IsTimeline, Shows as ShowsTimeline}
@@ -14,8 +14,8 @@ use Rattle.video_call.specs.Shows.{IsShown as IsFilm, Shows as ShowsFilm}
 use Rattle.video_call.specs.declared.wanted.Wanted.{Wanted}
 use Rattle.video_call.specs.declared.wanted.Wanted.TheVariants.{Film, Picture as OnePicture}
 use Rattle.tools_top.specs.Help.{help_text, usage_line}
-use Rattle.tools_words.specs.declared.tool.Tool.{Tool}
-use Rattle.tools_words.specs.declared.tool.Tool.TheVariants.{Candidates, Explain, Hal, HalOf, Help, Picture, Timeline, Video}
+use Rattle.tools_top.specs.declared.tool.Tool.{Tool}
+use Rattle.tools_top.specs.declared.tool.Tool.TheVariants.{Candidates, Explain, Hal, HalOf, Help, Picture, Timeline, Video}
 
 -- for whom the report of `hal` is written
 abbrev pub form_of : Bool → Form

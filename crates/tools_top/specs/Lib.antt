@@ -1,3 +1,4 @@
+pub mod Tools
 pub mod Words
 pub mod Help
 pub mod Commands

@@ -1,7 +1,7 @@
 -- Which tools read the source, and how much of it. (docs/FORMATS.md, Limits)
 use Rattle.std.specs.Prelude.{ℕ, Option, Some, None}
-use Rattle.tools_words.specs.declared.tool.Tool.{Tool}
-use Rattle.tools_words.specs.declared.tool.Tool.TheVariants.{Candidates, Explain, Hal, HalOf, Picture, Timeline, Video}
+use Rattle.tools_top.specs.declared.tool.Tool.{Tool}
+use Rattle.tools_top.specs.declared.tool.Tool.TheVariants.{Candidates, Explain, Hal, HalOf, Picture, Timeline, Video}
 
 -- the most bytes of an input that the tool takes, where it reads one: a script's, a hal log's, and a trace's behind its
 -- script

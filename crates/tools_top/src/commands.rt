@@ -2,23 +2,22 @@
 ghost use Rattle.std.specs.Prelude.{◌≡◌, ◌≢◌, ◌≤◌, true, false, is_some, IfSome, Option};
 ghost use Rattle.std.specs.Io.KnownBytes.{IsAtEnd};
 ghost use Rattle.io_edge.specs.States.{Writes};
-ghost use Rattle.call_status.specs.Answers.{Answers};
-ghost use Rattle.call_status.specs.Ends.{CountsSink, CountsSource, ReadsBy};
+ghost use Rattle.call_parts.specs.Answers.{Answers};
+ghost use Rattle.call_parts.specs.Ends.{CountsSink, CountsSource, ReadsBy};
 ghost use Rattle.tools_top.specs.Commands.{IsDone, TellsOfTool, drawing_of, form_of};
 ghost use Rattle.tools_top.specs.Help.{help_text, usage_line};
 ghost use Rattle.tools_top.specs.Words.{limit_of};
-ghost use Rattle.tools_words.specs.Tools.{tool_of};
+ghost use Rattle.tools_top.specs.Tools.{tool_of};
 
-use call_status::{Status, answer};
+use crate::{Tool, tool_of};
+use call_parts::{Status, answer};
 use cam_types::{FrameNo, StreamIx};
 use candidates_call::candidates_call;
 use explain_call::explain_call;
-use hal_call::{Form, hal_call};
-use hal_of_call::hal_of_call;
+use hal_call::{Form, hal_call, hal_of_call};
 use io_edge::{Sink, Source};
 use std::alloc::Global;
 use timeline_call::{Form as Drawing, timeline_call};
-use tools_words::{Tool, tool_of};
 use video_call::{picture_call, video_call};
 
 /// The line of words that ask for no tool.

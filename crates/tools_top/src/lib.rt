@@ -1,7 +1,9 @@
-//! The second program over any ends: the tool that its words ask for is run.
+//! The second program over any ends: the tool that its words ask for is found and run.
 #![tactic(auto)]
 
 mod commands;
+mod tool;
 
-pub use call_status::Status;
+pub use call_parts::Status;
 pub use commands::{help_call, tools_main};
+pub use tool::{Tool, tool_of};

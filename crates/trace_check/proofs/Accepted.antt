@@ -27,9 +27,11 @@ use Rattle.trace_model.specs.Entry.{is_refusal}
 use Rattle.trace_model.specs.Frames.{item_in, item_of, send_of}
 use Rattle.trace_model.specs.Legal.{IsLegal}
 use Rattle.trace_model.specs.Numbers.{call_count}
-use Rattle.trace_model.specs.Queue.{queued, repeating}
 use Rattle.trace_model.specs.Reply.{acceptance, own_refusal, queue_refusal, reply, reply_with, state_refusal}
 use Rattle.cam_types.specs.Refusals.{refused, or_else, where_true, with_value, first_repeated, targets_refusal, item_refusal, items_refusal, list_refusal, is_raw, is_yuv, at_place, specs_refusal}
+use Rattle.request_checks.proofs.Accepted.{few_specs}
+use Rattle.run_rows.proofs.Ranges.{items-in-range, list-in-range}
+use Rattle.trace_laws.proofs.Refusals.{or-refuses, value-refuses, own-refuses, state-refuses}
 
 -- ---- a refusal is none, or refuses
 
@@ -37,39 +39,20 @@ abbrev refuses : Option Reply → Bool
 refuses None = true
 refuses (Some r) = is_refusal r
 
-either-refuses : (a b : Option Reply) → refuses a ≡ true → refuses b ≡ true → refuses (or_else a b) ≡ true
-either-refuses (Some r) b h k = h
-either-refuses None b h k = k
-
-test-refuses : (b : Bool) (code : ℕ) → refuses (where_true b (refused code)) ≡ true
-test-refuses true code = refl
-test-refuses false code = refl
-
-place-refuses : (code : ℕ) (o : Option ℕ) → refuses (at_place code o) ≡ true
-place-refuses code (Some i) = refl
-place-refuses code None = refl
-
-value-refuses : (code i : ℕ) (o : Option ℕ) → refuses (with_value code i o) ≡ true
-value-refuses code i (Some value) = refl
-value-refuses code i None = refl
-
 targets-refuse : (streams i : ℕ) (targets : List ℕ) → refuses (targets_refusal streams i targets) ≡ true
 targets-refuse streams i [] = refl
-targets-refuse streams i (t ∷ targets) = either-refuses (with_value 6 i (find (λ u. not (nat_lt u streams)) (t ∷ targets))) (with_value 7 i (first_repeated [] (t ∷ targets))) (value-refuses 6 i (find (λ u. not (nat_lt u streams)) (t ∷ targets))) (value-refuses 7 i (first_repeated [] (t ∷ targets)))
+targets-refuse streams i (t ∷ targets) = or-refuses (with_value 6 i (find (λ u. not (nat_lt u streams)) (t ∷ targets))) (with_value 7 i (first_repeated [] (t ∷ targets))) (value-refuses 6 i (find (λ u. not (nat_lt u streams)) (t ∷ targets))) (value-refuses 7 i (first_repeated [] (t ∷ targets)))
 
 item-refuses : (streams i : ℕ) (item : Item) → refuses (item_refusal streams i item) ≡ true
-item-refuses streams i item = either-refuses (targets_refusal streams i (take item.targets.count item.targets.list)) (with_value 8 i (range_fault item.settings)) (targets-refuse streams i (take item.targets.count item.targets.list)) (value-refuses 8 i (range_fault item.settings))
+item-refuses streams i item = or-refuses (targets_refusal streams i (take item.targets.count item.targets.list)) (with_value 8 i (range_fault item.settings)) (targets-refuse streams i (take item.targets.count item.targets.list)) (value-refuses 8 i (range_fault item.settings))
 
 items-refuse : (streams i : ℕ) (items : List Item) → refuses (items_refusal streams i items) ≡ true
 items-refuse streams i [] = refl
-items-refuse streams i (item ∷ items) = either-refuses (item_refusal streams i item) (items_refusal streams (i + 1) items) (item-refuses streams i item) (items-refuse streams (i + 1) items)
+items-refuse streams i (item ∷ items) = or-refuses (item_refusal streams i item) (items_refusal streams (i + 1) items) (item-refuses streams i item) (items-refuse streams (i + 1) items)
 
 list-refuses : (streams : ℕ) (items : List Item) → refuses (list_refusal streams items) ≡ true
 list-refuses streams [] = refl
 list-refuses streams (item ∷ items) = items-refuse streams 0 (item ∷ items)
-
-queue-refuses : (script : Script) (past : List Entry) (items : List Item) → refuses (queue_refusal script past items) ≡ true
-queue-refuses script past items = test-refuses (nat_lt 256 (length (queued script past) + length items)) 11
 
 -- the last refusals of a configuration, and those before them
 many-raw : List StreamSpec → Option Reply
@@ -91,58 +74,12 @@ specs-parts : (specs : List StreamSpec) → specs_refusal specs ≡ bad-count sp
 unfolding many-raw
 specs-parts specs = refl
 
-many-refuse : (specs : List StreamSpec) → refuses (many-raw specs) ≡ true
-unfolding many-raw
-many-refuse specs =
-    let raw = nat_lt 1 (count_by (λ s. is_raw s.format) specs) in
-    let yuv = nat_lt 3 (count_by (λ s. is_yuv s.format) specs) in
-    either-refuses (where_true raw (refused 26)) (where_true yuv (refused 27)) (test-refuses raw 26) (test-refuses yuv 27)
-
-count-refuses : (specs : List StreamSpec) (rest : Option Reply) → refuses rest ≡ true → refuses (bad-count specs rest) ≡ true
-count-refuses specs rest h =
-    let none = not (list_any (λ s. not s.input) specs) in
-    let many = nat_lt 4 (length specs) in
-    let input = list_any (λ s. s.input) specs in
-    let third = or_else (where_true input (refused 23)) rest in
-    let second = or_else (where_true many (refused 22)) third in
-    either-refuses (where_true none (refused 21)) second (test-refuses none 21)
-    (either-refuses (where_true many (refused 22)) third (test-refuses many 22)
-    (either-refuses (where_true input (refused 23)) rest (test-refuses input 23) h))
-
-specs-refuse : (specs : List StreamSpec) → refuses (specs_refusal specs) ≡ true
-specs-refuse specs =
-    let sized = or_else (bad-size specs) (many-raw specs) in
-    let shaped = or_else (bad-format specs) sized in
-    ap refuses (specs-parts specs)
-    ∙ count-refuses specs shaped
-    (either-refuses (bad-format specs) sized (place-refuses 24 (position_from (λ s. not (is_raw s.format) && not (is_yuv s.format)) 0 specs))
-    (either-refuses (bad-size specs) (many-raw specs) (place-refuses 25 (position_from (λ s. not (is_size_of s.format s.width s.height)) 0 specs)) (many-refuse specs)))
-
-own-refuses : (script : Script) (past : List Entry) (c : Command) → refuses (own_refusal script past c) ≡ true
-own-refuses script past (Configure specs) = specs-refuse specs
-own-refuses script past (Once item) =
-    let n = length (streams script past) in
-    either-refuses (items_refusal n 0 (item ∷ [])) (queue_refusal script past (item ∷ [])) (items-refuse n 0 (item ∷ [])) (queue-refuses script past (item ∷ []))
-own-refuses script past (Burst items) =
-    let n = length (streams script past) in
-    either-refuses (list_refusal n items) (queue_refusal script past items) (list-refuses n items) (queue-refuses script past items)
-own-refuses script past (Repeat items) = list-refuses (length (streams script past)) items
-own-refuses script past Stop = test-refuses (not (is_some (repeating script past))) 9
-own-refuses script past (Await k) = test-refuses (not (is_some (repeating script past))) 9
-own-refuses script past Wait = test-refuses (is_some (repeating script past)) 10
-own-refuses script past Flush = refl
-own-refuses script past Close = refl
-own-refuses script past Disconnect = refl
-
 -- ---- a reply that isn't a refusal: the command has none
 
 accepted-of : (state own : Option Reply) (accepted r : Reply) → refuses state ≡ true → refuses own ≡ true → reply_with (or_else state own) accepted ≡ r → is_refusal r ≡ false → (own ≡ None) × (accepted ≡ r)
 accepted-of (Some s) own accepted r h k is plain = absurd (false≢true (sym (ap is_refusal is ∙ plain) ∙ h))
 accepted-of None (Some o) accepted r h k is plain = absurd (false≢true (sym (ap is_refusal is ∙ plain) ∙ k))
 accepted-of None None accepted r h k is plain = (refl, is)
-
-state-refuses : (past : List Entry) (c : Command) → refuses (state_refusal past c) ≡ true
-state-refuses past c = grind (arith, cases_Bool)
 
 -- the command that an allowed call answers
 pub record Answered (script : Script) (past : List Entry) (i : ℕ) (reply' : Reply) : Type 0 where
@@ -213,19 +150,8 @@ within-four n h = by (nat_lt 4 n) refl h
     by true is h = absurd (cc)
     by false is h = grind (arith, nat_tests, is)
 
-few-specs : (specs : List StreamSpec) → specs_refusal specs ≡ None → length specs ≤ 4
-few-specs specs h =
-    let none = not (list_any (λ s. not s.input) specs) in
-    let many = nat_lt 4 (length specs) in
-    let input = list_any (λ s. s.input) specs in
-    let sized = or_else (bad-size specs) (many-raw specs) in
-    let third = or_else (where_true input (refused 23)) (or_else (bad-format specs) sized) in
-    let second = or_else (where_true many (refused 22)) third in
-    let whole : or_else (where_true none (refused 21)) second ≡ None = sym (specs-parts specs) ∙ h in
-    within-four (length specs) (none-first (where_true many (refused 22)) third (none-left (where_true none (refused 21)) second whole))
-
 few-by : (script : Script) (past : List Entry) (c : Command) (made : Four Made) → reply script past c ≡ Configured made → length (streams_of (Some c)) ≤ 4
-few-by script past (Configure specs) made h = few-specs specs (accepted script past (Configure specs) (Configured made) h refl).0
+few-by script past (Configure specs) made h = few_specs specs (accepted script past (Configure specs) (Configured made) h refl).0
 few-by script past c made h = omega arith
 
 -- a legal past has at most four streams
@@ -274,23 +200,6 @@ streams-offered script (Early n t b f ∷ past) legal s spec at = streams-offere
 streams-offered script (Late f digest ∷ past) legal s spec at = streams-offered script past legal.1 s spec at
 
 -- ---- settings
-
-in-range-of : (code i : ℕ) (o : Option ℕ) → with_value code i o ≡ None → o ≡ None
-in-range-of code i (Some value) h = absurd (cc)
-in-range-of code i None h = refl
-
-items-in-range : (n i : ℕ) (items : List Item) → items_refusal n i items ≡ None → (k : ℕ) (item : Item) → slice_get items k ≡ Some item → range_fault item.settings ≡ None
-items-in-range n i [] h k item at = absurd (cc)
-items-in-range n i (x ∷ items) h zero item at =
-    let same : x ≡ item = cc in
-    let first = none-first (item_refusal n i x) (items_refusal n (i + 1) items) h in
-    let range = none-left (targets_refusal n i (take x.targets.count x.targets.list)) (with_value 8 i (range_fault x.settings)) first in
-    rw (sym same) (in-range-of 8 i (range_fault x.settings) range)
-items-in-range n i (x ∷ items) h (suc k) item at = items-in-range n (i + 1) items (none-left (item_refusal n i x) (items_refusal n (i + 1) items) h) k item at
-
-list-in-range : (n : ℕ) (items : List Item) → list_refusal n items ≡ None → (k : ℕ) (item : Item) → slice_get items k ≡ Some item → range_fault item.settings ≡ None
-list-in-range n [] h k item at = absurd (cc)
-list-in-range n (x ∷ items) h k item at = items-in-range n 0 (x ∷ items) h k item at
 
 in-range-by : (script : Script) (past : List Entry) (c : Command) (q : RequestId) → reply script past c ≡ Submitted q → (k : ℕ) (item : Item) → slice_get (items_of (Some c)) k ≡ Some item → range_fault item.settings ≡ None
 in-range-by script past (Once x) q h k item at =

@@ -4,57 +4,53 @@ use Rattle.std.specs.Prelude.{IsSome, is_none}
 use Rattle.std.specs.List.{list_all}
 use Rattle.std.proofs.lemmas.Bool.{and_parts, cases_Bool, false≢true}
 use Rattle.std.proofs.lemmas.Bool.Decides.{nat_tests}
-use Rattle.basic_lemmas.proofs.Lists.{all-always, all-mapped}
+use Rattle.basic_lemmas.proofs.Lists.{all-always, all-filtered, all-mapped}
 use Rattle.std.proofs.lemmas.List.{reverse-append}
 use Rattle.cam_types.specs.declared.number.BufferId.{BufferId}
 use Rattle.cam_types.specs.declared.number.FenceNo.{FenceNo}
 use Rattle.cam_types.specs.declared.number.FrameNo.{FrameNo}
 use Rattle.cam_types.specs.declared.number.RequestId.{RequestId}
 use Rattle.cam_types.specs.declared.number.StreamIx.{StreamIx}
-use Rattle.cam_types.specs.Four.{four_list}
 use Rattle.cam_types.specs.Metadata.{range_fault}
 use Rattle.cam_types.specs.Picture.{is_offered}
 use Rattle.cam_types.specs.Script.{is_valid}
 use Rattle.cam_types.specs.declared.four.Four.{Four}
 use Rattle.cam_types.specs.declared.item.Item.{Item}
-use Rattle.cam_types.specs.declared.item.Settings.{Settings}
 use Rattle.cam_types.specs.declared.reply.Reply.{Reply}
 use Rattle.cam_types.specs.declared.reply.Reply.TheVariants.{Ok, Submitted, Configured, Refused}
 use Rattle.cam_types.specs.declared.request.Queued.{Queued}
 use Rattle.cam_types.specs.declared.request.WaitingItem.{WaitingItem}
 use Rattle.cam_types.specs.declared.script.Script.{Script}
 use Rattle.cam_types.specs.declared.script.Word.{Word}
-use Rattle.cam_types.specs.declared.stream.StreamSpec.{StreamSpec}
-use Rattle.trace_bounds.specs.Typed.{is_typed}
+use Rattle.trace_laws.specs.Typed.{is_typed}
 use Rattle.trace_model.specs.declared.entry.Entry.{Entry}
 use Rattle.trace_model.specs.declared.entry.Entry.TheVariants.{Begin, Call, Send, Dropped, Shutter, Partial, Filled, Failed, ErrorRequest, ErrorResult, ErrorBuffer, ErrorDevice, Release, Signal, Early, Late}
 use Rattle.trace_model.specs.declared.entry.Sent.{Sent}
 use Rattle.trace_model.specs.Allowed.{IsAllowed}
 use Rattle.trace_model.specs.Configuration.{streams}
-use Rattle.trace_model.specs.Frames.{frames, item_of, settings_in, targets_of}
+use Rattle.trace_model.specs.Frames.{item_of, settings_in, targets_of}
 use Rattle.trace_model.specs.Legal.{IsLegal}
-use Rattle.trace_model.specs.Open.{early_fences, is_open}
+use Rattle.trace_model.specs.Open.{early_fences}
 use Rattle.trace_model.specs.Queue.{first_in}
-use Rattle.queue_facts.specs.Turns.{next_of, turns}
-use Rattle.buffer_facts.specs.Homes.{homes}
-use Rattle.buffer_facts.proofs.Readings.{all_signalled_is, pool_is}
-use Rattle.client_facts.specs.Clients.{clients}
-use Rattle.client_facts.specs.Replies.{stopping_in}
-use Rattle.row_facts.proofs.Readings.{quiet_is}
-use Rattle.row_facts.specs.Rows.{Row, Slot, row, rows, slot}
+use Rattle.state_facts.specs.Turns.{next_of, turns}
+use Rattle.state_facts.proofs.BufferReadings.{all_signalled_is, pool_is}
+use Rattle.state_facts.specs.Clients.{clients}
+use Rattle.state_facts.specs.Replies.{stopping_in}
+use Rattle.state_facts.proofs.OpenRows.{quiet_reads}
+use Rattle.state_facts.specs.Row.{Row, Target, in_order, is_open_row, open_rows, row_of, target_at}
 use Rattle.state_facts.specs.Fits.{NumbersFit}
 use Rattle.state_facts.specs.Runs.{MayAdd}
 use Rattle.state_facts.specs.States.{State, drop_with, fits_in, noted, state}
 use Rattle.state_facts.proofs.Fits.{numbers_fit}
 use Rattle.state_facts.proofs.Runs.{allowed_from, may_add_from}
-use Rattle.state_facts.proofs.Steps.{noted_is}
-use Rattle.buffer_laws.proofs.Early.{not-given}
-use Rattle.buffer_laws.proofs.Once.{out-not-returned}
-use Rattle.buffer_laws.proofs.Returns.{early-back}
-use Rattle.service_facts.proofs.Room.{buffers_fit, requests_fit}
-use Rattle.service_facts.proofs.Taken.{call_taken}
+use Rattle.state_facts.proofs.StateSteps.{noted_is}
+use Rattle.trace_laws.proofs.Early.{not-given}
+use Rattle.trace_laws.proofs.Once.{out-not-returned}
+use Rattle.trace_laws.proofs.Returns.{early-back}
+use Rattle.service_parts.proofs.Room.{requests_fit}
+use Rattle.service_parts.proofs.Taken.{call_taken}
 use Rattle.judge_rows.specs.Views.{are_free, is_free, is_none_given}
-use Rattle.judge_tables.specs.Judged.{CanCapture, CanNote, CanTakeAt, Judged, TakesOne}
+use Rattle.judge_rows.specs.Judged.{CanCapture, CanNote, CanTakeAt, Judged, TakesOne}
 use Rattle.judge_due.specs.Drawing.{CanDraw, is_drawable}
 use Rattle.trace_check.specs.Held.{held, missing_in}
 use Rattle.trace_check.specs.Verdict.{first_missing}
@@ -70,19 +66,17 @@ drawable-item : (o : Option Item) → ((item : Item) → o ≡ Some item → ran
 drawable-item None h = refl
 drawable-item (Some item) h = rw (h item refl) refl
 
-drawable-rows : (script : Script) (past : List Entry) → IsLegal script past → list_all (λ r. is_drawable r.settings) (rows script past) ≡ true
+drawable-rows : (script : Script) (past : List Entry) → IsLegal script past → list_all (λ r. is_drawable r.settings) (open_rows script past) ≡ true
 drawable-rows script past legal =
-    all-mapped (λ (r : Row). is_drawable r.settings) (row script past) (filter (λ n. is_open n past) (frames past))
-    ∙ all-always (λ n. is_drawable (settings_in (item_of script past n))) (filter (λ n. is_open n past) (frames past)) (λ n. drawable-item (item_of script past n) (λ item at. frame-in-range script past legal n item at))
+    all-filtered (λ (r : Row). is_drawable r.settings) is_open_row (map (row_of script past) (in_order past))
+    (all-mapped (λ (r : Row). is_drawable r.settings) (row_of script past) (in_order past)
+    ∙ all-always (λ n. is_drawable (settings_in (item_of script past n))) (in_order past) (λ n. drawable-item (item_of script past n) (λ item at. frame-in-range script past legal n item at)))
 
 pub can_draw : (script : Script) (past : List Entry) → IsLegal script past → CanDraw (state script past)
 can_draw script past legal = record {
   offered = all-from is_offered (streams script past) (streams-offered script past legal);
   drawable = drawable-rows script past legal;
 }
-
-pub numbered : (script : Script) (past : List Entry) → is_valid script ≡ true → IsLegal script past → (homes past).first + (length (homes past).places + 72) < 2 ^ 32
-numbered script past ok legal = buffers_fit script past ok legal
 
 -- ---- the queue
 
@@ -142,7 +136,7 @@ no-fences script past n s b d legal =
     let back = early-back script past n s b d legal.0 in
     not-given n.0 s.0 past (out-not-returned script past n.0 s.0 b.0 legal.1 back.out)
 
-free-slot : (past : List Entry) (n : FrameNo) (s : StreamIx) (b : BufferId) (d : FenceNo) (m : ℕ) (t : Sent) → early_fences n.0 s.0 past ≡ [] → is_free (Early n s b d) m (slot past m t) ≡ true
+free-slot : (past : List Entry) (n : FrameNo) (s : StreamIx) (b : BufferId) (d : FenceNo) (m : ℕ) (t : Sent) → early_fences n.0 s.0 past ≡ [] → is_free (Early n s b d) m (target_at m past t) ≡ true
 free-slot past n s b d m t none = elim (cases_Bool ((n.0 == m) && (s.0 == t.stream.0))) [
   | inl same ↦ (
       let parts = and_parts (n.0 == m) (s.0 == t.stream.0) same in
@@ -155,34 +149,35 @@ free-slot past n s b d m t none = elim (cases_Bool ((n.0 == m) && (s.0 == t.stre
   | inr other ↦ rw other refl
 ]
 
-free-early : (script : Script) (past : List Entry) (n : FrameNo) (s : StreamIx) (b : BufferId) (d : FenceNo) → IsLegal script (Early n s b d ∷ past) → are_free (Early n s b d) (rows script past) ≡ true
+free-early : (script : Script) (past : List Entry) (n : FrameNo) (s : StreamIx) (b : BufferId) (d : FenceNo) → IsLegal script (Early n s b d ∷ past) → are_free (Early n s b d) (open_rows script past) ≡ true
 free-early script past n s b d legal =
     let none = no-fences script past n s b d legal in
-    all-mapped (λ (r : Row). list_all (is_free (Early n s b d) r.frame) r.slots) (row script past) (filter (λ m. is_open m past) (frames past))
-    ∙ all-always (λ m. list_all (is_free (Early n s b d) m) (map (slot past m) (targets_of m past))) (filter (λ m. is_open m past) (frames past)) (λ m.
-    all-mapped (is_free (Early n s b d) m) (slot past m) (targets_of m past)
-    ∙ all-always (λ t. is_free (Early n s b d) m (slot past m t)) (targets_of m past) (λ t. free-slot past n s b d m t none))
+    all-filtered (λ (r : Row). list_all (is_free (Early n s b d) r.number) r.targets) is_open_row (map (row_of script past) (in_order past))
+    (all-mapped (λ (r : Row). list_all (is_free (Early n s b d) r.number) r.targets) (row_of script past) (in_order past)
+    ∙ all-always (λ m. list_all (is_free (Early n s b d) m) (map (target_at m past) (targets_of m past))) (in_order past) (λ m.
+    all-mapped (is_free (Early n s b d) m) (target_at m past) (targets_of m past)
+    ∙ all-always (λ t. is_free (Early n s b d) m (target_at m past t)) (targets_of m past) (λ t. free-slot past n s b d m t none)))
 
-free-all : (e : Entry) (rs : List Row) → ((m : ℕ) (x : Slot) → is_free e m x ≡ true) → are_free e rs ≡ true
-free-all e rs each = all-always (λ (r : Row). list_all (is_free e r.frame) r.slots) rs (λ r. all-always (is_free e r.frame) r.slots (λ x. each r.frame x))
+free-all : (e : Entry) (rs : List Row) → ((m : ℕ) (x : Target) → is_free e m x ≡ true) → are_free e rs ≡ true
+free-all e rs each = all-always (λ (r : Row). list_all (is_free e r.number) r.targets) rs (λ r. all-always (is_free e r.number) r.targets (λ x. each r.number x))
 
-free : (script : Script) (past : List Entry) (e : Entry) → IsLegal script (e ∷ past) → are_free e (rows script past) ≡ true
+free : (script : Script) (past : List Entry) (e : Entry) → IsLegal script (e ∷ past) → are_free e (open_rows script past) ≡ true
 free script past (Early n s b d) legal = free-early script past n s b d legal
-free script past (Call i word reply) legal = free-all (Call i word reply) (rows script past) (λ m x. refl)
-free script past (Send n r i same targets) legal = free-all (Send n r i same targets) (rows script past) (λ m x. refl)
-free script past (Dropped n r i) legal = free-all (Dropped n r i) (rows script past) (λ m x. refl)
-free script past (Begin word) legal = free-all (Begin word) (rows script past) (λ m x. refl)
-free script past (Shutter n time) legal = free-all (Shutter n time) (rows script past) (λ m x. refl)
-free script past (Partial n k part) legal = free-all (Partial n k part) (rows script past) (λ m x. refl)
-free script past (Filled n s b f digest) legal = free-all (Filled n s b f digest) (rows script past) (λ m x. refl)
-free script past (Failed n s b f) legal = free-all (Failed n s b f) (rows script past) (λ m x. refl)
-free script past (ErrorRequest n) legal = free-all (ErrorRequest n) (rows script past) (λ m x. refl)
-free script past (ErrorResult n) legal = free-all (ErrorResult n) (rows script past) (λ m x. refl)
-free script past (ErrorBuffer n s) legal = free-all (ErrorBuffer n s) (rows script past) (λ m x. refl)
-free script past ErrorDevice legal = free-all ErrorDevice (rows script past) (λ m x. refl)
-free script past (Release b f) legal = free-all (Release b f) (rows script past) (λ m x. refl)
-free script past (Signal f) legal = free-all (Signal f) (rows script past) (λ m x. refl)
-free script past (Late d digest) legal = free-all (Late d digest) (rows script past) (λ m x. refl)
+free script past (Call i word reply) legal = free-all (Call i word reply) (open_rows script past) (λ m x. refl)
+free script past (Send n r i same targets) legal = free-all (Send n r i same targets) (open_rows script past) (λ m x. refl)
+free script past (Dropped n r i) legal = free-all (Dropped n r i) (open_rows script past) (λ m x. refl)
+free script past (Begin word) legal = free-all (Begin word) (open_rows script past) (λ m x. refl)
+free script past (Shutter n time) legal = free-all (Shutter n time) (open_rows script past) (λ m x. refl)
+free script past (Partial n k part) legal = free-all (Partial n k part) (open_rows script past) (λ m x. refl)
+free script past (Filled n s b f digest) legal = free-all (Filled n s b f digest) (open_rows script past) (λ m x. refl)
+free script past (Failed n s b f) legal = free-all (Failed n s b f) (open_rows script past) (λ m x. refl)
+free script past (ErrorRequest n) legal = free-all (ErrorRequest n) (open_rows script past) (λ m x. refl)
+free script past (ErrorResult n) legal = free-all (ErrorResult n) (open_rows script past) (λ m x. refl)
+free script past (ErrorBuffer n s) legal = free-all (ErrorBuffer n s) (open_rows script past) (λ m x. refl)
+free script past ErrorDevice legal = free-all ErrorDevice (open_rows script past) (λ m x. refl)
+free script past (Release b f) legal = free-all (Release b f) (open_rows script past) (λ m x. refl)
+free script past (Signal f) legal = free-all (Signal f) (open_rows script past) (λ m x. refl)
+free script past (Late d digest) legal = free-all (Late d digest) (open_rows script past) (λ m x. refl)
 
 -- ---- an allowed entry can be noted
 
@@ -225,9 +220,6 @@ allowed_by script past e t due legal holds rule =
 -- ---- what is missing
 
 pub missing_is : (script : Script) (past : List Entry) → IsLegal script past → missing_in script (state script past) ≡ first_missing script past
-missing_is script past legal = rw (quiet_is script past, pool_is script past legal, all_signalled_is script past legal) refl
+missing_is script past legal = rw (quiet_reads script past legal, pool_is script past legal, all_signalled_is script past legal) refl
 
 -- ---- the entries up to a place
-
-pub newest_at : {X : Type 0} (xs : List X) (p : ℕ) (d x : X) → p < length xs → x ≡ get_or xs p d → reverse (take (p + 1) xs) ≡ x ∷ reverse (take p xs)
-newest_at xs p d x l is = rw add-one (ap reverse (take-suc xs p d l) ∙ (reverse-append (take p xs) (get_or xs p d ∷ []) ∙ ap (λ y. y ∷ reverse (take p xs)) (sym is)))

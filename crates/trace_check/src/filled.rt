@@ -10,10 +10,10 @@ ghost use Rattle.trace_model.specs.Legal.{IsLegal};
 ghost use Rattle.trace_model.specs.Picture.{digest_of};
 
 use cam_types::{BufferId, FenceNo, FrameNo, Script, Settings, StreamIx, StreamSpec};
+use digest_memory::Canvas;
 use judge_filters::configuration::streams;
 use judge_filters::frame::item_of;
 use judge_rules::rule::{is_fill_due, late_due};
-use picture_digest::Canvas;
 use trace_model::Entry;
 
 /// A buffer that came back with its picture, as its entry says.

@@ -1,6 +1,6 @@
 //! The judge.
 ghost use Rattle.std.specs.Prelude.{◌≡◌, IfOk, reverse};
-ghost use Rattle.run_laws.specs.Lawful.{KeepsLaws};
+ghost use Rattle.run_model.specs.Lawful.{KeepsLaws};
 ghost use Rattle.trace_check.specs.Verdict.{IsVerdict};
 ghost use Rattle.trace_model.specs.Legal.{IsLegal};
 
@@ -10,8 +10,8 @@ use crate::passing::check_once;
 use crate::rule::rule_of;
 use crate::verdict::Verdict;
 use cam_types::{NoMemory, Script};
-use picture_digest::Canvas;
-use run_laws::a_complete_run_keeps_the_laws;
+use digest_memory::Canvas;
+use run_model::a_complete_run_keeps_the_laws;
 use std::alloc::Global;
 use trace_model::{Entry, TraceList};
 

@@ -1,8 +1,8 @@
 //! The judge of a trace: whether it is a complete legal run of a script, and if not, where or what it lacks.
 //!
-//! `check` looks at each entry once, over the tables of `judge_tables`, which each entry carries on, by the readings of
-//! `judge_due`. `check_plain` looks at each entry over all the entries before it, by the rules of `judge_rules`,
-//! `judge_calls` and `judge_sends`. Both give the one verdict that the definitions give.
+//! `check` looks at each entry once, over the tables of `judge_rows`, which each entry carries on, by the readings of
+//! `judge_due`. `check_plain` looks at each entry over all the entries before it, by the rules of `judge_rules` and
+//! `judge_calls`. Both give the one verdict that the definitions give.
 #![tactic(auto)]
 
 mod allowed;

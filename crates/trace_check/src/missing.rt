@@ -9,10 +9,10 @@ ghost use Rattle.trace_check.specs.Verdict.{first_missing};
 use crate::verdict::MissingPart;
 use cam_types::Script;
 use judge_calls::over::is_queue_empty;
+use judge_calls::pool::all_in_pool;
 use judge_entries::number::call_count;
 use judge_filters::fence::is_signalled;
 use judge_filters::open::is_quiet;
-use judge_pool::pool::all_in_pool;
 use trace_model::Entry;
 
 /// Whether every command of the script was called.

@@ -2,7 +2,7 @@
 ghost use Rattle.std.specs.Prelude.{◌≡◌, ◌↔◌, ◌∷◌, true, IfOk, OnOk, IsTrue, reverse};
 ghost use Rattle.cam_types.specs.Profile.{is_profile};
 ghost use Rattle.cam_types.specs.Script.{is_valid};
-ghost use Rattle.trace_bounds.specs.Typed.{is_typed};
+ghost use Rattle.trace_laws.specs.Typed.{is_typed};
 ghost use Rattle.trace_model.specs.Allowed.{IsAllowed};
 ghost use Rattle.trace_model.specs.Legal.{IsLegal};
 ghost use Rattle.trace_check.specs.Held.{held, missing_in};
@@ -11,11 +11,11 @@ ghost use Rattle.trace_check.specs.Verdict.{IsVerdict, first_missing};
 use crate::rule::rule_of;
 use crate::verdict::{MissingPart, Verdict};
 use cam_types::{NoMemory, Script};
+use digest_memory::PictureDigests;
 use judge_due::is_due;
-use judge_tables::JudgeTables;
-use picture_digest::PictureDigests;
+use judge_rows::JudgeTables;
 use std::alloc::Global;
-use trace_bounds::every_script_is_typed;
+use trace_laws::every_script_is_typed;
 use trace_model::{Entry, TraceList};
 
 /// Whether the entry is allowed after the entries, whose state the tables hold. The entries aren't read.

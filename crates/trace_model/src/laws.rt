@@ -78,7 +78,7 @@ pub fn an_error_request_ends_the_metadata()
 
 /// What is allowed has the shape of its line, whatever its numbers: a word that begins is one that waits, a part has a
 /// number from 1 to 3, and a filled buffer has no fence. (That the numbers fit too is a law of the crate
-/// `trace_bounds`.)
+/// `trace_laws`.)
 pub fn what_is_allowed_has_its_shape()
     ensures begins { (script : SomeScript) (past : List SomeEntry) (word : SomeWord) →
         IsAllowed script past (Entry.Begin word) → is_printable (Entry.Begin word) ≡ true }

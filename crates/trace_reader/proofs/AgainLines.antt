@@ -18,19 +18,19 @@ use Rattle.hex.specs.Hex.{IsBytes}
 use Rattle.metadata.specs.Reading.{list_of}
 use Rattle.metadata.specs.Spelling.{bytes_of}
 use Rattle.metadata.proofs.Whole.{all_again}
-use Rattle.meta_rules.specs.Parts.{part_entries, part_in}
-use Rattle.meta_rules.proofs.Parts.{part_packed, part_numbers, part_again}
+use Rattle.metadata_rules.specs.Parts.{part_entries, part_in}
+use Rattle.metadata_rules.proofs.Parts.{part_packed, part_numbers, part_again}
 use Rattle.trace_model.specs.Printable.{is_small, is_byte, fence_fits, is_filled, sent_fits, made_fits, reply_fits, part_fits, is_digest, is_printable}
 use Rattle.trace_model.specs.declared.entry.Entry.{Entry}
 use Rattle.trace_model.specs.declared.entry.Entry.TheVariants.{Begin, Call, Send, Dropped, Shutter, Partial, Filled, Failed, ErrorRequest, ErrorResult, ErrorBuffer, ErrorDevice, Release, Signal, Early, Late}
 use Rattle.trace_model.specs.declared.entry.Sent.{Sent}
 use Rattle.trace_text.specs.Spelling.{sent_text, made_words, reply_words, part_text, entry_words}
-use Rattle.command_words.specs.Words.{word_text}
+use Rattle.text_parts.specs.CommandWords.{word_text}
 use Rattle.trace_reader.specs.declared.cause.Cause.{Cause}
 use Rattle.trace_reader.specs.Values.{sent, made, part_number as part_number_word}
 use Rattle.trace_reader.specs.Lines.{each, up_to_four, reply_of, call_of, send_of, buffer_of, early_of, error_of, partial_of, kind_of, entry_in, entry_with}
 use Rattle.trace_reader.proofs.AgainValues.{byte-again, small-again, large-again, fence-again, item-again, sent-again, made-again, mark-again, hex-again, digest-again, all-bytes}
-use Rattle.command_words.proofs.Texts.{word-again}
+use Rattle.text_parts.proofs.Texts.{word-again}
 use Rattle.trace_reader.proofs.PartBytes.{part-all}
 
 -- ---- up to four words

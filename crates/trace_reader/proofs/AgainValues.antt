@@ -11,13 +11,12 @@ use Rattle.hex.specs.Hex.{IsBytes, encode_lower, encode_with, lower_digits}
 use Rattle.hex.proofs.HexLemmas.{decode_of-encode_lower, length-encode_with}
 use Rattle.trace_model.specs.Printable.{is_small, is_byte, fence_fits, sent_fits, made_fits, is_digest}
 use Rattle.trace_model.specs.declared.entry.Sent.{Sent}
-use Rattle.trace_text.specs.Spelling.{buffer_text, fence_number as fence_word, device_fence as device_word, fence_text, request_text, item_text, mark_text, sent_text, made_text}
+use Rattle.trace_text.specs.Spelling.{buffer_text, fence_text, request_text, item_text, mark_text, sent_text, made_text}
 use Rattle.trace_reader.specs.declared.cause.Cause.{Cause}
 use Rattle.text_parts.specs.Cuts.{cut_at}
-use Rattle.trace_reader.specs.Values.{both, byte, small, large, profile_number, buffer, fence_number, device_fence, request, fence, cut_in, item, fenced_buffer, sent, stream_number, buffers, made, mark, is_lower_digit, hex_bytes, digest}
+use Rattle.trace_reader.specs.Values.{both, byte, small, large, profile_number, buffer, request, fence, cut_in, item, fenced_buffer, sent, stream_number, buffers, made, mark, is_lower_digit, hex_bytes, digest}
 use Rattle.text_parts.proofs.Joined.{avoids, cut-again}
-use Rattle.text_parts.proofs.Spelled.{number-again, number-avoids}
-use Rattle.trace_reader.proofs.General.{number-within-again}
+use Rattle.text_parts.proofs.Spelled.{number-again, number-avoids, within-again}
 
 pub both-of : {A B : Type 0} (r : Result A Cause) (s : Result B Cause) (x : A) (y : B) → r ≡ Ok x → s ≡ Ok y → both r s ≡ Ok (x, y)
 both-of r s x y h k = rw (h, k) refl
@@ -46,17 +45,11 @@ byte-64 n h = omega (arith, ltb-true n (2 ^ 8) h)
 pub buffer-again : (b : ℕ) → is_small b ≡ true → buffer (buffer_text b) ≡ Ok b
 buffer-again b h = small-again b h
 
-pub fence_number-again : (k : ℕ) → is_small k ≡ true → fence_number (fence_word k) ≡ Ok k
-fence_number-again k h = small-again k h
-
-pub device_fence-again : (k : ℕ) → is_small k ≡ true → device_fence (device_word k) ≡ Ok k
-device_fence-again k h = small-again k h
-
 pub profile-number-again : (n : ℕ) → is_profile_number n ≡ true → profile_number (decimal n) ≡ Ok n
 profile-number-again n h =
     let p = and_parts (ltb 0 n) (leb n 16) h in
     let least : 1 ≤ n = omega (arith, ltb-true 0 n p.0) in
-    rw (number-within-again 1 16 n least (leb-true n 16 p.1) (omega arith)) refl
+    rw (within-again 1 16 n least (leb-true n 16 p.1) (omega arith)) refl
 
 pub request-again : (r : ℕ) → is_small r ≡ true → request (request_text r) ≡ Ok r
 request-again r h = small-again r h

@@ -21,10 +21,6 @@ abbrev pub with_front : List Entry → Result (List Entry) TraceRefused → Resu
 with_front front (Ok entries) = Ok (front ++ entries)
 with_front front (Err refused) = Err refused
 
-pub front_none : (r : Result (List Entry) TraceRefused) → with_front [] r ≡ r
-front_none (Ok entries) = refl
-front_none (Err refused) = refl
-
 pub front_more : (front : List Entry) (entry : Entry) (r : Result (List Entry) TraceRefused) → with_front (front ++ entry ∷ []) r ≡ with_front front (with_entry entry r)
 front_more front entry (Ok entries) = ap Ok (append_assoc front (entry ∷ []) entries)
 front_more front entry (Err refused) = refl

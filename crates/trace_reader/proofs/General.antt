@@ -6,15 +6,7 @@ use Rattle.std.proofs.lemmas.Bool.{and_parts, ltb-true}
 use Rattle.std.proofs.lemmas.Bool.Decides.{nat_tests}
 use Rattle.basic_lemmas.proofs.Tests.{given-where}
 use Rattle.text_parts.specs.Numbers.{is_number, number_below, number_within}
-use Rattle.text_parts.proofs.Spelled.{number-again, number-is}
-
-within-from : (here : Bool) (v least greatest n : ℕ) → cond (here && ltb v (greatest + 1)) (Some v) None ≡ Some n → leb least n ≡ true → cond (here && (leb least v && leb v greatest)) (Some v) None ≡ Some n
-within-from here v least greatest n h l =
-    let p = given-where (here && ltb v (greatest + 1)) v n h in
-    let q = and_parts here (ltb v (greatest + 1)) p.0 in
-    let k : leb least v ≡ true = rw p.1 l in
-    let m : leb v greatest ≡ true = grind (arith, nat_tests) in
-    rw (q.0, k, m) (ap Some p.1)
+use Rattle.text_parts.proofs.Spelled.{number-is}
 
 within-to : (here : Bool) (v least greatest n : ℕ) → cond (here && (leb least v && leb v greatest)) (Some v) None ≡ Some n → (cond (here && ltb v (greatest + 1)) (Some v) None ≡ Some n) × (leb least n ≡ true)
 within-to here v least greatest n h =
@@ -23,12 +15,6 @@ within-to here v least greatest n h =
     let r = and_parts (leb least v) (leb v greatest) q.1 in
     let m : ltb v (greatest + 1) ≡ true = grind (arith, nat_tests) in
     (rw (q.0, m) (ap Some p.1), rw (← p.1) r.0)
-
--- a number's spelling is that number's
-pub number-within-again : (least greatest n : ℕ) → least ≤ n → n ≤ greatest → greatest < 2 ^ 64 → number_within least greatest (decimal n) ≡ Some n
-unfolding number_within number_below
-number-within-again least greatest n l m w =
-    within-from (is_number (decimal n)) (digits_value 10 (decimal n)) least greatest n (number-again (greatest + 1) n (omega arith) (omega arith)) (grind (arith, nat_tests))
 
 -- what is read as a number is the number's spelling, and the number is in the range
 pub number-within-is : (least greatest n : ℕ) (w : List ℕ) → greatest < 2 ^ 64 → number_within least greatest w ≡ Some n → (w ≡ decimal n) × (least ≤ n) × (n ≤ greatest)

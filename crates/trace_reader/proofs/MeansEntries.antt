@@ -14,12 +14,12 @@ use Rattle.trace_model.specs.declared.entry.Entry.TheVariants.{Call, Send, Fille
 use Rattle.trace_text.specs.Spelling.{buffer_text, reply_words, entry_words}
 use Rattle.trace_reader.specs.declared.cause.Cause.TheVariants.{BadLine}
 use Rattle.trace_reader.specs.Values.{◌>>=◌, both, byte, small, buffer, device_fence, request, fence, item, sent, made, mark, digest}
-use Rattle.command_words.specs.Words.{command_word}
+use Rattle.text_parts.specs.CommandWords.{command_word}
 use Rattle.text_parts.specs.Words.{one_of, two_of}
 use Rattle.trace_reader.specs.Lines.{nothing, shape, one, two, up_to_four, refusal, submission, acceptance, reply_of, call_with, call_of, send_of, no_fence, returned_buffer, filled_behind, failed_behind, buffer_of, early_behind, early_of, one_frame, error_buffer, error_of}
 use Rattle.basic_lemmas.proofs.Tests.{chosen}
 use Rattle.trace_reader.proofs.Means.{bind-ok, both-ok, if-ok, text-is, byte-is, small-is, numbered-is, fence-is, item-is, mark-is, digest-is}
-use Rattle.command_words.proofs.Texts.{word-is}
+use Rattle.text_parts.proofs.Texts.{word-is}
 use Rattle.trace_reader.proofs.MeansLines.{shape-ok, one-is, two-is, one-ok, two-ok, finish, words-1, words-2, same-cons, targets-are, streams-are}
 
 -- ---- sends

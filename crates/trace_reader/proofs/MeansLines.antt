@@ -15,11 +15,11 @@ use Rattle.trace_text.specs.Spelling.{sent_text, made_text, made_words, entry_wo
 use Rattle.trace_reader.specs.declared.cause.Cause.{Cause}
 use Rattle.trace_reader.specs.declared.cause.Cause.TheVariants.{BadLine}
 use Rattle.trace_reader.specs.Values.{both, small, large, buffer, fence_number, device_fence, digest, item, sent, made}
-use Rattle.command_words.specs.Words.{command_word}
+use Rattle.text_parts.specs.CommandWords.{command_word}
 use Rattle.text_parts.specs.Words.{one_of, two_of}
 use Rattle.trace_reader.specs.Lines.{shape, one, two, each, up_to_four, waiting_word, begin_of, drop_of, shutter_of, release_of, signal_of, late_of}
 use Rattle.trace_reader.proofs.Means.{bind-ok, both-ok, if-ok, small-is, large-is, numbered-is, digest-is, item-is, sent-is, made-is}
-use Rattle.command_words.proofs.Texts.{word-is}
+use Rattle.text_parts.proofs.Texts.{word-is}
 
 -- ---- so many words
 

@@ -9,7 +9,7 @@ use Rattle.cam_types.specs.declared.profile.Profile.{Profile}
 use Rattle.cam_types.specs.declared.reply.Reply.{Reply}
 use Rattle.cam_types.specs.declared.reply.Reply.TheVariants as reply
 use Rattle.cam_types.specs.declared.script.Word.{Word}
-use Rattle.meta_rules.specs.Parts.{part_in}
+use Rattle.metadata_rules.specs.Parts.{part_in}
 use Rattle.metadata.specs.Reading.{list_of}
 use Rattle.metadata.specs.declared.entry.Entry.{Entry as MetaEntry}
 use Rattle.metadata.specs.declared.refused.PackedRefused.{PackedRefused}
@@ -22,7 +22,7 @@ use Rattle.trace_reader.specs.declared.cause.Cause.TheVariants.{BadLine, BadMeta
 use Rattle.trace_reader.specs.declared.line.Kind.{Kind}
 use Rattle.trace_reader.specs.declared.line.Kind.TheVariants as kind
 use Rattle.trace_reader.specs.Values.{◌>>=◌, both, byte, small, large, profile_number, buffer, fence_number, device_fence, request, fence, item, sent, made, mark, part_number, hex_bytes, digest}
-use Rattle.command_words.specs.Words.{command_word}
+use Rattle.text_parts.specs.CommandWords.{command_word}
 use Rattle.text_parts.specs.Words.{strict_words, one_of, two_of, three_of}
 
 -- ---- so many words

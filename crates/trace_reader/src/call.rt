@@ -3,15 +3,14 @@
 ghost use Rattle.std.specs.Prelude.{◌≡◌, ◌<◌};
 ghost use Rattle.text_parts.specs.Words.{strict_words_behind};
 ghost use Rattle.trace_reader.specs.Values.{made};
-ghost use Rattle.command_words.specs.Words.{command_word};
+ghost use Rattle.text_parts.specs.CommandWords.{command_word};
 ghost use Rattle.trace_reader.specs.Lines.{up_to_four, nothing, submission, next_value, rest_of, waiting_word, begin_of, refusal, acceptance, reply_of, call_with, call_of};
 
 use crate::cause::Cause;
 use crate::number::{byte, small};
 use crate::word::{both, made, request};
 use cam_types::{Four, Made, Reply, RequestId, Word};
-use command_words::command_word;
-use text_parts::{next_strict_word, one_strict_word};
+use text_parts::{command_word, next_strict_word, one_strict_word};
 use trace_model::Entry;
 
 /// The word of a waiting command.

@@ -1,6 +1,10 @@
 //! Reads each worked trace of the folder that it runs in and prints it again: the two texts are the same.
 #![tactic(auto)]
 
+#[cfg(test)]
+mod ends;
+#[cfg(test)]
+mod packed;
 mod round;
 
 use crate::round::comes_back;

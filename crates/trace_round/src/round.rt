@@ -4,12 +4,11 @@ ghost use Rattle.std.specs.Prelude.{◌≡◌, ◌≤◌, length, IfOk, IsOk, Is
 ghost use Rattle.trace_reader.specs.Grammar.{trace_of};
 
 use cam_types::NoMemory;
-use io_edge::MemSink;
-use line_output::PIECE;
+use io_edge::{MemSink, PIECE};
 use std::alloc::{AllocError, Global};
 use trace_model::TraceList;
 use trace_reader::{TRACE_BYTES, TraceRefused, read, read_is_spelled};
-use trace_writer::TraceWriter;
+use trace_text::TraceWriter;
 
 /// Whether the text is a trace whose entries are printed as they were read.
 pub fn comes_back(alloc: Global, text: &[u8]) -> Result<bool, NoMemory>

@@ -1,1 +1,2 @@
 pub mod SummaryLine
+pub mod Lines

@@ -1,7 +1,7 @@
 -- The one spelling of a trace: our own choice. (docs/FORMATS.md, trace text)
 use Rattle.std.specs.Prelude.{ℕ, ◌+◌, Bool, true, false, List, [], ◌∷◌, ◌++◌, Option, Some, None, map, option_to_list, codes, decimal}
 use Rattle.std.specs.List.{flat_map}
-use Rattle.command_words.specs.Words.{word_text}
+use Rattle.text_parts.specs.CommandWords.{word_text}
 use Rattle.cam_types.specs.Four.{four_list}
 use Rattle.cam_types.specs.Profile.{is_profile}
 use Rattle.cam_types.specs.declared.number.FenceNo.{FenceNo}
@@ -11,7 +11,7 @@ use Rattle.cam_types.specs.declared.reply.Made.{Made}
 use Rattle.cam_types.specs.declared.reply.Reply.{Reply}
 use Rattle.cam_types.specs.declared.reply.Reply.TheVariants.{Ok, Submitted, Configured, Refused}
 use Rattle.hex.specs.Hex.{encode_lower}
-use Rattle.meta_rules.specs.Parts.{part_entries}
+use Rattle.metadata_rules.specs.Parts.{part_entries}
 use Rattle.metadata.specs.Spelling.{bytes_of}
 use Rattle.text_parts.specs.Lines.{line_text}
 use Rattle.trace_model.specs.declared.entry.Entry.{Entry}

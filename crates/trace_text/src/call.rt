@@ -8,7 +8,7 @@ ghost use Rattle.trace_text.specs.Spelling.{behind_spaces, made_words, reply_wor
 
 use crate::word::{put_buffer, put_request, put_word};
 use cam_types::{Four, Made, Reply, Word};
-use line_output::{ROOM, Room};
+use io_edge::{ROOM, Room};
 use trace_model::Entry;
 
 /// Writes the buffers of a stream behind a space, if there is the stream.

@@ -4,7 +4,7 @@ ghost use Rattle.std.specs.Prelude.{◌≡◌, ◌≤◌, ◌+◌, ◌++◌, len
 ghost use Rattle.trace_text.specs.Spelling.{first_line_of};
 
 use cam_types::Profile;
-use line_output::{ROOM, Room};
+use io_edge::{ROOM, Room};
 
 /// Writes the first line of a trace, with the profile where one is named.
 #[tactic(auto, unfolding(crate::specs::Spelling::first_line_of))]

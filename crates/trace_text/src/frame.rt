@@ -2,14 +2,14 @@
 
 ghost use Rattle.std.specs.Prelude.{◌≡◌, ◌≤◌, ◌+◌, ◌++◌, ◌∷◌, length, map, option_to_list};
 ghost use Rattle.cam_types.specs.Four.{four_list};
-ghost use Rattle.meta_rules.specs.Parts.{PartFits};
+ghost use Rattle.metadata_rules.specs.Parts.{PartFits};
 ghost use Rattle.text_parts.specs.Lines.{line_text};
 ghost use Rattle.trace_text.specs.Spelling.{behind_spaces, sent_text, part_text, mark_text, place_text, entry_words};
 
 use crate::word::{put_buffer, put_device_fence, put_fence, put_fence_number, put_item};
 use cam_types::{BufferId, FenceNo, Four, FrameNo, Part, RequestId, StreamIx};
-use line_output::{ROOM, Room};
-use meta_rules::part_bytes;
+use io_edge::{ROOM, Room};
+use metadata_rules::part_bytes;
 use trace_model::{Entry, Sent};
 
 /// Writes a target behind a space, if there is one.

@@ -14,7 +14,7 @@ use crate::frame::{
 };
 use crate::summary::put_summary;
 use cam_types::{NoMemory, Profile};
-use line_output::{ROOM, Room};
+use io_edge::{ROOM, Room};
 use std::alloc::Global;
 use std::marker::Model;
 use trace_model::Entry;

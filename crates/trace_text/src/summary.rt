@@ -5,7 +5,7 @@ ghost use Rattle.trace_model.specs.Entry.{is_call};
 ghost use Rattle.trace_model.specs.Summary.{is_drop, is_failed_buffer, is_filled_buffer, is_last_part, is_request_error, is_result_error, is_send, summary_of};
 ghost use Rattle.trace_text.specs.Summary.{is_of, summary_line};
 
-use line_output::{ROOM, Room};
+use io_edge::{ROOM, Room};
 use trace_model::Entry;
 
 /// The number of the last metadata result of a frame.

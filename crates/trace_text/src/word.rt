@@ -2,11 +2,11 @@
 
 ghost use Rattle.std.specs.Prelude.{◌≡◌, ◌≤◌, ◌+◌, ◌++◌, length};
 ghost use Rattle.trace_text.specs.Spelling.{buffer_text, fence_number, device_fence, fence_text, request_text, item_text};
-ghost use Rattle.command_words.specs.Words.{word_text};
+ghost use Rattle.text_parts.specs.CommandWords.{word_text};
 
 use cam_types::{BufferId, FenceNo, RequestId, Word};
-use command_words::word_text;
-use line_output::{ROOM, Room};
+use io_edge::{ROOM, Room};
+use text_parts::word_text;
 
 /// Writes a command's word.
 pub fn put_word(room: &mut Room, word: Word)

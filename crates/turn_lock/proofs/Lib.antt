@@ -11,3 +11,5 @@ pub mod Splitting
 pub mod Joining
 pub mod Opening
 pub mod ForCallers
+pub mod Lending
+pub mod Places

@@ -4,3 +4,4 @@ pub mod Turns
 pub mod Steps
 pub mod Seats
 pub mod Lending
+pub mod Tallies

@@ -5,11 +5,10 @@ use Rattle.std.specs.List.{list_all}
 use Rattle.std.proofs.lemmas.Bool.{and_parts, cases_Bool}
 use Rattle.sha2.specs.Sha256.{sha256}
 use Rattle.basic_lemmas.proofs.Lists.{all-append}
-use Rattle.buffer_laws.proofs.Early.{given}
-use Rattle.buffer_laws.proofs.Returns.{filled-back}
-use Rattle.buffer_laws.proofs.Sends.{out-sent}
+use Rattle.trace_laws.proofs.Early.{given}
+use Rattle.trace_laws.proofs.Returns.{filled-back}
+use Rattle.trace_laws.proofs.BufferSends.{out-sent}
 use Rattle.cam_types.specs.Metadata.{range_fault}
-use Rattle.cam_types.specs.Picture.{is_offered}
 use Rattle.cam_types.specs.declared.item.Settings.{Settings}
 use Rattle.cam_types.specs.declared.number.FrameNo.{FrameNo}
 use Rattle.cam_types.specs.declared.number.StreamIx.{StreamIx}
@@ -20,7 +19,7 @@ use Rattle.run_rows.proofs.Ranges.{sent-range}
 use Rattle.service_state.proofs.Fitting.{offered_streams}
 use Rattle.stream_film.specs.Film.{brought, film, shot_for, shot_on}
 use Rattle.stream_film.specs.declared.shot.Shot.{Shot}
-use Rattle.trace_bounds.proofs.Shapes.{filled-is, late-is}
+use Rattle.trace_laws.proofs.Shapes.{filled-is, late-is}
 use Rattle.trace_model.specs.declared.entry.Entry.{Entry}
 use Rattle.trace_model.specs.declared.entry.Entry.TheVariants.{Begin, Call, Send, Dropped, Shutter, Partial, Filled, Failed, ErrorRequest, ErrorResult, ErrorBuffer, ErrorDevice, Release, Signal, Early, Late}
 use Rattle.trace_model.specs.Configuration.{streams}
@@ -30,6 +29,7 @@ use Rattle.trace_model.specs.Picture.{digest, digest_of, digest_on}
 use Rattle.video_call.specs.Digests.{digest_in}
 use Rattle.video_call.specs.Drawing.{are_drawable, is_drawable}
 use Rattle.video_call.specs.Shows.{bytes_of}
+use Rattle.service_state.proofs.Shown.{all-at}
 
 -- ---- what an entry brings
 
@@ -126,18 +126,11 @@ told-digest script past e s shot legal at =
 
 -- ---- it can be drawn
 
-offered-at : (specs : List StreamSpec) (s : ℕ) (spec : StreamSpec) → list_all is_offered specs ≡ true → slice_get specs s ≡ Some spec → is_offered spec ≡ true
-offered-at [] s spec all at = absurd (cc)
-offered-at (x ∷ specs) zero spec all at =
-    let same : x ≡ spec = cc in
-    ap is_offered (sym same) ∙ (and_parts (is_offered x) (list_all is_offered specs) all).0
-offered-at (x ∷ specs) (suc s) spec all at = offered-at specs s spec (and_parts (is_offered x) (list_all is_offered specs) all).1 at
-
 pub drawable-shot : (script : Script) (past : List Entry) (s : ℕ) (e : Entry) (shot : Shot) → IsLegal script (e ∷ past) → shot_for script past s (brought past e) ≡ Some shot → is_drawable shot ≡ true
 drawable-shot script past s e shot legal at =
     let of = shot-of script past s e shot legal at in
     let range : range_fault shot.settings ≡ None = ap range_fault of.is.settings ∙ sent-range script past of.target.0.0 legal.1 of.brings.sent in
-    let offered = offered-at (streams script past) of.target.1.0 shot.spec (offered_streams script past legal.1) of.is.spec in
+    let offered = all-at (streams script past) of.target.1.0 shot.spec (offered_streams script past legal.1) of.is.spec in
     rw (range, offered) refl
 
 all-of : (o : Option Shot) → ((shot : Shot) → o ≡ Some shot → is_drawable shot ≡ true) → list_all is_drawable (option_to_list o) ≡ true

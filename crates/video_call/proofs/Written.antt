@@ -9,7 +9,7 @@ use Rattle.std.proofs.lemmas.List.{flat_map_more, take-append-le, take_more}
 use Rattle.std.specs.List.{flat_map}
 use Rattle.io_edge.specs.States.{Breaks, SinkState, Writes}
 use Rattle.cam_types.specs.declared.stream.StreamSpec.{StreamSpec}
-use Rattle.picture_files.specs.Files.{film_file, film_frame, film_head, frame_head}
+use Rattle.stream_film.specs.Files.{film_file, film_frame, film_head, frame_head}
 use Rattle.stream_film.specs.declared.shot.Shot.{Shot}
 use Rattle.video_call.specs.Shows.{bytes_of, frame_of}
 
@@ -58,20 +58,10 @@ piece-broken f xs i d a b c l wrote broken =
     let front' : Breaks a c (flat_map f (take (i + 1) xs)) = rw (one-more f xs i d l) at front in
     rw (with-rest f xs (i + 1)) at (first-broken a c (flat_map f (take (i + 1) xs)) (flat_map f (drop (i + 1) xs)) front')
 
--- what holds in any case holds where a call fails
-pub on-err : {T E : Type 0} (P : Type 0) (r : Result T E) → P → OnErr r P
-on-err P (Ok x) h = tt
-on-err P (Err e) h = h
-
 -- pieces of what is made of each
 pub mapped : {X Y : Type 0} (f : Y → List ℕ) (g : X → Y) (xs : List X) → flat_map (λ x. f (g x)) xs ≡ flat_map f (map g xs)
 mapped f g [] = refl
 mapped f g (x ∷ xs) = ap (λ ys. f (g x) ++ ys) (mapped f g xs)
-
--- what a call says of its failure, said of more
-pub err-as : {T E : Type 0} (P Q : Type 0) (r : Result T E) → (P → Q) → OnErr r P → OnErr r Q
-err-as P Q (Ok x) f h = tt
-err-as P Q (Err e) f h = f h
 
 -- ---- the file of a film
 

@@ -4,12 +4,9 @@ use Rattle.io_edge.specs.States.{SinkState, Writes}
 use Rattle.cam_types.specs.Picture.{picture}
 use Rattle.cam_types.specs.declared.script.Script.{Script}
 use Rattle.cam_types.specs.declared.stream.Format.{Format}
-use Rattle.judge_text.specs.Lines.{refused_script_text}
-use Rattle.line_reading.specs.Causes as causes
-use Rattle.line_reading.specs.declared.cause.TextRefused.{TextRefused}
-use Rattle.line_reading.specs.declared.cause.TextRefused.TheVariants.{Bad, NoMemory}
-use Rattle.picture_files.specs.Files.{body_in, film_file, picture_file}
-use Rattle.run_laws.specs.Lawful.{KeepsLaws}
+use Rattle.call_parts.specs.Meanings.{OfScript}
+use Rattle.stream_film.specs.Files.{body_in, film_file, picture_file}
+use Rattle.run_model.specs.Lawful.{KeepsLaws}
 use Rattle.run_model.specs.History.{trace_of}
 use Rattle.run_model.specs.Played.{IsPlayedRun}
 use Rattle.run_model.specs.declared.step.Move.{Move}
@@ -75,15 +72,9 @@ pub record ShowsRun (wanted : Wanted) (script : Script) (status : ℕ) (text : L
   pub run : IsPlayedRun script history
   pub shows : ShowsFile wanted (file_of wanted script (trace_of history)) status text
 
-abbrev pub ShowsScript : Wanted → Result Script TextRefused → ℕ → List ℕ → Type 0
-ShowsScript wanted (Ok script) status text = ShowsRun wanted script status text
-ShowsScript wanted (Err (Bad line cause)) status text =
-    (status ≡ 1) × (text ≡ refused_script_text line (causes.number_of cause))
-ShowsScript wanted (Err NoMemory) status text = ⊥
-
 -- of an input: what its meaning as a script says
 abbrev pub Shows : Wanted → List ℕ → ℕ → List ℕ → Type 0
-Shows wanted input status text = ShowsScript wanted (script_of input) status text
+Shows wanted input status text = OfScript (ShowsRun wanted) input status text
 
 -- the headline: the source's bytes spell a script, whose played run is complete and keeps the laws, and what was
 -- written is the file that is wanted of its trace

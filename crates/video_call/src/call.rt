@@ -2,19 +2,17 @@
 ghost use Rattle.std.specs.Prelude.{◌≡◌, ◌≢◌, ◌≤◌, IfSome, IsTrue};
 ghost use Rattle.std.specs.Io.KnownBytes.{IsAtEnd};
 ghost use Rattle.cam_types.specs.Script.{is_valid};
-ghost use Rattle.call_status.specs.Answers.{Tells, TellsBy};
-ghost use Rattle.call_status.specs.Ends.{CountsSink, CountsSource, ReadsBy};
+ghost use Rattle.call_parts.specs.Answers.{Tells, TellsBy};
+ghost use Rattle.call_parts.specs.Ends.{CountsSink, CountsSource, ReadsBy};
 ghost use Rattle.video_call.specs.Shows.{IsShown, Shows, ShowsRun};
 
 use crate::chosen::played;
 use crate::wanted::Wanted;
 use crate::write::write_chosen;
-use call_status::Status;
+use call_parts::{ScriptWork, Status, answer_script};
 use cam_types::{FrameNo, SCRIPT_BYTES, Script, StreamIx};
-use input_refusals::refuse_script;
-use io_edge::{ReadBytes, ReadFault, Sink, Source, read_all};
-use line_reading::{Cause, TextRefused};
-use run_laws::a_complete_run_keeps_the_laws;
+use io_edge::{Sink, Source};
+use run_model::a_complete_run_keeps_the_laws;
 use std::alloc::Global;
 
 /// Reads a script, plays it and writes the pictures of the stream's good buffers in the order of delivery: of a YUV
@@ -75,6 +73,19 @@ pub fn picture_call<S: Source, K: Sink>(
     show_call(alloc, Wanted::Picture { frame, stream }, source, sink)
 }
 
+impl ScriptWork for Wanted {
+    ghost use Rattle.video_call.specs.Shows.{ShowsRun};
+
+    ghost belongs = { ShowsRun };
+
+    fn answer_script<K: Sink>(&self, alloc: Global, script: Script, sink: &mut K) -> Status {
+        show_script(alloc, *self, script, sink)
+    }
+
+    #[tactic(auto, using(crate::proofs::Telling::are_shown))]
+    fn keeps_the_law(&self) {}
+}
+
 /// Reads a script, plays it and writes what is wanted of its run.
 fn show_call<S: Source, K: Sink>(
     alloc: Global,
@@ -92,23 +103,7 @@ fn show_call<S: Source, K: Sink>(
     ensures no_usage { result.number ≢ 2 }
 {
     a_complete_run_keeps_the_laws();
-    match read_all(alloc, source, SCRIPT_BYTES) {
-        Err(ReadFault::Failed) => Status::SOURCE_FAILED,
-        Err(ReadFault::NoMemory) => Status::NO_MEMORY,
-        Ok(ReadBytes::TooLong) => refuse_script(alloc, 0, Cause::Limit.number(), sink),
-        Ok(ReadBytes::Whole(bytes)) => show_text(alloc, wanted, bytes.as_slice(), sink),
-    }
-}
-
-/// Reads a script from its text, plays it and writes what is wanted of its run.
-fn show_text<K: Sink>(alloc: Global, wanted: Wanted, input: &[u8], sink: &mut K) -> Status
-    ensures { TellsBy (Shows wanted input.now) result.number (K.state sink.old) (K.state sink.new) }
-{
-    match script_text::read(alloc, input) {
-        Err(TextRefused::NoMemory) => Status::NO_MEMORY,
-        Err(TextRefused::Bad { line, cause }) => refuse_script(alloc, line, cause.number(), sink),
-        Ok(script) => show_script(alloc, wanted, script, sink),
-    }
+    answer_script(alloc, source, sink, &wanted)
 }
 
 /// Plays a script and writes what is wanted of its run.

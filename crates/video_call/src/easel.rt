@@ -6,12 +6,10 @@ ghost use Rattle.video_call.specs.Drawing.{is_drawable};
 ghost use Rattle.video_call.specs.Shows.{bytes_of};
 
 use cam_types::{BufferId, Format, NoMemory, PixelBuf, RAW_BLOCK, Readout, StreamSpec};
-use raw_stage::draw_raw;
-use sensor_sim::{SensorJob, a_readout_lies_between_dark_and_full};
+use picture_stages::{SensorJob, a_readout_lies_between_dark_and_full, draw_raw, draw_yuv};
 use std::alloc::Global;
 use std::marker::Model;
 use stream_film::Shot;
-use yuv_stage::draw_yuv;
 
 /// The sensor's readout, and a block that the largest picture fits. A contract sees the length of the block.
 #[derive(Drop)]

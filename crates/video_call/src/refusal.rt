@@ -1,10 +1,10 @@
 //! The line that refuses a film or a picture.
 ghost use Rattle.std.specs.Prelude.{◌≡◌, IfOk};
-ghost use Rattle.call_status.specs.Answers.{AnswersWithMemory};
+ghost use Rattle.call_parts.specs.Answers.{AnswersWithMemory};
 ghost use Rattle.video_call.specs.Shows.{refusal_of};
 
 use crate::wanted::Wanted;
-use call_status::{Status, answer};
+use call_parts::{Status, answer};
 use cam_types::NoMemory;
 use io_edge::Sink;
 use std::alloc::Global;

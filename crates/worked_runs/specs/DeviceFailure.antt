@@ -1,65 +1,32 @@
 -- The device fails; what was queued is dropped, what was sent ends by errors. The worked row `device_failure` of
 -- tests/rows.
-use Rattle.std.specs.Prelude.{true, false, List, [], ◌∷◌, None}
-use Rattle.cam_types.specs.Worked.{shot}
-use Rattle.cam_types.specs.declared.reply.Reply.TheVariants.{Ok as Accepted, Submitted, Configured, Refused}
+use Rattle.std.specs.Prelude.{List, [], ◌∷◌, ◌++◌, None, replicate}
+use Rattle.cam_types.specs.declared.reply.Reply.TheVariants.{Refused}
 use Rattle.cam_types.specs.declared.script.Command.TheVariants.{Configure, Burst, Wait, Flush, Close}
 use Rattle.cam_types.specs.declared.script.Fault.TheVariants.{Device}
 use Rattle.cam_types.specs.declared.script.Script.{Script}
-use Rattle.cam_types.specs.declared.script.Word.TheVariants.{Configure as WConfigure, Burst as WBurst, Wait as WWait, Flush as WFlush, Close as WClose}
-use Rattle.cam_types.specs.declared.stream.Format.TheVariants.{Yuv}
+use Rattle.cam_types.specs.declared.script.Word.TheVariants.{Wait as WWait, Flush as WFlush}
 use Rattle.trace_model.specs.declared.entry.Entry.{Entry}
-use Rattle.trace_model.specs.declared.entry.Entry.TheVariants.{Begin, Call, Send, Dropped, Shutter, Failed, ErrorRequest, ErrorDevice}
-use Rattle.worked_runs.specs.Words.{frame, buffer, stream, request, item, output, made, with, one}
+use Rattle.trace_model.specs.declared.entry.Entry.TheVariants.{Begin, Call, Dropped, ErrorDevice}
+use Rattle.worked_runs.specs.Pieces.{burst_sent, burst_submitted, close_begun, closed, configured, failed, item_of, plain, requests_failed, shutters, small_yuv, usual}
+use Rattle.worked_runs.specs.Words.{frame, made, one, request}
 
 abbrev pub device_failure_script : Script
-device_failure_script = record {
-  version = 1;
-  profile = record { depth = 6; raw = 3; yuv = 4 };
-  early = false;
-  faults = Device (frame 2) ∷ [];
-  picks = [];
-  commands =
-      Configure ((output Yuv 40 30) ∷ [])
-      ∷ Burst
-      ((item (shot 0 100 10000000 100) 1 (0 ∷ 0 ∷ 0 ∷ 0 ∷ 0 ∷ 0 ∷ 0 ∷ 0 ∷ []))
-      ∷ (item (shot 0 100 10000000 100) 1 (0 ∷ 0 ∷ 0 ∷ 0 ∷ 0 ∷ 0 ∷ 0 ∷ 0 ∷ []))
-      ∷ (item (shot 0 100 10000000 100) 1 (0 ∷ 0 ∷ 0 ∷ 0 ∷ 0 ∷ 0 ∷ 0 ∷ 0 ∷ []))
-      ∷ (item (shot 0 100 10000000 100) 1 (0 ∷ 0 ∷ 0 ∷ 0 ∷ 0 ∷ 0 ∷ 0 ∷ 0 ∷ []))
-      ∷ (item (shot 0 100 10000000 100) 1 (0 ∷ 0 ∷ 0 ∷ 0 ∷ 0 ∷ 0 ∷ 0 ∷ 0 ∷ []))
-      ∷ (item (shot 0 100 10000000 100) 1 (0 ∷ 0 ∷ 0 ∷ 0 ∷ 0 ∷ 0 ∷ 0 ∷ 0 ∷ [])) ∷ [])
-      ∷ Wait
-      ∷ Flush
-      ∷ Close
-      ∷ [];
-}
+device_failure_script =
+    usual (Device (frame 2) ∷ []) []
+    (Configure (small_yuv ∷ []) ∷ Burst (replicate 6 (item_of plain 0)) ∷ Wait ∷ Flush ∷ Close ∷ [])
 
 abbrev pub device_failure_trace : List Entry
 device_failure_trace =
-    Begin WConfigure
-    ∷ Call 0 WConfigure (Configured (one (made 0 6)))
-    ∷ Call 1 WBurst (Submitted (request 0))
-    ∷ Send (frame 0) (request 0) 0 false (one (with 0 0 None))
-    ∷ Send (frame 1) (request 0) 1 true (one (with 0 1 None))
-    ∷ Send (frame 2) (request 0) 2 true (one (with 0 2 None))
-    ∷ Send (frame 3) (request 0) 3 true (one (with 0 3 None))
-    ∷ Begin WWait
-    ∷ Shutter (frame 0) 1000000000
-    ∷ Shutter (frame 1) 1033333333
-    ∷ ErrorDevice
+    configured 0 (one (made 0 6))
+    ++ burst_submitted 1 0 ∷ burst_sent 4
+    ++ Begin WWait ∷ shutters 0 2
+    ++ ErrorDevice
     ∷ Call 2 WWait (Refused 3 None None)
     ∷ Begin WFlush
     ∷ Call 3 WFlush (Refused 3 None None)
-    ∷ Begin WClose
+    ∷ close_begun
     ∷ Dropped (frame 4) (request 0) 4
     ∷ Dropped (frame 5) (request 0) 5
-    ∷ ErrorRequest (frame 0)
-    ∷ ErrorRequest (frame 1)
-    ∷ ErrorRequest (frame 2)
-    ∷ ErrorRequest (frame 3)
-    ∷ Failed (frame 2) (stream 0) (buffer 2) None
-    ∷ Failed (frame 3) (stream 0) (buffer 3) None
-    ∷ Failed (frame 0) (stream 0) (buffer 0) None
-    ∷ Failed (frame 1) (stream 0) (buffer 1) None
-    ∷ Call 4 WClose Accepted
-    ∷ []
+    ∷ requests_failed 4
+    ++ failed 2 0 2 ∷ failed 3 0 3 ∷ failed 0 0 0 ∷ failed 1 0 1 ∷ closed 4 ∷ []

@@ -1,54 +1,34 @@
 -- A flush finds a frame in progress, one that has done nothing, and two in the queue. The worked row
 -- `flush_cancels_three_stages` of tests/rows.
-use Rattle.std.specs.Prelude.{true, false, List, [], ◌∷◌, None}
-use Rattle.cam_types.specs.Worked.{shot}
-use Rattle.cam_types.specs.declared.part.Part.TheVariants.{Look}
-use Rattle.cam_types.specs.declared.reply.Reply.TheVariants.{Ok as Accepted, Submitted, Configured}
+use Rattle.std.specs.Prelude.{List, [], ◌∷◌, ◌++◌, replicate, take}
+use Rattle.cam_types.specs.declared.reply.Reply.TheVariants.{Ok as Accepted}
 use Rattle.cam_types.specs.declared.script.Command.TheVariants.{Configure, Burst, Flush, Close}
 use Rattle.cam_types.specs.declared.script.Script.{Script}
-use Rattle.cam_types.specs.declared.script.Word.TheVariants.{Configure as WConfigure, Burst as WBurst, Flush as WFlush, Close as WClose}
-use Rattle.cam_types.specs.declared.stream.Format.TheVariants.{Raw16}
+use Rattle.cam_types.specs.declared.script.Word.TheVariants.{Flush as WFlush}
 use Rattle.trace_model.specs.declared.entry.Entry.{Entry}
-use Rattle.trace_model.specs.declared.entry.Entry.TheVariants.{Begin, Call, Send, Dropped, Shutter, Partial, Failed, ErrorRequest, ErrorResult, ErrorBuffer}
-use Rattle.worked_runs.specs.Words.{frame, buffer, stream, request, item, output, made, with, one}
+use Rattle.trace_model.specs.declared.entry.Entry.TheVariants.{Begin, Call, Dropped, ErrorRequest, ErrorResult, ErrorBuffer}
+use Rattle.worked_runs.specs.Pieces.{burst_sent, burst_submitted, close_begun, closed, configured, failed, item_of, partials, plain, raw, shutter, usual}
+use Rattle.worked_runs.specs.Words.{frame, made, one, request, stream}
 
 abbrev pub flush_cancels_three_stages_script : Script
-flush_cancels_three_stages_script = record {
-  version = 1;
-  profile = record { depth = 6; raw = 3; yuv = 4 };
-  early = false;
-  faults = [];
-  picks = 0 ∷ 0 ∷ 0 ∷ 0 ∷ 0 ∷ 2 ∷ 4 ∷ 1 ∷ [];
-  commands =
-      Configure ((output Raw16 160 120) ∷ [])
-      ∷ Burst
-      ((item (shot 0 100 10000000 100) 1 (0 ∷ 0 ∷ 0 ∷ 0 ∷ 0 ∷ 0 ∷ 0 ∷ 0 ∷ []))
-      ∷ (item (shot 0 100 10000000 100) 1 (0 ∷ 0 ∷ 0 ∷ 0 ∷ 0 ∷ 0 ∷ 0 ∷ 0 ∷ []))
-      ∷ (item (shot 0 100 10000000 100) 1 (0 ∷ 0 ∷ 0 ∷ 0 ∷ 0 ∷ 0 ∷ 0 ∷ 0 ∷ []))
-      ∷ (item (shot 0 100 10000000 100) 1 (0 ∷ 0 ∷ 0 ∷ 0 ∷ 0 ∷ 0 ∷ 0 ∷ 0 ∷ [])) ∷ [])
-      ∷ Flush
-      ∷ Close
-      ∷ [];
-}
+flush_cancels_three_stages_script =
+    usual [] (0 ∷ 0 ∷ 0 ∷ 0 ∷ 0 ∷ 2 ∷ 4 ∷ 1 ∷ [])
+    (Configure (raw ∷ []) ∷ Burst (replicate 4 (item_of plain 0)) ∷ Flush ∷ Close ∷ [])
 
 abbrev pub flush_cancels_three_stages_trace : List Entry
 flush_cancels_three_stages_trace =
-    Begin WConfigure
-    ∷ Call 0 WConfigure (Configured (one (made 0 5)))
-    ∷ Call 1 WBurst (Submitted (request 0))
-    ∷ Send (frame 0) (request 0) 0 false (one (with 0 0 None))
-    ∷ Send (frame 1) (request 0) 1 true (one (with 0 1 None))
-    ∷ Shutter (frame 0) 1000000000
-    ∷ Partial (frame 0) 1 (Look 0 100)
-    ∷ Begin WFlush
+    configured 0 (one (made 0 5))
+    ++ burst_submitted 1 0 ∷ burst_sent 2
+    ++ shutter 0 ∷ take 1 (partials plain 0 1)
+    ++ Begin WFlush
     ∷ Dropped (frame 2) (request 0) 2
     ∷ Dropped (frame 3) (request 0) 3
     ∷ ErrorResult (frame 0)
     ∷ ErrorBuffer (frame 0) (stream 0)
     ∷ ErrorRequest (frame 1)
-    ∷ Failed (frame 1) (stream 0) (buffer 1) None
-    ∷ Failed (frame 0) (stream 0) (buffer 0) None
+    ∷ failed 1 0 1
+    ∷ failed 0 0 0
     ∷ Call 2 WFlush Accepted
-    ∷ Begin WClose
-    ∷ Call 3 WClose Accepted
+    ∷ close_begun
+    ∷ closed 3
     ∷ []

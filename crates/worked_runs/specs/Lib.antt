@@ -1,4 +1,5 @@
 pub mod Words
+pub mod Pieces
 pub mod Runs
 pub mod OneFrame
 pub mod RawAndYuvOfOneRequest

@@ -1,109 +1,42 @@
 -- Eight requests for two streams, of which six frames may be open. The worked row `pipeline_depth_of_six` of
 -- tests/rows.
-use Rattle.std.specs.Prelude.{true, false, List, [], ◌∷◌, None}
-use Rattle.cam_types.specs.Worked.{shot}
-use Rattle.cam_types.specs.declared.part.Part.TheVariants.{Look, Light, Time}
-use Rattle.cam_types.specs.declared.reply.Reply.TheVariants.{Ok as Accepted, Submitted, Configured}
+use Rattle.std.specs.Prelude.{true, false, List, [], ◌∷◌, ◌++◌, None}
 use Rattle.cam_types.specs.declared.script.Command.TheVariants.{Configure, Burst, Close}
 use Rattle.cam_types.specs.declared.script.Script.{Script}
-use Rattle.cam_types.specs.declared.script.Word.TheVariants.{Configure as WConfigure, Burst as WBurst, Close as WClose}
-use Rattle.cam_types.specs.declared.stream.Format.TheVariants.{Yuv}
-use Rattle.trace_model.specs.Picture.{digest}
 use Rattle.trace_model.specs.declared.entry.Entry.{Entry}
-use Rattle.trace_model.specs.declared.entry.Entry.TheVariants.{Begin, Call, Send, Shutter, Partial, Filled, Release, Signal}
-use Rattle.worked_runs.specs.Words.{frame, buffer, fence, stream, request, item, output, made, with, one, two}
+use Rattle.trace_model.specs.declared.entry.Entry.TheVariants.{Send}
+use Rattle.worked_runs.specs.Pieces.{burst_submitted, close_begun, closed, configured, filled, item_of, middle_yuv, next_sent, partials, plain, shutters, small_yuv, usual, waited}
+use Rattle.worked_runs.specs.Words.{frame, made, one, request, two, with}
 
 abbrev pub pipeline_depth_of_six_script : Script
-pipeline_depth_of_six_script = record {
-  version = 1;
-  profile = record { depth = 6; raw = 3; yuv = 4 };
-  early = false;
-  faults = [];
-  picks = [];
-  commands =
-      Configure ((output Yuv 80 60) ∷ (output Yuv 40 30) ∷ [])
-      ∷ Burst
-      ((item (shot 0 100 10000000 100) 1 (0 ∷ 0 ∷ 0 ∷ 0 ∷ 0 ∷ 0 ∷ 0 ∷ 0 ∷ []))
-      ∷ (item (shot 0 100 10000000 100) 1 (1 ∷ 0 ∷ 0 ∷ 0 ∷ 0 ∷ 0 ∷ 0 ∷ 0 ∷ []))
-      ∷ (item (shot 0 100 10000000 100) 1 (0 ∷ 0 ∷ 0 ∷ 0 ∷ 0 ∷ 0 ∷ 0 ∷ 0 ∷ []))
-      ∷ (item (shot 0 100 10000000 100) 1 (1 ∷ 0 ∷ 0 ∷ 0 ∷ 0 ∷ 0 ∷ 0 ∷ 0 ∷ []))
-      ∷ (item (shot 0 100 10000000 100) 1 (0 ∷ 0 ∷ 0 ∷ 0 ∷ 0 ∷ 0 ∷ 0 ∷ 0 ∷ []))
-      ∷ (item (shot 0 100 10000000 100) 1 (1 ∷ 0 ∷ 0 ∷ 0 ∷ 0 ∷ 0 ∷ 0 ∷ 0 ∷ []))
-      ∷ (item (shot 0 100 10000000 100) 1 (0 ∷ 0 ∷ 0 ∷ 0 ∷ 0 ∷ 0 ∷ 0 ∷ 0 ∷ []))
-      ∷ (item (shot 0 100 10000000 100) 1 (1 ∷ 0 ∷ 0 ∷ 0 ∷ 0 ∷ 0 ∷ 0 ∷ 0 ∷ [])) ∷ [])
-      ∷ Close
-      ∷ [];
-}
+pipeline_depth_of_six_script =
+    usual [] []
+    (Configure (middle_yuv ∷ small_yuv ∷ [])
+    ∷ Burst
+    (item_of plain 0 ∷ item_of plain 1 ∷ item_of plain 0 ∷ item_of plain 1
+    ∷ item_of plain 0 ∷ item_of plain 1 ∷ item_of plain 0 ∷ item_of plain 1 ∷ [])
+    ∷ Close
+    ∷ [])
 
 abbrev pub pipeline_depth_of_six_trace : List Entry
 pipeline_depth_of_six_trace =
-    Begin WConfigure
-    ∷ Call 0 WConfigure (Configured (two (made 0 6) (made 6 6)))
-    ∷ Call 1 WBurst (Submitted (request 0))
+    configured 0 (two (made 0 6) (made 6 6))
+    ++ burst_submitted 1 0
     ∷ Send (frame 0) (request 0) 0 false (one (with 0 0 None))
     ∷ Send (frame 1) (request 0) 1 true (one (with 1 6 None))
     ∷ Send (frame 2) (request 0) 2 true (one (with 0 1 None))
     ∷ Send (frame 3) (request 0) 3 true (one (with 1 7 None))
     ∷ Send (frame 4) (request 0) 4 true (one (with 0 2 None))
     ∷ Send (frame 5) (request 0) 5 true (one (with 1 8 None))
-    ∷ Begin WClose
-    ∷ Shutter (frame 0) 1000000000
-    ∷ Shutter (frame 1) 1033333333
-    ∷ Shutter (frame 2) 1066666666
-    ∷ Shutter (frame 3) 1099999999
-    ∷ Shutter (frame 4) 1133333332
-    ∷ Shutter (frame 5) 1166666665
-    ∷ Partial (frame 0) 1 (Look 0 100)
-    ∷ Partial (frame 0) 2 (Light 10000000 100)
-    ∷ Partial (frame 0) 3 (Time 1000000000)
-    ∷ Partial (frame 1) 1 (Look 0 100)
-    ∷ Partial (frame 1) 2 (Light 10000000 100)
-    ∷ Partial (frame 1) 3 (Time 1033333333)
-    ∷ Partial (frame 2) 1 (Look 0 100)
-    ∷ Partial (frame 2) 2 (Light 10000000 100)
-    ∷ Partial (frame 2) 3 (Time 1066666666)
-    ∷ Partial (frame 3) 1 (Look 0 100)
-    ∷ Partial (frame 3) 2 (Light 10000000 100)
-    ∷ Partial (frame 3) 3 (Time 1099999999)
-    ∷ Partial (frame 4) 1 (Look 0 100)
-    ∷ Partial (frame 4) 2 (Light 10000000 100)
-    ∷ Partial (frame 4) 3 (Time 1133333332)
-    ∷ Partial (frame 5) 1 (Look 0 100)
-    ∷ Partial (frame 5) 2 (Light 10000000 100)
-    ∷ Partial (frame 5) 3 (Time 1166666665)
-    ∷ Filled (frame 0) (stream 0) (buffer 0) None (digest (output Yuv 80 60) (shot 0 100 10000000 100) 0)
-    ∷ Send (frame 6) (request 0) 6 true (one (with 0 3 None))
-    ∷ Release (buffer 0) (fence 0)
-    ∷ Signal (fence 0)
-    ∷ Shutter (frame 6) 1199999998
-    ∷ Partial (frame 6) 1 (Look 0 100)
-    ∷ Partial (frame 6) 2 (Light 10000000 100)
-    ∷ Partial (frame 6) 3 (Time 1199999998)
-    ∷ Filled (frame 1) (stream 1) (buffer 6) None (digest (output Yuv 40 30) (shot 0 100 10000000 100) 1)
-    ∷ Send (frame 7) (request 0) 7 true (one (with 1 9 None))
-    ∷ Release (buffer 6) (fence 1)
-    ∷ Signal (fence 1)
-    ∷ Shutter (frame 7) 1233333331
-    ∷ Partial (frame 7) 1 (Look 0 100)
-    ∷ Partial (frame 7) 2 (Light 10000000 100)
-    ∷ Partial (frame 7) 3 (Time 1233333331)
-    ∷ Filled (frame 2) (stream 0) (buffer 1) None (digest (output Yuv 80 60) (shot 0 100 10000000 100) 2)
-    ∷ Release (buffer 1) (fence 2)
-    ∷ Signal (fence 2)
-    ∷ Filled (frame 3) (stream 1) (buffer 7) None (digest (output Yuv 40 30) (shot 0 100 10000000 100) 3)
-    ∷ Release (buffer 7) (fence 3)
-    ∷ Signal (fence 3)
-    ∷ Filled (frame 4) (stream 0) (buffer 2) None (digest (output Yuv 80 60) (shot 0 100 10000000 100) 4)
-    ∷ Release (buffer 2) (fence 4)
-    ∷ Signal (fence 4)
-    ∷ Filled (frame 5) (stream 1) (buffer 8) None (digest (output Yuv 40 30) (shot 0 100 10000000 100) 5)
-    ∷ Release (buffer 8) (fence 5)
-    ∷ Signal (fence 5)
-    ∷ Filled (frame 6) (stream 0) (buffer 3) None (digest (output Yuv 80 60) (shot 0 100 10000000 100) 6)
-    ∷ Release (buffer 3) (fence 6)
-    ∷ Signal (fence 6)
-    ∷ Filled (frame 7) (stream 1) (buffer 9) None (digest (output Yuv 40 30) (shot 0 100 10000000 100) 7)
-    ∷ Release (buffer 9) (fence 7)
-    ∷ Signal (fence 7)
-    ∷ Call 2 WClose Accepted
-    ∷ []
+    ∷ close_begun
+    ∷ shutters 0 6
+    ++ partials plain 0 6
+    ++ waited middle_yuv plain 0 0 0 (next_sent 6 6 3 None) 6
+    ++ waited small_yuv plain 1 1 6 (Send (frame 7) (request 0) 7 true (one (with 1 9 None))) 7
+    ++ filled middle_yuv plain 2 0 1 2
+    ++ filled small_yuv plain 3 1 7 3
+    ++ filled middle_yuv plain 4 0 2 4
+    ++ filled small_yuv plain 5 1 8 5
+    ++ filled middle_yuv plain 6 0 3 6
+    ++ filled small_yuv plain 7 1 9 7
+    ++ closed 2 ∷ []

@@ -1,65 +1,45 @@
 -- Configurations that are refused, each by its number. The worked row `refusals_of_configurations` of tests/rows.
-use Rattle.std.specs.Prelude.{false, List, [], ◌∷◌, Some, None}
-use Rattle.cam_types.specs.declared.part.Part.TheVariants.{Look, Light, Time}
-use Rattle.cam_types.specs.declared.reply.Reply.TheVariants.{Ok as Accepted, Submitted, Configured, Refused}
+use Rattle.std.specs.Prelude.{ℕ, List, [], ◌∷◌, ◌++◌, Option, Some, None, replicate}
+use Rattle.cam_types.specs.declared.reply.Reply.TheVariants.{Refused}
 use Rattle.cam_types.specs.declared.script.Command.TheVariants.{Configure, Once, Close}
 use Rattle.cam_types.specs.declared.script.Script.{Script}
-use Rattle.cam_types.specs.declared.script.Word.TheVariants.{Configure as WConfigure, Once as WOnce, Close as WClose}
-use Rattle.cam_types.specs.declared.stream.Format.TheVariants.{Raw16, Yuv, Other}
-use Rattle.trace_model.specs.Picture.{digest}
+use Rattle.cam_types.specs.declared.script.Word.TheVariants.{Configure as WConfigure}
+use Rattle.cam_types.specs.declared.stream.Format.TheVariants.{Yuv, Other}
 use Rattle.trace_model.specs.declared.entry.Entry.{Entry}
-use Rattle.trace_model.specs.declared.entry.Entry.TheVariants.{Begin, Call, Send, Shutter, Partial, Filled, Release, Signal}
-use Rattle.worked_runs.specs.Words.{frame, buffer, fence, stream, request, preview, item, input, output, made, with, one}
+use Rattle.trace_model.specs.declared.entry.Entry.TheVariants.{Begin, Call}
+use Rattle.worked_runs.specs.Pieces.{burst_sent, close_begun, closed, configured, filled, item_of, once_submitted, raw, shown, small_yuv, usual}
+use Rattle.worked_runs.specs.Words.{input, made, one, output, preview}
 
 abbrev pub refusals_of_configurations_script : Script
-refusals_of_configurations_script = record {
-  version = 1;
-  profile = record { depth = 6; raw = 3; yuv = 4 };
-  early = false;
-  faults = [];
-  picks = [];
-  commands =
-      Configure ((output Yuv 40 30) ∷ [])
-      ∷ Configure ([])
-      ∷ Configure
-      ((output Yuv 40 30) ∷ (output Yuv 40 30) ∷ (output Yuv 40 30) ∷ (output Yuv 40 30) ∷ (output Yuv 40 30) ∷ [])
-      ∷ Configure ((input Yuv 160 120) ∷ (output Raw16 160 120) ∷ [])
-      ∷ Configure ((output (Other 33) 160 120) ∷ [])
-      ∷ Configure ((output Raw16 160 120) ∷ (output Yuv 81 60) ∷ [])
-      ∷ Configure ((output Raw16 160 120) ∷ (output Raw16 160 120) ∷ [])
-      ∷ Configure ((output Yuv 40 30) ∷ (output Yuv 40 30) ∷ (output Yuv 40 30) ∷ (output Yuv 40 30) ∷ [])
-      ∷ Once (item preview 1 (0 ∷ 0 ∷ 0 ∷ 0 ∷ 0 ∷ 0 ∷ 0 ∷ 0 ∷ []))
-      ∷ Close
-      ∷ [];
-}
+refusals_of_configurations_script =
+    usual [] []
+    (Configure (small_yuv ∷ [])
+    ∷ Configure []
+    ∷ Configure (replicate 5 small_yuv)
+    ∷ Configure (input Yuv 160 120 ∷ raw ∷ [])
+    ∷ Configure (output (Other 33) 160 120 ∷ [])
+    ∷ Configure (raw ∷ output Yuv 81 60 ∷ [])
+    ∷ Configure (raw ∷ raw ∷ [])
+    ∷ Configure (replicate 4 small_yuv)
+    ∷ Once (item_of preview 0)
+    ∷ Close
+    ∷ [])
+
+-- call i, a configuration, is refused by its number, at a stream where one is named
+abbrev pub refused : ℕ → ℕ → Option ℕ → List Entry
+refused i code place = Begin WConfigure ∷ Call i WConfigure (Refused code place None) ∷ []
 
 abbrev pub refusals_of_configurations_trace : List Entry
 refusals_of_configurations_trace =
-    Begin WConfigure
-    ∷ Call 0 WConfigure (Configured (one (made 0 6)))
-    ∷ Begin WConfigure
-    ∷ Call 1 WConfigure (Refused 21 None None)
-    ∷ Begin WConfigure
-    ∷ Call 2 WConfigure (Refused 22 None None)
-    ∷ Begin WConfigure
-    ∷ Call 3 WConfigure (Refused 23 None None)
-    ∷ Begin WConfigure
-    ∷ Call 4 WConfigure (Refused 24 (Some 0) None)
-    ∷ Begin WConfigure
-    ∷ Call 5 WConfigure (Refused 25 (Some 1) None)
-    ∷ Begin WConfigure
-    ∷ Call 6 WConfigure (Refused 26 None None)
-    ∷ Begin WConfigure
-    ∷ Call 7 WConfigure (Refused 27 None None)
-    ∷ Call 8 WOnce (Submitted (request 0))
-    ∷ Send (frame 0) (request 0) 0 false (one (with 0 0 None))
-    ∷ Begin WClose
-    ∷ Shutter (frame 0) 1000000000
-    ∷ Partial (frame 0) 1 (Look 2 128)
-    ∷ Partial (frame 0) 2 (Light 10000000 100)
-    ∷ Partial (frame 0) 3 (Time 1000000000)
-    ∷ Filled (frame 0) (stream 0) (buffer 0) None (digest (output Yuv 40 30) preview 0)
-    ∷ Release (buffer 0) (fence 0)
-    ∷ Signal (fence 0)
-    ∷ Call 9 WClose Accepted
-    ∷ []
+    configured 0 (one (made 0 6))
+    ++ refused 1 21 None
+    ++ refused 2 22 None
+    ++ refused 3 23 None
+    ++ refused 4 24 (Some 0)
+    ++ refused 5 25 (Some 1)
+    ++ refused 6 26 None
+    ++ refused 7 27 None
+    ++ once_submitted 8 0 ∷ burst_sent 1
+    ++ close_begun ∷ shown preview 0
+    ++ filled small_yuv preview 0 0 0 0
+    ++ closed 9 ∷ []

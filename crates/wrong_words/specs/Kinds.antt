@@ -5,8 +5,8 @@ use Rattle.script_text.specs.Lines.{awaited}
 use Rattle.script_text.specs.Values.{item_of, side_of, spec_of}
 use Rattle.text_parts.specs.Cuts.{cut_at, in_two}
 use Rattle.text_parts.specs.Numbers.{number_below, number_within}
-use Rattle.wrong_words.specs.declared.kind.WordKind.{WordKind}
-use Rattle.wrong_words.specs.declared.kind.WordKind.TheVariants.{Any, Number, Byte, Count, ProfileNumber, Time, PartNumber, Item, Spec, Buffer, Fence, FenceOrNone, DeviceFence, ItemName, Reply, Target, Bytes, Digest}
+use Rattle.wrong_words.specs.declared.word_kind.WordKind.{WordKind}
+use Rattle.wrong_words.specs.declared.word_kind.WordKind.TheVariants.{Any, Number, Byte, Count, ProfileNumber, Time, PartNumber, Item, Spec, Buffer, Fence, FenceOrNone, DeviceFence, ItemName, Reply, Target, Bytes, Digest}
 
 -- ---- words of a trace
 

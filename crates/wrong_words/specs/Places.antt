@@ -1,92 +1,56 @@
--- Which kind of word the places of a line ask for: the tables of docs/FORMATS.md, Script text and Trace text.
-use Rattle.std.specs.Prelude.{ℕ, ◌+◌, ◌==◌, Bool, ◌||◌, not, List, [], ◌∷◌, Option, None, bytes_eq, codes, find, if◌then◌else◌, unwrap_or}
-use Rattle.std.specs.List.{slice_get}
-use Rattle.text_parts.specs.Words.{loose_words, strict_words}
-use Rattle.wrong_words.specs.Kinds.{fits}
-use Rattle.wrong_words.specs.declared.kind.WordKind.{WordKind}
-use Rattle.wrong_words.specs.declared.kind.WordKind.TheVariants.{Any, Number, Byte, Count, ProfileNumber, Time, PartNumber, Item, Spec, Buffer, Fence, FenceOrNone, DeviceFence, ItemName, Reply, Target, Bytes, Digest}
+-- Where the commands, faults and picks of a script stand in its text. (docs/FORMATS.md, Script text)
+use Rattle.std.specs.Prelude.{ℕ, ◌+◌, Bool, false, List, [], ◌∷◌, Option, bytes_eq, codes, drop, filter, if◌then◌else◌, is_some, map}
+use Rattle.std.specs.List.{flat_map, slice_get}
+use Rattle.std.specs.Option.{option_map}
+use Rattle.text_parts.specs.CommandWords.{command_word}
+use Rattle.text_parts.specs.Lines.{lines_of}
+use Rattle.text_parts.specs.Words.{loose_words}
+use Rattle.wrong_words.specs.declared.kind.LineKind.{LineKind}
+use Rattle.wrong_words.specs.declared.kind.LineKind.TheVariants.{Command, Fault, Pick}
 
--- the kinds of the first three places, and of all behind them
-abbrev pub by_place : WordKind → WordKind → WordKind → WordKind → ℕ → WordKind
-by_place first second third rest place =
-    if place == 1 then first else (if place == 2 then second else (if place == 3 then third else rest))
+-- lines with their numbers, of which n is the first
+abbrev pub numbered : ℕ → List (List ℕ) → List (ℕ × List ℕ)
+numbered n [] = []
+numbered n (line ∷ lines) = (n, line) ∷ numbered (n + 1) lines
 
--- items stand behind the word
-abbrev pub is_item_word : List ℕ → Bool
-is_item_word first =
-    bytes_eq first (codes "once") || (bytes_eq first (codes "burst") || bytes_eq first (codes "repeat"))
+-- the first word of a line of the kind
+abbrev pub begins : LineKind → List ℕ → Bool
+begins Command word = is_some (command_word word)
+begins Fault word = bytes_eq word (codes "fault")
+begins Pick word = bytes_eq word (codes "pick")
 
--- the kind at a place behind the first word of a script's line, from 1 on
-unfoldable pub script_kind : List ℕ → ℕ → WordKind
-script_kind first place =
-    if bytes_eq first (codes "fault") then by_place Any Number Byte Byte place
-    else (if bytes_eq first (codes "pick") then Number
-    else (if bytes_eq first (codes "device") then ProfileNumber
-    else (if bytes_eq first (codes "configure") then Spec
-    else (if is_item_word first then Item
-    else (if bytes_eq first (codes "await") then Count
-    else Any)))))
+abbrev pub have_kind : LineKind → List (List ℕ) → Bool
+have_kind kind [] = false
+have_kind kind (word ∷ words) = begins kind word
 
--- behind the `ok` or `refused` of a call: 4 is the place of that word
-abbrev pub call_kind : List ℕ → ℕ → WordKind
-call_kind how place =
-    if place == 4 then Any
-    else (if not (bytes_eq how (codes "refused")) then Reply
-    else (if place == 5 then Byte
-    else Number))
+-- the line is of the kind
+abbrev pub is_of_kind : LineKind → List ℕ → Bool
+is_of_kind kind line = have_kind kind (loose_words line)
 
--- behind the `ok` or `error` of a buffer
-abbrev pub buffer_kind : List ℕ → ℕ → WordKind
-buffer_kind how place =
-    if place == 4 then Any
-    else (if not (bytes_eq how (codes "ok")) then FenceOrNone
-    else (if place == 5 then Any
-    else Digest))
+-- the lines of a kind, each with its number, among lines of which n is the first
+abbrev pub kind_lines : LineKind → ℕ → List (List ℕ) → List (ℕ × List ℕ)
+kind_lines kind n lines = filter (λ l. is_of_kind kind l.1) (numbered n lines)
 
--- the kind at a place behind the first word of a trace's line, from 1 on, by the first word and the one at place 4
-unfoldable pub trace_kind : List ℕ → List ℕ → ℕ → WordKind
-trace_kind first how place =
-    if bytes_eq first (codes "trace") then by_place Any ProfileNumber ProfileNumber ProfileNumber place
-    else (if bytes_eq first (codes "call") then by_place Number Any Any (call_kind how place) place
-    else (if bytes_eq first (codes "send") then by_place Number ItemName Any Target place
-    else (if bytes_eq first (codes "drop") then by_place Number ItemName Any Any place
-    else (if bytes_eq first (codes "shutter") then by_place Number Time Any Any place
-    else (if bytes_eq first (codes "partial") then by_place Number PartNumber Bytes Any place
-    else (if bytes_eq first (codes "buffer") then by_place Number Byte Buffer (buffer_kind how place) place
-    else (if bytes_eq first (codes "early") then by_place Number Byte Buffer DeviceFence place
-    else (if bytes_eq first (codes "filled") then by_place DeviceFence Digest Any Any place
-    else (if bytes_eq first (codes "error") then by_place Any Number Byte Any place
-    else (if bytes_eq first (codes "release") then by_place Buffer Fence Any Any place
-    else (if bytes_eq first (codes "signal") then by_place Fence Any Any Any place
-    else Any)))))))))))
+-- those of a text, whose lines are numbered from 1 on
+abbrev pub lines_of_kind : LineKind → List ℕ → List (ℕ × List ℕ)
+lines_of_kind kind text = kind_lines kind 1 (lines_of text)
 
--- ---- the word that is wrong
+-- the line of the command or the fault that has this place among them, from 0 on
+abbrev pub place_of : LineKind → List ℕ → ℕ → Option (ℕ × List ℕ)
+place_of kind text place = slice_get (lines_of_kind kind text) place
 
--- words with the kinds that their places ask for
-abbrev pub asked : (ℕ → WordKind) → ℕ → List (List ℕ) → List (WordKind × List ℕ)
-asked kind place [] = []
-asked kind place (word ∷ words) = (kind place, word) ∷ asked kind (place + 1) words
+-- the words behind the first one of a `pick` line
+abbrev pub picks_in : List ℕ → List (List ℕ)
+picks_in line = if is_of_kind Pick line then drop 1 (loose_words line) else []
 
--- the first of them that isn't of its kind, with that kind
-abbrev pub first_wrong : (ℕ → WordKind) → ℕ → List (List ℕ) → Option (WordKind × List ℕ)
-first_wrong kind place words = find (λ a. not (fits a.0 a.1)) (asked kind place words)
+-- each with the line's number
+abbrev pub numbers_of : ℕ × List ℕ → List (ℕ × List ℕ)
+numbers_of l = map (λ word. (l.0, word)) (picks_in l.1)
 
-abbrev pub script_wrong : List (List ℕ) → Option (WordKind × List ℕ)
-script_wrong [] = None
-script_wrong (first ∷ words) = first_wrong (script_kind first) 1 words
+-- the picks of a text, each with the number of its line
+unfoldable pub picks_of : List ℕ → List (ℕ × List ℕ)
+picks_of text = flat_map numbers_of (numbered 1 (lines_of text))
 
--- that of a script's line
-unfoldable pub wrong_in_script : List ℕ → Option (WordKind × List ℕ)
-wrong_in_script line = script_wrong (loose_words line)
-
--- the word at the place, which is empty where there is none
-abbrev pub word_at : ℕ → List (List ℕ) → List ℕ
-word_at place words = unwrap_or (slice_get words place) []
-
-abbrev pub trace_wrong : List (List ℕ) → Option (WordKind × List ℕ)
-trace_wrong [] = None
-trace_wrong (first ∷ words) = first_wrong (trace_kind first (word_at 3 words)) 1 words
-
--- that of a trace's line
-unfoldable pub wrong_in_trace : List ℕ → Option (WordKind × List ℕ)
-wrong_in_trace line = trace_wrong (strict_words line)
+-- the number of the line in which the pick at the place stands, from 0 on
+unfoldable pub pick_number : List ℕ → ℕ → Option ℕ
+pick_number text place = option_map (λ pick. pick.0) (slice_get (picks_of text) place)

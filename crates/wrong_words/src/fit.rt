@@ -2,12 +2,12 @@
 ghost use Rattle.std.specs.Prelude.{◌≡◌};
 ghost use Rattle.wrong_words.specs.Kinds.{fits};
 
-use crate::kind::WordKind;
 use crate::script_word::{is_count, is_item, is_spec};
 use crate::trace_word::{
     is_byte, is_bytes, is_digest, is_fence_or_none, is_item_name, is_lettered, is_reply, is_small,
     is_target,
 };
+use crate::word_kind::WordKind;
 use text_parts::{large_number, number_within};
 
 /// Whether the word is of the kind.

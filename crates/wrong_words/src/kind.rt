@@ -1,42 +1,30 @@
-//! What a place of a line may ask for.
+//! Which lines of a script's text are of which kind.
+ghost use Rattle.std.specs.Prelude.{◌≡◌};
+ghost use Rattle.wrong_words.specs.Places.{is_of_kind};
 
-/// What a place of a line may ask for (docs/FORMATS.md, Script text and Trace text).
+use text_parts::{command_word, next_loose_word};
+
+/// What a line of a script's text may be.
 #[derive(Clone, Copy, Debug, PartialEq, Eq)]
-pub enum WordKind {
-    /// A word that isn't looked at.
-    Any,
-    /// A number of 32 bits.
-    Number,
-    /// A number of 8 bits: a stream, or the code of a refusal.
-    Byte,
-    /// A number of 32 bits from 1 on.
-    Count,
-    /// A number of a profile, from 1 to 16.
-    ProfileNumber,
-    /// A number of 64 bits.
-    Time,
-    /// 1, 2 or 3.
-    PartNumber,
-    /// `SETTINGS@TARGETS`.
-    Item,
-    /// `FORMAT:WxH`, or that behind `in:`.
-    Spec,
-    /// `bB`.
-    Buffer,
-    /// `fF`.
-    Fence,
-    /// `fF` or `-`.
-    FenceOrNone,
-    /// `dK`.
-    DeviceFence,
-    /// `rR.I`.
-    ItemName,
-    /// `rR` or `S:bB+C`.
-    Reply,
-    /// `S:bB:F`.
-    Target,
-    /// Hexadecimal digits, two for each byte.
-    Bytes,
-    /// 64 hexadecimal digits.
-    Digest,
+pub enum LineKind {
+    /// A command.
+    Command,
+    /// A fault.
+    Fault,
+    /// A `pick` with its numbers.
+    Pick,
+}
+
+/// Whether the line is of the kind, by its first word.
+pub fn is_of_kind(kind: LineKind, line: &[u8]) -> bool
+    ensures { result ≡ is_of_kind kind line.now }
+{
+    let Some((word, _)) = next_loose_word(line) else {
+        return false;
+    };
+    match kind {
+        LineKind::Command => command_word(word).is_some(),
+        LineKind::Fault => word == b"fault".as_slice(),
+        LineKind::Pick => word == b"pick".as_slice(),
+    }
 }

@@ -1,12 +1,32 @@
-//! Which word of a refused line is wrong: the first one that isn't of the kind that its place asks for. See `specs/`.
+//! What `explain` finds and shows of lines: the word of a refused line that is wrong, the first one that isn't of the
+//! kind that its place asks for; the lines of a script's commands, faults and picks; lines behind their numbers; picks
+//! that choose nothing. See `specs/`.
 #![tactic(auto)]
 
+mod choice;
 mod fit;
 mod kind;
+mod lines;
+mod picks;
 mod place;
+mod place_laws;
+mod places;
 mod script_word;
+mod shown;
 mod trace_word;
+mod word_kind;
+mod word_laws;
 mod wrong;
 
-pub use kind::WordKind;
+pub use choice::Choice;
+pub use kind::LineKind;
+pub use lines::{
+    LINE_LIMIT, MOST_LINES, put_headed, put_last_lines, put_line, put_lines, put_number,
+};
+pub use picks::put_picks_part;
+pub use place_laws::a_script_has_its_lines;
+pub use places::{command_line, fault_line, pick_line};
+pub use shown::{put_numbered_line, put_shown};
+pub use word_kind::WordKind;
+pub use word_laws::a_bad_word_is_found;
 pub use wrong::{wrong_in_script, wrong_in_trace};

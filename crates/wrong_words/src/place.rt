@@ -1,8 +1,8 @@
 //! Which kind the places of a line ask for.
 ghost use Rattle.std.specs.Prelude.{◌≡◌};
-ghost use Rattle.wrong_words.specs.Places.{buffer_kind, by_place, call_kind, is_item_word, script_kind, trace_kind};
+ghost use Rattle.wrong_words.specs.WordPlaces.{buffer_kind, by_place, call_kind, is_item_word, script_kind, trace_kind};
 
-use crate::kind::WordKind;
+use crate::word_kind::WordKind;
 
 /// The kinds of the first three places, and of all behind them.
 fn by_place(
@@ -30,7 +30,7 @@ fn is_item_word(first: &[u8]) -> bool
 }
 
 /// The kind at a place behind the first word of a script's line, from 1 on.
-#[tactic(auto, unfolding(crate::specs::Places::script_kind))]
+#[tactic(auto, unfolding(crate::specs::WordPlaces::script_kind))]
 pub fn script_kind(first: &[u8], place: usize) -> WordKind
     ensures { result ≡ script_kind first.now place }
 {
@@ -88,7 +88,7 @@ fn buffer_kind(how: &[u8], place: usize) -> WordKind
 }
 
 /// The kind at a place behind the first word of a trace's line, from 1 on, by the first word and the one at place 4.
-#[tactic(auto, unfolding(crate::specs::Places::trace_kind))]
+#[tactic(auto, unfolding(crate::specs::WordPlaces::trace_kind))]
 pub fn trace_kind(first: &[u8], how: &[u8], place: usize) -> WordKind
     ensures { result ≡ trace_kind first.now how.now place }
 {

@@ -1,14 +1,15 @@
 //! Which words are items and streams of a script.
 ghost use Rattle.std.specs.Prelude.{◌≡◌, ◌^◌, is_some};
-ghost use Rattle.line_reading.specs.Values.{all_of};
+ghost use Rattle.text_parts.specs.Values.{all_of};
 ghost use Rattle.script_text.specs.Lines.{awaited};
 ghost use Rattle.script_text.specs.Values.{format_of, item_of, numbered_format, settings_of, side_of, spec_of, stream_of, targets_of};
 ghost use Rattle.text_parts.specs.Cuts.{parts_at};
 ghost use Rattle.text_parts.specs.Numbers.{number_below};
 ghost use Rattle.wrong_words.specs.Kinds.{are_sides};
 
-use line_reading::four_numbers;
-use text_parts::{byte_number, small_number, small_number_below, split_at_byte, split_in_two};
+use text_parts::{
+    byte_number, four_numbers, small_number, small_number_below, split_at_byte, split_in_two,
+};
 
 /// Whether the word is a number from 1 on.
 pub fn is_count(word: &[u8]) -> bool

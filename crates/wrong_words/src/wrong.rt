@@ -2,11 +2,11 @@
 ghost use Rattle.std.specs.Prelude.{◌≡◌};
 ghost use Rattle.std.specs.Option.{option_map};
 ghost use Rattle.text_parts.specs.Words.{loose_words, strict_words_behind};
-ghost use Rattle.wrong_words.specs.Places.{first_wrong, script_kind, trace_kind, word_at, wrong_in_script, wrong_in_trace};
+ghost use Rattle.wrong_words.specs.WordPlaces.{first_wrong, script_kind, trace_kind, word_at, wrong_in_script, wrong_in_trace};
 
 use crate::fit::fits;
-use crate::kind::WordKind;
 use crate::place::{script_kind, trace_kind};
+use crate::word_kind::WordKind;
 use text_parts::{first_strict_word, next_loose_word, next_strict_word};
 
 /// The first wrong word of those behind the first word of a script's line.
@@ -28,7 +28,7 @@ fn among_loose<'l>(first: &[u8], words: &'l [u8]) -> Option<(WordKind, &'l [u8])
 }
 
 /// The first word of a script's line that isn't of the kind that its place asks for, with that kind.
-#[tactic(auto, unfolding(crate::specs::Places::wrong_in_script))]
+#[tactic(auto, unfolding(crate::specs::WordPlaces::wrong_in_script))]
 pub fn wrong_in_script(line: &[u8]) -> Option<(WordKind, &[u8])>
     ensures { option_map (λ wrong. (wrong.0, wrong.1.now)) result ≡ wrong_in_script line.now }
 {
@@ -73,7 +73,7 @@ fn among_strict<'l>(first: &[u8], how: &[u8], words: &'l [u8]) -> Option<(WordKi
 }
 
 /// The first word of a trace's line that isn't of the kind that its place asks for, with that kind.
-#[tactic(auto, unfolding(crate::specs::Places::wrong_in_trace))]
+#[tactic(auto, unfolding(crate::specs::WordPlaces::wrong_in_trace))]
 pub fn wrong_in_trace(line: &[u8]) -> Option<(WordKind, &[u8])>
     ensures { option_map (λ wrong. (wrong.0, wrong.1.now)) result ≡ wrong_in_trace line.now }
 {

@@ -1,8 +1,8 @@
 use Rattle.std.proofs.Common.{rules, ◌≡◌, map, string_bytes, sym, ap, ◌∙◌}
 use Rattle.std.proofs.lemmas.List.{take_all}
 use Rattle.camera_top.specs.Words.{limit_of}
-use Rattle.camera_words.specs.Forms.{form_of}
-use Rattle.call_status.specs.Program.{number_of}
+use Rattle.text_parts.specs.Forms.{form_of}
+use Rattle.call_parts.specs.Program.{number_of}
 use Rattle.camera_prog.proofs.Words.{nothing-read, read-as, unread-as}
 use Rattle.camera_prog.proofs.answer.Goals as goal
 

@@ -1,8 +1,8 @@
 use Rattle.std.proofs.Common.{rules, ◌≡◌, map, string_bytes, sym, ap, ◌∙◌}
 use Rattle.std.proofs.lemmas.List.{take_all}
 use Rattle.tools_top.specs.Words.{limit_of}
-use Rattle.tools_words.specs.Tools.{tool_of}
-use Rattle.call_status.specs.Program.{number_of}
+use Rattle.tools_top.specs.Tools.{tool_of}
+use Rattle.call_parts.specs.Program.{number_of}
 use Rattle.camera_tools.proofs.Words.{nothing-read, read-as, unread-as}
 use Rattle.camera_tools.proofs.answer.Goals as goal
 

@@ -1,9 +1,9 @@
 //! The `begin` and the `call` of the next command.
 ghost use Rattle.std.specs.Prelude.{◌≡◌, ◌+◌, ◌≤◌, ◌^◌, Option, IsTrue};
 ghost use Rattle.cam_types.specs.Profile.{is_profile};
-ghost use Rattle.queue_facts.specs.Turns.{Turns as SomeTurns};
-ghost use Rattle.buffer_facts.specs.Homes.{Homes as SomeHomes};
-ghost use Rattle.client_facts.specs.Replies.{begin_with, call_with, idle_in, over_in, reply_in};
+ghost use Rattle.state_facts.specs.Turns.{Turns as SomeTurns};
+ghost use Rattle.state_facts.specs.Homes.{Homes as SomeHomes};
+ghost use Rattle.state_facts.specs.Replies.{begin_with, call_with, idle_in, over_in, reply_in};
 ghost use Rattle.client_calls.specs.Around.{IsAround};
 
 use super::ClientCalls;

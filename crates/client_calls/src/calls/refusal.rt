@@ -3,9 +3,9 @@ ghost use Rattle.std.specs.Prelude.{◌≡◌, List, length, IsTrue};
 ghost use Rattle.cam_types.specs.declared.item.Item.{Item as SomeItem};
 ghost use Rattle.cam_types.specs.Profile.{is_profile};
 ghost use Rattle.cam_types.specs.Refusals.{or_else, specs_refusal};
-ghost use Rattle.queue_facts.specs.Turns.{Turns as SomeTurns};
-ghost use Rattle.buffer_facts.specs.Homes.{Homes as SomeHomes};
-ghost use Rattle.client_facts.specs.Replies.{own_refusal_in, queue_refusal_in, state_refusal_in};
+ghost use Rattle.state_facts.specs.Turns.{Turns as SomeTurns};
+ghost use Rattle.state_facts.specs.Homes.{Homes as SomeHomes};
+ghost use Rattle.state_facts.specs.Replies.{own_refusal_in, queue_refusal_in, state_refusal_in};
 ghost use Rattle.client_calls.specs.Around.{IsAround};
 
 use super::ClientCalls;
@@ -16,7 +16,7 @@ use cam_types::{
     CLOSED, Command, DEVICE_FAILED, Item, ItemList, NOT_CONFIGURED, NOT_REPEATING, Profile,
     QUEUE_FULL, QUEUE_LIMIT, REPEATING, Reply, Script, SpecList,
 };
-use item_checks::{items_refusal, list_refusal};
+use request_checks::{items_refusal, list_refusal};
 use std::slice;
 
 /// The refusal of a configuration of the streams. It is the same for every device.
@@ -24,7 +24,7 @@ fn specs_refusal(specs: &SpecList, profile: Profile) -> Option<Reply>
     requires { IsTrue (is_profile profile) }
     ensures { result ≡ specs_refusal specs.now }
 {
-    match stream_config::check(specs, profile) {
+    match request_checks::check(specs, profile) {
         Ok(_) => None,
         Err(refused) => Some(refused.reply()),
     }

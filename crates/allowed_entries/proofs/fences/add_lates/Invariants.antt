@@ -1,6 +1,6 @@
 use Rattle.std.proofs.Common.{◌≡◌, ◌++◌}
 use Rattle.std.specs.List.{flat_map, range_with_len}
-use Rattle.state_facts.specs.Dues.{late_in}
+use Rattle.state_facts.specs.States.{late_in}
 use Rattle.allowed_entries.specs.Known.{shown}
 use Rattle.allowed_entries.proofs.fences.add_lates.Given as goal
 

@@ -1,5 +1,5 @@
 use Rattle.std.proofs.Common.{◌≡◌, ◌∙◌, ap, arith, refl}
-use Rattle.buffer_facts.specs.Homes.{Homes, signal_in}
+use Rattle.state_facts.specs.Homes.{Homes, signal_in}
 use Rattle.allowed_entries.specs.Known.{shown}
 use Rattle.allowed_entries.specs.Readings.{signals_in}
 use Rattle.allowed_entries.proofs.Numbers.{one_more}

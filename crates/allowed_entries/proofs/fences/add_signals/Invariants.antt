@@ -1,6 +1,6 @@
 use Rattle.std.proofs.Common.{◌≡◌, ◌++◌}
 use Rattle.std.specs.List.{flat_map, range_with_len}
-use Rattle.buffer_facts.specs.Homes.{signal_in}
+use Rattle.state_facts.specs.Homes.{signal_in}
 use Rattle.allowed_entries.specs.Known.{shown}
 use Rattle.allowed_entries.proofs.fences.add_signals.Given as goal
 

@@ -1,7 +1,6 @@
 use Rattle.std.proofs.Common.{ap, refl}
 use Rattle.trace_model.specs.Entry.{is_shutter}
-use Rattle.row_facts.specs.Rows.{find_row}
-use Rattle.state_facts.specs.Dues.{error_request_in, error_result_in, partial_in, shutter_in}
+use Rattle.state_facts.specs.States.{error_request_in, error_result_in, partial_in, shutter_in}
 use Rattle.allowed_entries.specs.declared.buffers.BufferEntry.TheVariants.{Picture, Early, Error}
 use Rattle.allowed_entries.specs.Known.{shown, shown_where}
 use Rattle.allowed_entries.specs.Readings.{buffers_in, frame_in}
@@ -14,12 +13,11 @@ returns c =
     let script = c.args.script.now in
     let s = c.args.tables.now.state in
     let n = c.args.frame.0 in
-    let row = find_row n s.rows in
     let whole = c.add_buffers-4.new.list.items in
     let shutter = shown_where (is_shutter n) (shutter_in script s) in
-    let part = shown (partial_in script s row) in
-    let request = shown (error_request_in script row) in
-    let result = shown (error_result_in script s row) in
+    let part = shown (partial_in script s n) in
+    let request = shown (error_request_in script s n) in
+    let result = shown (error_result_in script s n) in
     on_ok c.add_buffers-4.result _ _
     (λ last.
     join c.args.list.now.items c.add_shutter.new.list.items whole shutter shutter _ c.in_ok-add_shutter.ensures refl

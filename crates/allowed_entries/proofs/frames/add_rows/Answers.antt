@@ -1,26 +1,18 @@
-use Rattle.std.proofs.Common.{◌-◌, ◌++◌, ◌∙◌, sym, ap, arith, length, map, take}
-use Rattle.std.proofs.lemmas.List.{append-nil, append_assoc, length-take}
+use Rattle.std.proofs.Common.{◌++◌, ◌∙◌, sym, ap, map, arith, length, List}
+use Rattle.std.proofs.lemmas.List.{append-nil, take_all}
 use Rattle.allowed_entries.specs.Readings.{frames_in}
-use Rattle.allowed_entries.proofs.Rows.{none_left, rows_more}
+use Rattle.judge_rows.specs.declared.row.OpenRow.{OpenRow}
+use Rattle.allowed_entries.proofs.Rows.{added_more, none_first}
 use Rattle.allowed_entries.proofs.frames.add_rows.Goals as goal
 
-pub loop-rest-preserved : goal.loop-rest-preserved
-loop-rest-preserved c =
-    let script = c.args.script.now in
-    let s = c.args.tables.now.state in
-    let rest = c.loop-rest.rest.now in
-    let left = frames_in script s (map (λ r. r.frame.0) (take (length rest - 1) rest)) in
-    record {
-      whole =
-          ap (λ l. l ++ left) c.in_ok-add_frame.ensures
-          ∙ (append_assoc c.loop-rest.list.items _ left
-          ∙ (ap (λ l. c.loop-rest.list.items ++ l) (sym (rows_more script s rest _ c.in-len1-up.len_at_least)) ∙ c.loop-rest.invariant.whole));
-      within = omega (arith, length-take (length rest - 1) rest, c.loop-rest.invariant.within);
-    }
+pub loop-row-init : goal.loop-row-init
+loop-row-init c = sym (ap (λ l. c.args.list.now.items ++ l) (none_first c.args.script.now c.args.tables.now.state) ∙ append-nil c.args.list.now.items)
+
+pub loop-row-preserved : goal.loop-row-preserved
+loop-row-preserved c =
+    added_more c.args.script.now c.args.tables.now.state c.args.list.now.items c.loop-row.list.items c.add_frame.new.list.items c.args.rows.now c.loop-row.row-index _ c.loop-row.invariant c.loop-row-test.true c.in_ok-add_frame.ensures
 
 pub returns : goal.returns
 returns c =
-    let script = c.args.script.now in
-    let s = c.args.tables.now.state in
-    sym (append-nil c.loop-rest.list.items)
-    ∙ (ap (λ l. c.loop-rest.list.items ++ l) (sym (none_left script s c.loop-rest.rest.now c.in_default.len_below)) ∙ c.loop-rest.invariant.whole)
+    c.loop-row.invariant
+    ∙ ap (λ (rs : List OpenRow). c.args.list.now.items ++ frames_in c.args.script.now c.args.tables.now.state (map (λ r. r.frame.0) rs)) (take_all c.loop-row.row-index c.args.rows.now (omega (arith, c.loop-row-test.false)))

@@ -1,13 +1,6 @@
-use Rattle.std.proofs.Common.{◌≡◌, ◌++◌, ◌≤◌, length, map}
+use Rattle.std.proofs.Common.{◌≡◌, ◌++◌, map, take}
 use Rattle.allowed_entries.specs.Readings.{frames_in}
 use Rattle.allowed_entries.proofs.frames.add_rows.Given as goal
 
--- what is added and what is left are the whole
-abbrev pub invariant-loop-rest : goal.invariant-loop-rest
-invariant-loop-rest l = record {
-  whole : l.list.items ++ frames_in l.script l.tables.state (map (λ r. r.frame.0) l.rest) ≡ l.initial.list.items ++ frames_in l.script l.tables.state (map (λ r. r.frame.0) l.rows);
-  within : length l.rest ≤ length l.rows;
-}
-
-abbrev pub decreases-loop-rest : goal.decreases-loop-rest
-decreases-loop-rest l = length l.rest
+abbrev pub invariant-loop-row : goal.invariant-loop-row
+invariant-loop-row l = l.list.items ≡ l.initial.list.items ++ frames_in l.script l.tables.state (map (λ r. r.frame.0) (take l.row-index l.rows))

@@ -1,5 +1,5 @@
 use Rattle.std.proofs.Common.{◌≡◌, inr, arith}
-use Rattle.arbiter_text.specs.Spelling.{refused_text}
+use Rattle.arbiter_call.specs.Spelling.{refused_text}
 use Rattle.arbiter_call.proofs.call.refuse.Goals as goal
 
 pub returns-in-Ok : goal.returns-in-Ok

@@ -1,5 +1,5 @@
 use Rattle.std.proofs.Common.{◌≡◌, inr, arith}
-use Rattle.exposure_text.specs.Spelling.{refused_text}
+use Rattle.auto_call.specs.Spelling.{refused_text}
 use Rattle.auto_call.proofs.call.refuse_auto.Goals as goal
 
 pub returns-in-Ok : goal.returns-in-Ok

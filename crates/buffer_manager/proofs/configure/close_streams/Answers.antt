@@ -2,7 +2,7 @@ use Rattle.std.proofs.Common.{◌≡◌, refl, ap, ◌∙◌, arith, length}
 use Rattle.std.specs.List.{list_all}
 use Rattle.std.proofs.lemmas.List.{nil_from_length}
 use Rattle.cam_types.specs.declared.stream.StreamSpec.{StreamSpec}
-use Rattle.fence_tokens.specs.Fences.{made}
+use Rattle.buffer_pool.specs.Fences.{made}
 use Rattle.buffer_pool.specs.Opened.{is_whole}
 use Rattle.buffer_manager.proofs.Closes.{back-one, closable-front, closable-last, counted-none, same-total}
 use Rattle.buffer_manager.proofs.configure.close_streams.Goals as goal

@@ -1,6 +1,6 @@
 use Rattle.std.proofs.Common.{◌≡◌, length}
 use Rattle.std.specs.Prelude.{vec_capacity}
-use Rattle.fence_tokens.specs.Fences.{made}
+use Rattle.buffer_pool.specs.Fences.{made}
 use Rattle.buffer_manager.specs.Closing.{AreClosable, AreCounted, SameTotal}
 use Rattle.buffer_manager.proofs.configure.close_streams.Given as goal
 

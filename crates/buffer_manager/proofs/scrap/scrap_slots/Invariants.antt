@@ -1,6 +1,6 @@
 use Rattle.std.proofs.Common.{◌≡◌, true, length}
 use Rattle.std.specs.List.{list_all}
-use Rattle.fence_tokens.specs.Fences.{made}
+use Rattle.buffer_pool.specs.Fences.{made}
 use Rattle.buffer_manager.specs.Slots.{is_made_slot}
 use Rattle.buffer_manager.proofs.scrap.scrap_slots.Given as goal
 

@@ -1,5 +1,5 @@
 use Rattle.std.proofs.Common.{refl, ◌∙◌}
-use Rattle.fence_tokens.specs.Fences.{made}
+use Rattle.buffer_pool.specs.Fences.{made}
 use Rattle.buffer_manager.specs.Streams.{waits_for_made}
 use Rattle.buffer_manager.proofs.Ends.{all-last}
 use Rattle.buffer_manager.proofs.scrap.scrap_streams.Goals as goal

@@ -1,6 +1,6 @@
 use Rattle.std.proofs.Common.{◌≡◌, true, length}
 use Rattle.std.specs.List.{list_all}
-use Rattle.fence_tokens.specs.Fences.{made}
+use Rattle.buffer_pool.specs.Fences.{made}
 use Rattle.buffer_manager.specs.Streams.{waits_for_made}
 use Rattle.buffer_manager.proofs.scrap.scrap_streams.Given as goal
 

@@ -1,5 +1,5 @@
 use Rattle.std.proofs.Common.{◌≢◌, ℕ, arith, refl}
-use Rattle.call_status.proofs.Sinks.{answered, stays}
+use Rattle.call_parts.proofs.Sinks.{answered, stays}
 use Rattle.camera_top.specs.Help.{help_text, usage_line}
 use Rattle.camera_top.proofs.Others.{gen_other_than, other_than}
 use Rattle.camera_top.proofs.commands.camera_main.Goals as goal

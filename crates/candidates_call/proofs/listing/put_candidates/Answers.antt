@@ -1,7 +1,7 @@
 use Rattle.std.proofs.Common.{◌≡◌, ◌%◌, ◌<◌, arith, inl, inr, length, refl}
 use Rattle.run_model.specs.Played.{pick_at}
-use Rattle.service_choice.specs.Candidates.{candidates_by}
-use Rattle.service_choice.proofs.Reading.{read}
+use Rattle.service_core.specs.Candidates.{candidates_by}
+use Rattle.service_core.proofs.Reading.{read}
 use Rattle.candidates_call.proofs.Moves.{line_read}
 use Rattle.candidates_call.proofs.Pieces.{same_bytes}
 use Rattle.candidates_call.proofs.listing.put_candidates.Goals as goal

@@ -1,5 +1,5 @@
 use Rattle.std.proofs.Common.{◌≡◌, ◌∙◌, ◌+◌, Some, arith, slice_get, sym, take}
-use Rattle.service_choice.specs.Candidates.{candidates_by}
+use Rattle.service_core.specs.Candidates.{candidates_by}
 use Rattle.candidates_call.specs.Listing.{candidate_text, listed}
 use Rattle.candidates_call.proofs.Lists.{all_listed, one_more}
 use Rattle.candidates_call.proofs.Pieces.{behind, nothing_more, same_bytes}

@@ -1,5 +1,5 @@
 use Rattle.std.proofs.Common.{take}
-use Rattle.service_choice.specs.Candidates.{candidates_by}
+use Rattle.service_core.specs.Candidates.{candidates_by}
 use Rattle.candidates_call.specs.Listing.{listed}
 use Rattle.candidates_call.specs.Told.{TellsMore}
 use Rattle.candidates_call.proofs.listing.put_listed.Given as goal

@@ -1,7 +1,7 @@
 use Rattle.std.proofs.Common.{sym, ◌∙◌, ap}
 use Rattle.device_rows.specs.Ready.{next_exposure}
 use Rattle.device_store.specs.Stored.{views}
-use Rattle.device_store.proofs.Books.{exposure-here, exposure-later, view-at}
+use Rattle.device_store.proofs.Turns.{exposure-here, exposure-later, view-at}
 use Rattle.device_store.proofs.General.{drop-over}
 use Rattle.device_store.proofs.order.next_exposure.Goals.{in-Some+else-is_unexposed, in_default}
 use Rattle.device_store.proofs.order.next_exposure.Goals as goal

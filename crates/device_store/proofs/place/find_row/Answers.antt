@@ -1,6 +1,6 @@
 use Rattle.std.proofs.Common.{◌==◌, refl, sym, ◌∙◌}
 use Rattle.std.proofs.lemmas.Bool.{ne_eqb}
-use Rattle.inflight_table.specs.Rows.{is_of, view_of}
+use Rattle.device_rows.specs.TableRows.{is_of, view_of}
 use Rattle.device_store.proofs.General.{find-next, find-past-end}
 use Rattle.device_store.proofs.place.find_row.Goals.{in-Some+else-row-frame, in_default}
 use Rattle.device_store.proofs.place.find_row.Goals as goal

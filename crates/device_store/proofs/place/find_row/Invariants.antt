@@ -1,5 +1,5 @@
 use Rattle.std.proofs.Common.{◌≡◌, drop}
-use Rattle.inflight_table.specs.Rows.{row_of}
+use Rattle.device_rows.specs.TableRows.{row_of}
 use Rattle.device_store.proofs.place.find_row.Given as goal
 
 abbrev pub invariant-loop-place : goal.invariant-loop-place

@@ -1,7 +1,7 @@
 use Rattle.std.proofs.Common.{◌++◌, refl, take}
 use Rattle.std.specs.Prelude.{codes}
 use Rattle.std.specs.List.{flat_map}
-use Rattle.explain_lines.specs.Lines.{most_lines}
+use Rattle.wrong_words.specs.Lines.{most_lines}
 use Rattle.explain_text.specs.Allowed.{allowed_line, allowed_lines, more_mark}
 use Rattle.allowed_entries.proofs.Joins.{join, on_ok}
 use Rattle.explain_text.proofs.allowed.put_allowed_lines.Goals as goal

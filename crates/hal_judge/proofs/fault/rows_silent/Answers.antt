@@ -1,7 +1,6 @@
 use Rattle.std.proofs.Common.{◌∙◌, ap, filter}
 use Rattle.std.proofs.lemmas.Map.Iter.{rest_all, rest_more}
 use Rattle.std.specs.Map.Iter.{deref_pair}
-use Rattle.hal_rows.specs.Judged.{is_row_silent, row_silences}
 use Rattle.hal_judge.proofs.Faults.{silences_end, silences_next}
 use Rattle.hal_judge.proofs.fault.rows_silent.Goals as goal
 

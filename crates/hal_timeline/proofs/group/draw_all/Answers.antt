@@ -1,9 +1,9 @@
 -- One event more is drawn.
 use Rattle.std.proofs.Common.{◌≡◌, reverse, take}
 use Rattle.std.proofs.lemmas.List.{take_all}
-use Rattle.hal_timeline.specs.Passes.{IsPast}
-use Rattle.hal_timeline.proofs.Drawn.{drawn_more, long_turned, turned_item}
+use Rattle.hal_timeline.proofs.Drawn.{drawn_more, turned_item}
 use Rattle.hal_timeline.proofs.group.draw_all.Goals as goal
+use Rattle.hal_judge.proofs.Reported.{long-turned}
 
 pub loop-place-preserved : goal.loop-place-preserved
 loop-place-preserved c =
@@ -11,7 +11,7 @@ loop-place-preserved c =
     let i = c.loop-place.place in
     let before = reverse (take i es) in
     let more = turned_item es i c.index-events-place.result c.loop-place-test.true c.index-events-place.is in
-    let long = long_turned es i c.loop-place-test.true in
+    let long = long-turned es i c.loop-place-test.true in
     record {
       stands = rw more (c.in_ok-group.ensures.past before c.loop-place.invariant.stands long);
       drawn = drawn_more c.args.parts c.args.lines.now before _ c.index-events-place.result c.in_ok-group.group c.loop-place.groups c.push.new.self more (c.in_ok-group.ensures.drawn before c.loop-place.invariant.stands long) c.loop-place.invariant.drawn c.in_ok-push.ensures.ok;

@@ -1,6 +1,6 @@
 use Rattle.std.proofs.Common.{◌≡◌, ◌++◌, map, take}
 use Rattle.std.specs.Prelude.{filter}
-use Rattle.timeline_chart.specs.declared.look.Look.TheVariants.{Refused}
+use Rattle.timeline_model.specs.declared.look.Look.TheVariants.{Refused}
 use Rattle.hal_timeline.specs.Pieces.{gone_piece}
 use Rattle.hal_timeline.specs.Rows.{is_of_frame}
 use Rattle.hal_timeline.proofs.piece.put_refused.Given as goal

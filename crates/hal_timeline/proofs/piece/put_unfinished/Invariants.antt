@@ -1,5 +1,5 @@
 use Rattle.std.proofs.Common.{◌≡◌, ◌++◌, map, take}
-use Rattle.timeline_chart.specs.declared.look.Look.TheVariants.{Unfinished}
+use Rattle.timeline_model.specs.declared.look.Look.TheVariants.{Unfinished}
 use Rattle.hal_timeline.specs.Pieces.{gone_piece}
 use Rattle.hal_timeline.proofs.piece.put_unfinished.Given as goal
 

@@ -1,5 +1,5 @@
 use Rattle.std.proofs.Common.{◌∙◌, sym}
-use Rattle.judge_sends.proofs.StreamLemmas.{any_in_range}
+use Rattle.judge_calls.proofs.StreamLemmas.{any_in_range}
 use Rattle.judge_conditions.proofs.targets.is_one_of.Goals as goal
 
 pub returns-in-Some : goal.returns-in-Some

@@ -1,15 +1,15 @@
 use Rattle.std.proofs.Common.{◌∙◌, sym, ap, slice_get}
 use Rattle.cam_types.specs.Picture.{is_offered}
-use Rattle.client_facts.specs.Clients.{Clients}
+use Rattle.state_facts.specs.Clients.{Clients}
 use Rattle.trace_model.specs.Picture.{digest_on}
 use Rattle.judge_due.proofs.Dark.{drawn}
-use Rattle.judge_due.proofs.Rows.{at_all}
 use Rattle.judge_due.proofs.pictures.is_its_digest.Goals as goal
+use Rattle.basic_lemmas.proofs.Lists.{all-at}
 
 pub digest-memory-requires-clause-offered : goal.digest-memory-requires-clause-offered
 digest-memory-requires-clause-offered c =
     let at = sym (c.stream.ensures ∙ ap (λ (z : Clients). slice_get z.streams c.args.stream.0) c.client.ensures) ∙ c.in-Some.is in
-    at_all is_offered c.args.tables.now.state.client.streams c.args.stream.0 c.in-Some.spec c.requires.offered at
+    all-at is_offered c.args.tables.now.state.client.streams c.args.stream.0 c.in-Some.spec c.requires.offered at
 
 pub returns-in-Some : goal.returns-in-Some
 returns-in-Some c =

@@ -1,6 +1,6 @@
-use Rattle.std.proofs.Common.{◌∙◌, List, sym, ap}
-use Rattle.row_facts.specs.Rows.{Slot}
-use Rattle.state_facts.specs.Dues.{slot_for}
+use Rattle.std.proofs.Common.{◌∙◌, ◌==◌, List, sym, ap}
+use Rattle.state_facts.specs.Row.{Target}
+use Rattle.std.specs.List.{find}
 use Rattle.judge_rows.specs.Views.{slot_of}
 use Rattle.judge_rows.proofs.SlotLemmas.{map-four}
 use Rattle.judge_due.proofs.slots.slot_for.Goals as goal
@@ -9,4 +9,4 @@ pub returns : goal.returns
 returns c =
     let third = c.first_for-third.ensures _ c.only_for-last.ensures in
     let second = c.first_for-second.ensures _ third in
-    c.first_for.ensures _ second ∙ ap (λ (xs : List Slot). slot_for c.args.stream.0 xs) (sym (map-four slot_of c.args.slots.now))
+    c.first_for.ensures _ second ∙ ap (λ (xs : List Target). find (λ t. t.sent.stream.0 == c.args.stream.0) xs) (sym (map-four slot_of c.args.slots.now))

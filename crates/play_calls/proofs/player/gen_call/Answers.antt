@@ -1,7 +1,8 @@
-use Rattle.call_status.proofs.Sinks.{told}
+use Rattle.std.proofs.Common.{arith}
+use Rattle.call_parts.proofs.Sinks.{told}
 use Rattle.play_calls.specs.Says.{SaysOfSeed}
-use Rattle.play_calls.proofs.Telling.{are-summaries, whole_run}
-use Rattle.run_output.specs.declared.output.Output.TheVariants.{Summary}
+use Rattle.play_calls.proofs.Telling.{whole_run}
+use Rattle.call_parts.specs.declared.output.Output.TheVariants.{Summary}
 use Rattle.play_calls.proofs.player.gen_call.Goals as goal
 
 pub returns-in-Ok-clause-whole : goal.returns-in-Ok-clause-whole
@@ -10,4 +11,4 @@ returns-in-Ok-clause-whole g c done =
 
 pub returns-in-Ok-clause-sink : goal.returns-in-Ok-clause-sink
 returns-in-Ok-clause-sink g c =
-    told (SaysOfSeed c.args.seed c.args.count) c.play_script.result.number (g.K.Sink.state c.args.sink.now) (g.K.Sink.state c.play_script.new.sink) (are-summaries c.args.seed c.args.count) (rw c.in-Ok.ensures at c.play_script.ensures)
+    told (SaysOfSeed c.args.seed c.args.count) c.play_script.result.number (g.K.Sink.state c.args.sink.now) (g.K.Sink.state c.play_script.new.sink) (λ wanted text h. omega (arith, h.0)) (rw c.in-Ok.ensures at c.play_script.ensures)

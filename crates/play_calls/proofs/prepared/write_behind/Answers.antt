@@ -1,5 +1,5 @@
 use Rattle.std.proofs.Common.{inr, refl}
-use Rattle.run_output.specs.Texts.{text_in}
+use Rattle.call_parts.specs.Texts.{text_in}
 use Rattle.play_calls.proofs.Fronts.{behind, front_broken}
 use Rattle.play_calls.proofs.prepared.write_behind.Goals as goal
 

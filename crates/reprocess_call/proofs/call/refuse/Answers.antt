@@ -1,5 +1,5 @@
 use Rattle.std.proofs.Common.{◌≡◌, inr, arith}
-use Rattle.reprocess_output.specs.Lines.{refused_text}
+use Rattle.reprocess_call.specs.Lines.{refused_text}
 use Rattle.reprocess_call.proofs.call.refuse.Goals as goal
 
 pub returns-in-Ok : goal.returns-in-Ok

@@ -1,7 +1,7 @@
 use Rattle.std.proofs.Common.{◌≡◌, arith}
 use Rattle.std.specs.Prelude.{reverse}
-use Rattle.call_status.specs.Answers.{Answers}
-use Rattle.reprocess_output.specs.Lines.{run_text}
+use Rattle.call_parts.specs.Answers.{Answers}
+use Rattle.reprocess_call.specs.Lines.{run_text}
 use Rattle.reprocess_call.specs.Reprocess.{IsWholeRun}
 use Rattle.reprocess_call.proofs.prepared.play_prepared.Goals as goal
 

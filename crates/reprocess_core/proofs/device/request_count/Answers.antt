@@ -1,6 +1,6 @@
 use Rattle.std.proofs.Common.{arith}
 use Rattle.std.proofs.lemmas.Grind.{common_steps}
-use Rattle.reprocess_laws.proofs.Calls.{length-requests}
+use Rattle.reprocess_model.proofs.Calls.{length-requests}
 use Rattle.reprocess_core.proofs.device.request_count.Goals as goal
 
 pub returns : goal.returns

@@ -1,7 +1,7 @@
 use Rattle.std.proofs.Common.{◌+◌, ◌^◌, sym, arith}
 use Rattle.text_parts.specs.Cuts.{parts_at}
 use Rattle.text_parts.specs.Numbers.{number_below}
-use Rattle.line_reading.specs.Values.{all_of}
+use Rattle.text_parts.specs.Values.{all_of}
 use Rattle.script_text.proofs.Targets.{joined-is, no_targets, too_many, all_targets}
 use Rattle.script_text.proofs.item.joined_targets.Goals as goal
 

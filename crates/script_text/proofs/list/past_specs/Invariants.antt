@@ -1,8 +1,8 @@
 use Rattle.std.proofs.Common.{◌≡◌, length}
 use Rattle.text_parts.specs.Words.{loose_words}
-use Rattle.line_reading.specs.Values.{all_of}
+use Rattle.text_parts.specs.Values.{all_of}
 use Rattle.script_text.specs.Values.{spec_of}
-use Rattle.line_reading.specs.Words.{past_limit}
+use Rattle.text_parts.specs.LineWords.{past_limit}
 use Rattle.script_text.proofs.list.past_specs.Given as goal
 
 abbrev pub invariant-loop-word : goal.invariant-loop-word

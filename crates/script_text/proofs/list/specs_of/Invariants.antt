@@ -1,9 +1,9 @@
 use Rattle.std.proofs.Common.{◌≡◌, true, length}
 use Rattle.text_parts.specs.Words.{loose_words}
-use Rattle.line_reading.specs.Values.{all_of}
+use Rattle.text_parts.specs.Values.{all_of}
 use Rattle.script_text.specs.Values.{spec_of}
 use Rattle.script_text.specs.Within.{specs_within}
-use Rattle.line_reading.proofs.Fronts.{with_front}
+use Rattle.text_parts.proofs.Fronts.{with_front}
 use Rattle.script_text.proofs.list.specs_of.Given as goal
 
 abbrev pub invariant-loop-word : goal.invariant-loop-word

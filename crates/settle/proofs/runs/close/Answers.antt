@@ -1,7 +1,7 @@
 use Rattle.std.proofs.Common.{◌≡◌, List, Some, refl, inl, inr, subst}
 use Rattle.std.proofs.lemmas.Bool.{cases_Bool}
 use Rattle.cam_types.specs.declared.job.JobView.{JobView}
-use Rattle.job_hands.specs.Held.{fill_job_in, held_at, sensor_job_in}
+use Rattle.fill_jobs.specs.Held.{fill_job_in, held_at, sensor_job_in}
 use Rattle.run_model.specs.Jobs.{is_fill_out, is_sensor_out}
 use Rattle.run_model.specs.declared.step.StepName.TheVariants.{FillDone, SensorDone}
 use Rattle.service_core.specs.Answers.{silent}

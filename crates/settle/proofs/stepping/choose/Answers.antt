@@ -1,7 +1,7 @@
 use Rattle.std.proofs.Common.{◌≡◌, ℕ, ◌%◌, ◌<◌, List, Some, ap, sym, ◌∙◌, inl, inr, length, slice_get}
 use Rattle.run_model.specs.declared.step.StepName.{StepName}
-use Rattle.service_choice.specs.Candidates.{candidates_by}
-use Rattle.service_choice.proofs.Reading.{read}
+use Rattle.service_core.specs.Candidates.{candidates_by}
+use Rattle.service_core.proofs.Reading.{read}
 use Rattle.settle.proofs.Choosing.{candidate_ready, one_picked}
 use Rattle.settle.proofs.stepping.choose.Goals as goal
 

@@ -1,5 +1,5 @@
 use Rattle.std.proofs.Common.{arith, refl}
-use Rattle.call_status.proofs.Sinks.{answered, stays}
+use Rattle.call_parts.proofs.Sinks.{answered, stays}
 use Rattle.tools_top.specs.Help.{help_text, usage_line}
 use Rattle.tools_top.proofs.Others.{other_than}
 use Rattle.tools_top.proofs.commands.tools_main.Goals as goal

@@ -1,5 +1,5 @@
 use Rattle.std.proofs.Common.{◌∙◌, ap, reverse}
-use Rattle.judge_tables.specs.Judged.{Judged}
+use Rattle.judge_rows.specs.Judged.{Judged}
 use Rattle.trace_check.specs.Held.{missing_in}
 use Rattle.trace_check.proofs.Holding.{missing_is}
 use Rattle.trace_check.proofs.passing.first_missing_by.Goals as goal

@@ -1,11 +1,12 @@
 use Rattle.std.proofs.Common.{◌<◌, ◌+◌, ◌^◌, length, reverse, subst, sym}
 use Rattle.judge_due.specs.Drawing.{CanDraw}
-use Rattle.judge_tables.specs.Judged.{Judged}
-use Rattle.trace_check.proofs.Holding.{allowed_by, can_draw, numbered}
+use Rattle.judge_rows.specs.Judged.{Judged}
+use Rattle.trace_check.proofs.Holding.{allowed_by, can_draw}
 use Rattle.trace_check.proofs.passing.is_allowed_by.Goals as goal
+use Rattle.service_parts.proofs.Room.{buffers_fit}
 
 pub is_due-requires-clause-numbered : goal.is_due-requires-clause-numbered
-is_due-requires-clause-numbered c = subst (λ (t : Judged). t.state.buffers.first + (length t.state.buffers.places + 72) < 2 ^ 32) (sym c.requires.held) (numbered c.args.script.now (reverse c.args.entries.now) c.requires.valid c.requires.legal)
+is_due-requires-clause-numbered c = subst (λ (t : Judged). t.state.buffers.first + (length t.state.buffers.places + 72) < 2 ^ 32) (sym c.requires.held) (buffers_fit c.args.script.now (reverse c.args.entries.now) c.requires.valid c.requires.legal)
 
 pub is_due-requires-clause-pictures : goal.is_due-requires-clause-pictures
 is_due-requires-clause-pictures c = subst (λ (t : Judged). CanDraw t.state) (sym c.requires.held) (can_draw c.args.script.now (reverse c.args.entries.now) c.requires.legal)

@@ -3,7 +3,7 @@ use Rattle.std.specs.Prelude.{OnOk}
 use Rattle.std.specs.declared.result.Result.{Result}
 use Rattle.std.specs.declared.result.Result.TheVariants.{Ok, Err}
 use Rattle.state_facts.specs.States.{noted}
-use Rattle.judge_tables.specs.Judged.{CanNote, Judged}
+use Rattle.judge_rows.specs.Judged.{CanNote, Judged}
 use Rattle.trace_check.specs.Held.{held}
 use Rattle.trace_check.proofs.Holding.{can_note, held_more}
 use Rattle.trace_check.proofs.passing.note_by.Goals as goal

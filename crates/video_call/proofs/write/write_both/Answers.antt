@@ -1,6 +1,7 @@
 use Rattle.io_edge.specs.States.{Breaks}
-use Rattle.video_call.proofs.Written.{err-as, second-broken}
+use Rattle.video_call.proofs.Written.{second-broken}
 use Rattle.video_call.proofs.write.write_both.Goals as goal
+use Rattle.basic_lemmas.proofs.Options.{err-as}
 
 pub returns-clause-failed : goal.returns-clause-failed
 returns-clause-failed g c =

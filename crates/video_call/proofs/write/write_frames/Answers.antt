@@ -1,7 +1,8 @@
 use Rattle.std.proofs.Common.{rules}
 use Rattle.video_call.specs.Shows.{frame_of}
-use Rattle.video_call.proofs.Written.{on-err, piece-broken, piece-written}
+use Rattle.video_call.proofs.Written.{piece-broken, piece-written}
 use Rattle.video_call.proofs.write.write_frames.Goals as goal
+use Rattle.basic_lemmas.proofs.Options.{on-err}
 
 pub returns-in_err-easel-clause-failed : goal.returns-in_err-easel-clause-failed
 returns-in_err-easel-clause-failed g c =

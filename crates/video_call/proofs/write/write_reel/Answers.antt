@@ -1,8 +1,9 @@
 use Rattle.std.specs.List.{flat_map}
 use Rattle.io_edge.specs.States.{Breaks}
 use Rattle.video_call.specs.Shows.{frame_of}
-use Rattle.video_call.proofs.Written.{err-as, second-broken}
+use Rattle.video_call.proofs.Written.{second-broken}
 use Rattle.video_call.proofs.write.write_reel.Goals as goal
+use Rattle.basic_lemmas.proofs.Options.{err-as}
 
 pub returns-clause-failed : goal.returns-clause-failed
 returns-clause-failed g c =

@@ -1,5 +1,5 @@
 use Rattle.std.proofs.Common.{◌≡◌, ◌^◌, is_some, length}
-use Rattle.line_reading.specs.Values.{all_of}
+use Rattle.text_parts.specs.Values.{all_of}
 use Rattle.text_parts.specs.Cuts.{parts_at}
 use Rattle.text_parts.specs.Numbers.{number_below}
 use Rattle.wrong_words.proofs.script_word.is_joined.Given as goal

@@ -1,6 +1,6 @@
 use Rattle.std.proofs.Common.{◌≡◌, ◌+◌, ◌≤◌, length}
 use Rattle.text_parts.specs.Words.{loose_words}
-use Rattle.wrong_words.specs.Places.{first_wrong, script_kind}
+use Rattle.wrong_words.specs.WordPlaces.{first_wrong, script_kind}
 use Rattle.wrong_words.proofs.wrong.among_loose.Given as goal
 
 -- the words so far are of their kinds

@@ -1,6 +1,6 @@
 use Rattle.std.proofs.Common.{◌≡◌, ◌+◌, ◌≤◌, length}
 use Rattle.text_parts.specs.Words.{strict_words_behind}
-use Rattle.wrong_words.specs.Places.{first_wrong, trace_kind}
+use Rattle.wrong_words.specs.WordPlaces.{first_wrong, trace_kind}
 use Rattle.wrong_words.proofs.wrong.among_strict.Given as goal
 
 -- the words so far are of their kinds

@@ -1,6 +1,6 @@
 use Rattle.std.proofs.Common.{◌≡◌, length}
 use Rattle.text_parts.specs.Words.{strict_words_behind}
-use Rattle.wrong_words.specs.Places.{word_at}
+use Rattle.wrong_words.specs.WordPlaces.{word_at}
 use Rattle.wrong_words.proofs.wrong.word_at.Given as goal
 
 -- what is left has the word at the place that is left

@@ -1,4 +1,4 @@
-use Rattle.fence_tokens.specs.Fences.{made}
+use Rattle.buffer_pool.specs.Fences.{made}
 use Rattle.buffer_manager.proofs.Closes.{all-closable, homes-are}
 use Rattle.buffer_manager.proofs.manager.BufferManager.clear.Goals as goal
 

@@ -6,7 +6,7 @@ use Rattle.cam_types.specs.declared.stream.Format.TheVariants.{Raw16}
 use Rattle.cam_types.specs.declared.stream.StreamSpec.{StreamSpec}
 use Rattle.trace_model.specs.Place.{Pool}
 use Rattle.trace_model.specs.Reply.{made_for}
-use Rattle.buffer_facts.specs.Homes.{count_in}
+use Rattle.state_facts.specs.Homes.{count_in}
 use Rattle.buffer_manager.specs.Managed.{Managed, cleared, opened, with_stream}
 use Rattle.buffer_manager.proofs.Accepted.{accepted, few-made, offered-at, opened-more, room-for}
 use Rattle.buffer_manager.proofs.manager.BufferManager.configure.Goals as goal

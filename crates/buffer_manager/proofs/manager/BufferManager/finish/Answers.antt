@@ -8,7 +8,7 @@ use Rattle.buffer_manager.specs.Slots.{awaited_of, fence_of, held_of, picture_of
 use Rattle.buffer_manager.proofs.Lists.{get-here, map-set-same}
 use Rattle.buffer_manager.proofs.Moves.{kept-same, owner, stocked-away, whole-at}
 use Rattle.buffer_manager.proofs.Pictures.{early-at, timely-late}
-use Rattle.fence_tokens.specs.Fences.{with_signal}
+use Rattle.buffer_pool.specs.Fences.{with_signal}
 use Rattle.buffer_manager.proofs.manager.BufferManager.finish.Goals as goal
 
 some-is : {x y : Slot} → ◌≡◌ {A = Option Slot} (Some x) (Some y) → x ≡ y

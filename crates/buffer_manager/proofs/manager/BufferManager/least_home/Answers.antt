@@ -1,6 +1,6 @@
 use Rattle.std.proofs.Common.{[], sym, ◌∙◌}
 use Rattle.trace_model.specs.Place.{Pool, is_at}
-use Rattle.buffer_facts.specs.Homes.{place_in}
+use Rattle.state_facts.specs.Homes.{place_in}
 use Rattle.buffer_manager.specs.Managed.{homes_with}
 use Rattle.buffer_manager.proofs.Owners.{find-at, find-more}
 use Rattle.buffer_manager.proofs.manager.BufferManager.least_home.Goals as goal

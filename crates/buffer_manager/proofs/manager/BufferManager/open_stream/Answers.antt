@@ -5,8 +5,9 @@ use Rattle.trace_model.specs.Place.{Place}
 use Rattle.buffer_manager.specs.declared.slot.Slot.TheVariants.{Home}
 use Rattle.buffer_manager.specs.declared.stream.Stream.{Stream}
 use Rattle.buffer_manager.specs.Slots.{fence_of, held_of, picture_of, place_of}
-use Rattle.buffer_manager.proofs.Opens.{fresh, kept-more, lent-more, map-replicate, room-parts, size-few, timely-grown, total-few}
+use Rattle.buffer_manager.proofs.Opens.{fresh, kept-more, lent-more, room-parts, size-few, timely-grown, total-few}
 use Rattle.buffer_manager.proofs.manager.BufferManager.open_stream.Goals as goal
+use Rattle.basic_lemmas.proofs.Tests.{map-replicate}
 
 pub open_in-pool-requires-clause-free : goal.open_in-pool-requires-clause-free
 open_in-pool-requires-clause-free c =

@@ -1,4 +1,4 @@
-use Rattle.fence_tokens.specs.Fences.{made}
+use Rattle.buffer_pool.specs.Fences.{made}
 use Rattle.buffer_manager.proofs.Ends.{made-slots, streams-wait}
 use Rattle.buffer_manager.proofs.manager.BufferManager.scrap.Goals as goal
 

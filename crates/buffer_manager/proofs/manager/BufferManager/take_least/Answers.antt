@@ -5,7 +5,7 @@ use Rattle.std.proofs.lemmas.Option.{get_or_from_slice_get}
 use Rattle.trace_model.specs.Place.{Pool, is_at}
 use Rattle.buffer_pool.specs.Parked.{number}
 use Rattle.buffer_pool.specs.declared.parked.Parked.{Parked}
-use Rattle.buffer_facts.specs.Homes.{Homes}
+use Rattle.state_facts.specs.Homes.{Homes}
 use Rattle.buffer_manager.specs.declared.slot.Slot.{Slot}
 use Rattle.buffer_manager.specs.declared.slot.Slot.TheVariants.{Away}
 use Rattle.buffer_manager.specs.declared.stream.Stream.{Stream}

@@ -1,6 +1,6 @@
 use Rattle.std.proofs.Common.{◌≡◌, true, length}
 use Rattle.std.specs.List.{list_all}
-use Rattle.fence_tokens.specs.Fences.{made}
+use Rattle.buffer_pool.specs.Fences.{made}
 use Rattle.buffer_pool.specs.Parked.{has_made_waiter}
 use Rattle.buffer_pool.proofs.pool.Pool.close.Given as goal
 

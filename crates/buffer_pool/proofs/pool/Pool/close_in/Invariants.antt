@@ -1,6 +1,6 @@
 use Rattle.std.proofs.Common.{◌≡◌, ◌-◌, ◌≤◌, true, length}
 use Rattle.std.specs.List.{list_all}
-use Rattle.fence_tokens.specs.Fences.{made}
+use Rattle.buffer_pool.specs.Fences.{made}
 use Rattle.buffer_pool.specs.Blocks.{with_returned}
 use Rattle.buffer_pool.specs.Opened.{is_whole}
 use Rattle.buffer_pool.specs.Parked.{has_made_waiter}

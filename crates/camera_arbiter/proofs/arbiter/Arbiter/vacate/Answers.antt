@@ -1,5 +1,4 @@
 use Rattle.std.proofs.Common.{◌≡◌, Some, ap, sym, ◌∙◌}
-use Rattle.camera_arbiter.specs.Arbitration.{Arbitration}
 use Rattle.camera_arbiter.specs.Log.{holder}
 use Rattle.camera_arbiter.specs.declared.answer.LogLine.{LogLine}
 use Rattle.std.specs.Prelude.{List}

@@ -1,5 +1,5 @@
 use Rattle.std.proofs.Common.{sym, ◌∙◌}
-use Rattle.fence_tokens.specs.Fences.{made}
+use Rattle.buffer_pool.specs.Fences.{made}
 use Rattle.device_rows.specs.Ready.{may_return_failed}
 use Rattle.device_core.proofs.Passing.{made_target}
 use Rattle.device_core.proofs.device.Device.return_failed.Goals as goal

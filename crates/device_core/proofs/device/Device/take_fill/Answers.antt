@@ -1,6 +1,6 @@
 use Rattle.std.proofs.Common.{sym, ◌∙◌}
 use Rattle.device_core.proofs.Passing.{fillable, open_to}
-use Rattle.fence_tokens.specs.Fences.{is_signalled}
+use Rattle.buffer_pool.specs.Fences.{is_signalled}
 use Rattle.device_core.proofs.device.Device.take_fill.Goals as goal
 
 pub begin_fill-requires-clause-fillable : goal.begin_fill-requires-clause-fillable

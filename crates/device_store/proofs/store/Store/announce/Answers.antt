@@ -2,7 +2,7 @@ use Rattle.std.proofs.Common.{length, refl}
 use Rattle.std.specs.Vec.{vec_capacity}
 use Rattle.device_rows.specs.Rows.{row_at}
 use Rattle.device_store.specs.Stored.{specs_of, views}
-use Rattle.inflight_table.specs.declared.mark.Mark.TheVariants.{Announced}
+use Rattle.device_rows.specs.declared.mark.Mark.TheVariants.{Announced}
 use Rattle.std.proofs.lemmas.Bool.{and_parts}
 use Rattle.device_store.specs.Kept.{agree, is_placed}
 use Rattle.device_store.proofs.Admission.{rise-apart}

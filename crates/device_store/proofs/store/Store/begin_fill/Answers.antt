@@ -15,7 +15,7 @@ use Rattle.device_store.specs.Held.{Waiting as Place}
 use Rattle.device_store.specs.Kept.{held_by, slot_of, waiting_for}
 use Rattle.device_store.specs.Steps.{is_fillable, is_open_to}
 use Rattle.device_store.specs.Stored.{specs_of, views}
-use Rattle.fence_tokens.specs.Fences.{is_signalled, made}
+use Rattle.buffer_pool.specs.Fences.{is_signalled, made}
 use Rattle.device_store.proofs.Agree.{range-none}
 use Rattle.device_store.proofs.Moves.{begun-moved, is-home-place}
 use Rattle.device_store.proofs.Ops.{met-too}

@@ -10,8 +10,8 @@ use Rattle.device_store.specs.Held.{as_exposed}
 use Rattle.device_store.specs.Kept.{filled_for}
 use Rattle.device_store.specs.Stored.{specs_of, Stored, views}
 use Rattle.device_store.specs.declared.readouts.Slot.TheVariants.{Home}
-use Rattle.inflight_table.specs.declared.mark.Mark.TheVariants.{Target}
-use Rattle.inflight_table.specs.Rows.{has_place, passes, row_of, with_mark, with_parked, with_row, with_rows}
+use Rattle.device_rows.specs.declared.mark.Mark.TheVariants.{Target}
+use Rattle.device_rows.specs.TableRows.{has_place, passes, row_of, with_mark, with_parked, with_row, with_rows}
 use Rattle.device_store.proofs.Moves.{ended-moved, out-held}
 use Rattle.device_store.proofs.Ops.{is-target, place-free}
 use Rattle.device_store.proofs.Outs.{is-out, some-none, some-same}

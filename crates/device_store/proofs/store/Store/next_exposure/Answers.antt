@@ -1,4 +1,4 @@
-use Rattle.device_store.proofs.Books.{found-views}
+use Rattle.device_store.proofs.Turns.{found-views}
 use Rattle.device_store.proofs.store.Store.next_exposure.Goals as goal
 
 pub returns-clause-found : goal.returns-clause-found

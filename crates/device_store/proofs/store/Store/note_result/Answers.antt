@@ -2,8 +2,8 @@ use Rattle.std.proofs.Common.{length, refl}
 use Rattle.std.specs.Vec.{vec_capacity}
 use Rattle.device_rows.specs.Rows.{row_at}
 use Rattle.device_store.specs.Stored.{specs_of, views}
-use Rattle.inflight_table.specs.Marks.{marked}
-use Rattle.inflight_table.specs.declared.mark.Mark.TheVariants.{ResultError}
+use Rattle.device_rows.specs.Marks.{marked}
+use Rattle.device_rows.specs.declared.mark.Mark.TheVariants.{ResultError}
 use Rattle.device_store.proofs.OneMark.{there, mark-by, kept-same}
 use Rattle.device_store.proofs.Ops.{full-same}
 use Rattle.device_store.proofs.store.Store.note_result.Goals as goal

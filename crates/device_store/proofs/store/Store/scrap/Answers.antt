@@ -1,9 +1,9 @@
 use Rattle.std.proofs.Common.{◌∙◌, refl, ap}
-use Rattle.fence_tokens.specs.Fences.{made}
+use Rattle.buffer_pool.specs.Fences.{made}
 use Rattle.device_store.specs.Stored.{specs_of}
 use Rattle.device_store.specs.Unpacked.{is_made_row}
 use Rattle.device_store.proofs.Scrapped.{all-last, made-rows}
-use Rattle.inflight_table.specs.Rows.{Rows}
+use Rattle.device_rows.specs.TableRows.{Rows}
 use Rattle.device_store.specs.declared.buffers.Held.{Held}
 use Rattle.device_store.proofs.store.Store.scrap.Goals as goal
 

@@ -1,6 +1,6 @@
 use Rattle.std.proofs.Common.{◌≡◌, true, length}
 use Rattle.std.specs.List.{list_all}
-use Rattle.fence_tokens.specs.Fences.{made}
+use Rattle.buffer_pool.specs.Fences.{made}
 use Rattle.device_store.specs.Unpacked.{is_made_row}
 use Rattle.device_store.proofs.store.Store.scrap.Given as goal
 

@@ -6,7 +6,7 @@ use Rattle.device_rows.specs.Ready.{is_sensor_out, is_state, may_return_failed}
 use Rattle.device_rows.specs.Rows.{row_at}
 use Rattle.device_store.specs.Steps.{has_made}
 use Rattle.device_store.specs.Stored.{specs_of, views}
-use Rattle.fence_tokens.specs.Fences.{made}
+use Rattle.buffer_pool.specs.Fences.{made}
 use Rattle.device_store.proofs.Moves.{failed-moved}
 use Rattle.device_store.proofs.Ops.{met-too}
 use Rattle.device_store.proofs.Outs.{back-at, failing-held, made-held, taking}

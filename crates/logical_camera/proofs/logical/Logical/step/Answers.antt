@@ -1,5 +1,5 @@
 use Rattle.std.proofs.Common.{◌∙◌, sym}
-use Rattle.logical_camera.proofs.Sides.{first-done, second-done, view}
+use Rattle.logical_camera.proofs.LogicalSides.{first-done, second-done, view}
 use Rattle.logical_camera.proofs.Turning.{answered, turn-first, turn-second}
 use Rattle.logical_camera.proofs.logical.Logical.step.Goals as goal
 

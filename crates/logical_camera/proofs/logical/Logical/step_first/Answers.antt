@@ -1,5 +1,5 @@
 use Rattle.std.proofs.Common.{length, refl, take}
-use Rattle.logical_camera.proofs.Sides.{step-first}
+use Rattle.logical_camera.proofs.LogicalSides.{step-first}
 use Rattle.logical_camera.proofs.logical.Logical.step_first.Goals as goal
 
 pub returns-clause-step : goal.returns-clause-step

@@ -1,7 +1,7 @@
 use Rattle.std.proofs.Common.{◌≡◌, Bool, Some, refl, sym, ap, ◌∙◌, subst}
 use Rattle.std.proofs.Common.{arith}
 use Rattle.client_calls.specs.Around.{IsAround}
-use Rattle.client_facts.specs.Replies.{begin_in, call_in}
+use Rattle.state_facts.specs.Replies.{begin_in, call_in}
 use Rattle.run_model.specs.Ready.{or_entry}
 use Rattle.run_rows.specs.Kept.{is_no_row}
 use Rattle.trace_model.specs.declared.entry.Entry.{Entry}

@@ -1,5 +1,5 @@
 use Rattle.std.proofs.Common.{◌≡◌, Some, sym, ap, ◌∙◌}
-use Rattle.error_notify.specs.declared.entry.ErrorEntry.TheVariants.{Device}
+use Rattle.device_rows.specs.declared.entry.ErrorEntry.TheVariants.{Device}
 use Rattle.device_rows.specs.Ready.{next_error}
 use Rattle.service_state.proofs.Told.{error_of, error_rows}
 use Rattle.service_state.proofs.FrameSteps.{device_fails, device_fits, fails}

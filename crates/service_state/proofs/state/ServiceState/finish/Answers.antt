@@ -1,6 +1,6 @@
 use Rattle.std.proofs.Common.{◌≡◌, Some, refl, sym, ap, ◌∙◌, slice_get, subst}
 use Rattle.cam_types.specs.declared.number.BufferId.{BufferId}
-use Rattle.buffer_facts.specs.Homes.{held_in}
+use Rattle.state_facts.specs.Homes.{held_in}
 use Rattle.device_store.specs.Steps.{ShowsAt}
 use Rattle.service_state.proofs.Fitting.{offered_left}
 use Rattle.service_state.proofs.FrameSteps.{finishes}

@@ -1,6 +1,6 @@
 use Rattle.std.proofs.Common.{◌≡◌, Bool, arith, ap, ◌∙◌, is_some, subst, sym}
 use Rattle.client_calls.specs.Around.{IsAround}
-use Rattle.client_facts.specs.Replies.{begin_in, call_in}
+use Rattle.state_facts.specs.Replies.{begin_in, call_in}
 use Rattle.run_model.specs.Ready.{or_entry}
 use Rattle.run_model.specs.declared.step.StepName.TheVariants.{Client}
 use Rattle.run_rows.specs.Kept.{is_no_row}

@@ -1,5 +1,5 @@
 use Rattle.std.proofs.Common.{◌≡◌, true, Some, sym, ◌∙◌, subst, is_some}
-use Rattle.queue_facts.specs.Turns.{next_of}
+use Rattle.state_facts.specs.Turns.{next_of}
 use Rattle.run_model.specs.declared.step.StepName.TheVariants.{Send}
 use Rattle.trace_model.specs.Send.{targets_in_order}
 use Rattle.buffer_manager.specs.Taking.{least_targets_in}

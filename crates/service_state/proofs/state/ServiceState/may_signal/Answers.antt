@@ -1,5 +1,5 @@
 use Rattle.std.proofs.Common.{◌≡◌, ℕ, List, false, ◌&&◌, not, ap, ◌∙◌, length, nat_lt, slice_index_or, sym}
-use Rattle.pending_signals.specs.Pending.{stands}
+use Rattle.buffer_pool.specs.Pending.{stands}
 use Rattle.run_model.specs.declared.step.StepName.TheVariants.{Signal}
 use Rattle.service_state.proofs.Made.{shown}
 use Rattle.service_state.proofs.Readiness.{ready_as, signal_is}

@@ -3,7 +3,7 @@ use Rattle.trace_model.specs.declared.entry.Entry.TheVariants.{Call}
 use Rattle.trace_model.specs.Configuration.{streams_of}
 use Rattle.service_state.specs.Configuring.{due_in}
 use Rattle.service_state.proofs.Calls.{buffers_have_room, can_take_at, client_fits, reconfiguring}
-use Rattle.stream_config.proofs.Accepted.{few_specs}
+use Rattle.request_checks.proofs.Accepted.{few_specs}
 use Rattle.service_state.proofs.Made.{makes_as, serving_as, shown}
 use Rattle.service_state.proofs.Planning.{planned_specs}
 use Rattle.service_state.proofs.Room.{home_given}

@@ -2,7 +2,7 @@ use Rattle.std.proofs.Common.{◌≡◌, true, [], Some, None, refl, sym, ap, �
 use Rattle.capture_queue.specs.Captures.{Captures}
 use Rattle.buffer_manager.specs.Managed.{homes_with}
 use Rattle.buffer_manager.specs.Taking.{least_targets_in}
-use Rattle.queue_facts.specs.Turns.{next_of}
+use Rattle.state_facts.specs.Turns.{next_of}
 use Rattle.run_model.specs.declared.step.StepName.TheVariants.{Send}
 use Rattle.run_rows.proofs.Sending.{fresh_is}
 use Rattle.state_facts.specs.States.{targets_in}
@@ -12,8 +12,9 @@ use Rattle.service_parts.specs.Parts.{base}
 use Rattle.service_state.specs.Answers.{move_with}
 use Rattle.service_state.specs.Serving.{Serving}
 use Rattle.service_state.proofs.Made.{makes_as, serving_as, shown, stays_as}
-use Rattle.service_state.proofs.Sending.{frame_is, no_buffer, no_fault, none_taken, parked_of, row_above, row_sound, same_targets, send_entry, send_fits, send_numbered, send_ready, sends, taken_targets}
+use Rattle.service_state.proofs.Sending.{frame_is, no_buffer, none_taken, parked_of, row_above, row_sound, same_targets, send_entry, send_fits, send_numbered, send_ready, sends, taken_targets}
 use Rattle.service_state.proofs.state.ServiceState.send.Goals as goal
+use Rattle.basic_lemmas.proofs.Options.{is-none}
 
 pub returns-in_err-targets : goal.returns-in_err-targets
 returns-in_err-targets c =
@@ -57,7 +58,7 @@ admit-requires-clause-range c =
     let ready' = send_ready s next it.0 at may took in
     let ready : move_by i.script s.parts Send ≡ Some (move_with Send (Some (send_entry s.parts next c.in_ok-targets.targets))) = rw it.2 ready' in
     let frame : c.next_frame-frame.result ≡ record { 0 = i.captures.turns.numbers } = frame_is c.next_frame-frame.result i.captures.turns.numbers c.next_frame-frame.ensures in
-    rw c.fresh_row.ensures (no_fault _ (row_sound s serving next c.in_ok-targets.targets at ready).range)
+    rw c.fresh_row.ensures (is-none _ (row_sound s serving next c.in_ok-targets.targets at ready).range)
 
 pub admit-requires-clause-streams : goal.admit-requires-clause-streams
 admit-requires-clause-streams c =

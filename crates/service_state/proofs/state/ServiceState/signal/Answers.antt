@@ -2,7 +2,7 @@ use Rattle.std.proofs.Common.{◌≡◌, Bool, true, false, refl, sym, ◌∙◌
 use Rattle.std.proofs.Common.{arith, not, nat_lt, slice_index_or}
 use Rattle.std.proofs.lemmas.Bool.{and_parts}
 use Rattle.std.proofs.lemmas.Bool.Decides.{nat_tests}
-use Rattle.pending_signals.specs.Pending.{stands}
+use Rattle.buffer_pool.specs.Pending.{stands}
 use Rattle.service_state.specs.Serving.{unsignalled}
 use Rattle.service_state.proofs.Made.{makes_as, serving_as, shown, stays_as}
 use Rattle.service_state.proofs.Signallers.{stands_first, without_first, without_none}

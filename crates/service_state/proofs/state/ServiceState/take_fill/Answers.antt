@@ -1,5 +1,5 @@
 use Rattle.std.proofs.Common.{◌≡◌, Bool, true, false, Option, Some, None, IsNone, IsSome, IsTrue, refl, sym, is_some}
-use Rattle.buffer_facts.specs.Homes.{signalled_in}
+use Rattle.state_facts.specs.Homes.{signalled_in}
 use Rattle.device_core.specs.View.{with_rows}
 use Rattle.device_rows.specs.Ready.{is_fill_ready}
 use Rattle.device_rows.specs.Rows.{fill_begun, with_row}

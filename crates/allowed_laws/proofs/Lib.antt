@@ -1,4 +1,0 @@
-pub mod Complete
-pub mod Lists
-pub mod Opens
-pub mod Streams

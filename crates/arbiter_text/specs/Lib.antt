@@ -1,5 +1,0 @@
-pub mod Lines
-pub mod Valid
-pub mod Grammar
-pub mod Spelling
-pub mod Scripts

@@ -1,4 +1,0 @@
-pub mod Bright
-pub mod Least
-pub mod Halves
-pub mod Found

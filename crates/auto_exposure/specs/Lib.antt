@@ -1,3 +1,0 @@
-pub mod Brightness
-pub mod Search
-pub mod Scene

@@ -1,8 +1,0 @@
-use Rattle.std.proofs.Common.{◌≡◌, arith}
-use Rattle.std.proofs.lemmas.Grind.{common_steps}
-use Rattle.auto_output.specs.Output.{script_of}
-use Rattle.auto_output.proofs.script.script_of.Goals as goal
-
-pub returns : goal.returns
-unfolding script_of
-returns c = grind (arith, common_steps)

@@ -1,9 +1,0 @@
-pub mod Returns
-pub mod Own
-pub mod Conserved
-pub mod Fences
-pub mod Sends
-pub mod Once
-pub mod Home
-pub mod Early
-pub mod Order

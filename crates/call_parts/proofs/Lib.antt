@@ -1,0 +1,4 @@
+pub mod Sinks
+pub mod Done
+pub mod Long
+pub mod Meanings

@@ -1,0 +1,81 @@
+//! A call that reads a script.
+ghost use Rattle.std.specs.Prelude.{◌≡◌, ◌≢◌, ◌≤◌, ℕ, List, IsTrue};
+ghost use Rattle.cam_types.specs.Script.{is_valid};
+ghost use Rattle.cam_types.specs.declared.script.Script.{Script as AScript};
+ghost use Rattle.call_parts.specs.Answers.{AreAnswers, Tells, TellsBy};
+ghost use Rattle.call_parts.specs.Ends.{CountsSink, CountsSource, ReadsBy};
+ghost use Rattle.call_parts.specs.Meanings.{OfScript};
+
+use crate::{InputWork, Status, answer_input, refuse_script};
+use cam_types::{SCRIPT_BYTES, Script};
+use io_edge::{Sink, Source};
+use std::alloc::Global;
+use text_parts::{Cause, TextRefused};
+
+/// What a call makes of a script.
+pub trait ScriptWork {
+    /// The status and the whole text that belong to a script.
+    ghost belongs: { Self → AScript → ℕ → List ℕ → Type 0 };
+
+    /// Answers a script.
+    fn answer_script<K: Sink>(&self, alloc: Global, script: Script, sink: &mut K) -> Status
+        requires { IsTrue (is_valid script) }
+        ensures { TellsBy (belongs self.now script) result.number (K.state sink.old) (K.state sink.new) };
+
+    /// It does nothing. The statuses that belong to a script are those of an answer.
+    fn keeps_the_law(&self)
+        ensures { (script : AScript) → AreAnswers (belongs self.now script) };
+}
+
+/// What a call makes of a text that is read as a script.
+#[derive(Drop)]
+struct OfText<'a, W: ScriptWork>(&'a W);
+
+impl<'a, W: ScriptWork> InputWork for OfText<'a, W> {
+    ghost use Rattle.call_parts.specs.Meanings.{OfScript};
+    ghost use Rattle.judge_text.specs.Lines.{refused_script_text};
+
+    ghost limit = { 65536 };
+
+    ghost belongs = { λ work. OfScript (W.belongs work.0.now) };
+
+    ghost refusal = { λ _. refused_script_text 0 37 };
+
+    fn refuse_long<K: Sink>(&self, alloc: Global, sink: &mut K) -> Status {
+        refuse_script(alloc, 0, Cause::Limit.number(), sink)
+    }
+
+    fn answer_whole<K: Sink>(&self, alloc: Global, input: &[u8], sink: &mut K) -> Status {
+        match script_text::read(alloc, input) {
+            Err(TextRefused::NoMemory) => Status::NO_MEMORY,
+            Err(TextRefused::Bad { line, cause }) => {
+                refuse_script(alloc, line, cause.number(), sink)
+            }
+            Ok(script) => self.0.answer_script(alloc, script, sink),
+        }
+    }
+
+    #[tactic(auto, using(crate::proofs::Meanings::of_script, crate::proofs::Meanings::long_script))]
+    fn keeps_the_laws(&self) {
+        self.0.keeps_the_law();
+    }
+}
+
+/// Reads a script, and answers it.
+pub fn answer_script<S: Source, K: Sink, W: ScriptWork>(
+    alloc: Global,
+    source: &mut S,
+    sink: &mut K,
+    work: &W,
+) -> Status
+    // As `answer_input` says of an input that is read as a script.
+    ensures tells { Tells (OfScript (W.belongs work.now)) (S.left source.old) result.number
+        (K.state sink.old) (K.state sink.new) }
+    ensures source { CountsSource result.number (S.faults source.old) (S.faults source.new) }
+    ensures sink { CountsSink result.number (K.state sink.old) (K.state sink.new) }
+    ensures read { ReadsBy SCRIPT_BYTES result.number (S.left source.old) (S.left source.new) }
+    ensures known { result.number ≤ 5 }
+    ensures no_usage { result.number ≢ 2 }
+{
+    answer_input(alloc, source, sink, SCRIPT_BYTES, &OfText(work))
+}

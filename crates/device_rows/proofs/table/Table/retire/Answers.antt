@@ -1,0 +1,43 @@
+use Rattle.std.proofs.Common.{◌≡◌, ◌∙◌, true, false, arith, refl, sym}
+use Rattle.device_rows.specs.TableRows.{is_cleared, passes, row_of, without}
+use Rattle.device_rows.proofs.Places.{absent, cond-false, cond-true, kept-remove, passes-is, passes-none, present, same-rows}
+use Rattle.device_rows.proofs.table.Table.retire.Goals as goal
+
+pub returns-in_default-clause-value : goal.returns-in_default-clause-value
+returns-in_default-clause-value g c =
+    let gone = absent c.args.frame.0 c.self.inside.rows.items c.deref.result.now c.place_of.result c.deref.ensures.value c.place_of.ensures c.in_default.is in
+    rw (← c.self.view_is) (passes-none is_cleared (row_of c.args.frame.0 c.self.inside.rows.items) gone.found)
+
+pub returns-in_default-clause-left : goal.returns-in_default-clause-left
+returns-in_default-clause-left g c =
+    let gone = absent c.args.frame.0 c.self.inside.rows.items c.deref.result.now c.place_of.result c.deref.ensures.value c.place_of.ensures c.in_default.is in
+    rw (← c.self.view_is) (same-rows c.self.inside.capacity _ _ (cond-false (passes is_cleared (row_of c.args.frame.0 c.self.inside.rows.items)) (without c.args.frame.0 c.self.inside.rows.items) c.self.inside.rows.items c.self.inside.rows.items (passes-none is_cleared (row_of c.args.frame.0 c.self.inside.rows.items) gone.found) refl))
+
+pub returns-then-not-is_cleared-clause-value : goal.returns-then-not-is_cleared-clause-value
+returns-then-not-is_cleared-clause-value g c =
+    let there = present c.args.frame.0 c.self.inside.rows.items c.deref.result.now c.place_of.result c.in-Some.place c.index-row.result.now c.deref.ensures.value c.place_of.ensures c.in-Some.is c.index-row.ensures c.self.invariant.ordered in
+    let not_cleared : c.is_cleared.result ≡ false = grind arith in
+    rw (← c.self.view_is) (passes-is is_cleared (row_of c.args.frame.0 c.self.inside.rows.items) c.index-row.result.now false there.found (sym c.is_cleared.ensures ∙ not_cleared))
+
+pub returns-then-not-is_cleared-clause-left : goal.returns-then-not-is_cleared-clause-left
+returns-then-not-is_cleared-clause-left g c =
+    let there = present c.args.frame.0 c.self.inside.rows.items c.deref.result.now c.place_of.result c.in-Some.place c.index-row.result.now c.deref.ensures.value c.place_of.ensures c.in-Some.is c.index-row.ensures c.self.invariant.ordered in
+    let not_cleared : c.is_cleared.result ≡ false = grind arith in
+    rw (← c.self.view_is) (same-rows c.self.inside.capacity _ _ (cond-false (passes is_cleared (row_of c.args.frame.0 c.self.inside.rows.items)) (without c.args.frame.0 c.self.inside.rows.items) c.self.inside.rows.items c.self.inside.rows.items (passes-is is_cleared (row_of c.args.frame.0 c.self.inside.rows.items) c.index-row.result.now false there.found (sym c.is_cleared.ensures ∙ not_cleared)) refl))
+
+pub invariant_of-self : goal.invariant_of-self
+invariant_of-self g c =
+    let there = present c.args.frame.0 c.self.inside.rows.items c.deref.result.now c.place_of.result c.in-Some.place c.index-row.result.now c.deref.ensures.value c.place_of.ensures c.in-Some.is c.index-row.ensures c.self.invariant.ordered in
+    kept-remove c.self.inside.rows.items c.remove.new.self.items c.in-Some.place _ _ _ c.self.invariant c.remove.ensures.capacity there.within c.remove.ensures.items
+
+pub returns-clause-value : goal.returns-clause-value
+returns-clause-value g c =
+    let there = present c.args.frame.0 c.self.inside.rows.items c.deref.result.now c.place_of.result c.in-Some.place c.index-row.result.now c.deref.ensures.value c.place_of.ensures c.in-Some.is c.index-row.ensures c.self.invariant.ordered in
+    let cleared : c.is_cleared.result ≡ true = grind arith in
+    rw (← c.self.view_is) (passes-is is_cleared (row_of c.args.frame.0 c.self.inside.rows.items) c.index-row.result.now true there.found (sym c.is_cleared.ensures ∙ cleared))
+
+pub returns-clause-left : goal.returns-clause-left
+returns-clause-left g c =
+    let there = present c.args.frame.0 c.self.inside.rows.items c.deref.result.now c.place_of.result c.in-Some.place c.index-row.result.now c.deref.ensures.value c.place_of.ensures c.in-Some.is c.index-row.ensures c.self.invariant.ordered in
+    let cleared : c.is_cleared.result ≡ true = grind arith in
+    rw (← c.self.view_is) (same-rows c.self.inside.capacity _ _ (cond-true (passes is_cleared (row_of c.args.frame.0 c.self.inside.rows.items)) (without c.args.frame.0 c.self.inside.rows.items) c.self.inside.rows.items c.remove.new.self.items (passes-is is_cleared (row_of c.args.frame.0 c.self.inside.rows.items) c.index-row.result.now true there.found (sym c.is_cleared.ensures ∙ cleared)) (c.remove.ensures.items ∙ sym there.gone)))

@@ -1,4 +1,0 @@
-pub mod Lines
-pub mod Valid
-pub mod Grammar
-pub mod Spelling

@@ -1,0 +1,42 @@
+use Rattle.std.proofs.Common.{◌≡◌, ◌∙◌, Option, Some, false, refl, ap, sym}
+use Rattle.fill_jobs.specs.declared.handed_job.Job.{Job}
+use Rattle.fill_jobs.specs.declared.handed_job.Job.TheVariants.{Exposure}
+use Rattle.fill_jobs.specs.Places.{has_exposure}
+use Rattle.fill_jobs.proofs.PlaceLemmas.{IsFrameAt, frame_at, frame_none, no_sensor_job, sensor_job}
+use Rattle.fill_jobs.proofs.places.take_exposure.Goals as goal
+
+pub returns-in_err-place-clause-value : goal.returns-in_err-place-clause-value
+returns-in_err-place-clause-value c =
+    let none = frame_none c.args.frame.0 0 c.args.places.now (sym c.in_err-place.ensures.value) in rw (c.from_residual.ensures, none) refl
+
+pub returns-then-not-is_exposure_in-clause-value : goal.returns-then-not-is_exposure_in-clause-value
+returns-then-not-is_exposure_in-clause-value c =
+    let first = frame_at c.args.frame.0 c.in_ok-place.place c.args.places.now (sym c.in_ok-place.ensures.value) in
+    let there = ap (λ (place : Option Job). has_exposure place) (first.taken.there c.index-places-place.result) in
+    let other : has_exposure (Some first.job) ≡ false = sym there ∙ (sym c.is_exposure_in.ensures ∙ c.if-not-is_exposure_in.true) in
+    rw first.held (sym (no_sensor_job first.job other (first.taken.fits c.requires)))
+
+first-of : (c : goal.In-Some-Exposure) → IsFrameAt c.args.frame.0 c.in_ok-place.place c.args.places.now
+first-of c = frame_at c.args.frame.0 c.in_ok-place.place c.args.places.now (sym c.in_ok-place.ensures.value)
+
+taken-is : (c : goal.In-Some-Exposure) → (first-of c).job ≡ Exposure c.in-Some-Exposure.job
+taken-is c =
+    let first = first-of c in
+    let there = first.taken.there c.index-places-place-2.result in
+    let value = c.take.ensures.value in
+    let is = c.in-Some-Exposure.is in
+    let field = c.in-Some-Exposure.field-0-is in
+    cc
+
+pub returns-clause-value : goal.returns-clause-value
+returns-clause-value c =
+    let first = first-of c in
+    rw first.held (sensor_job first.job c.in-Some-Exposure.job (taken-is c) (first.taken.fits c.requires))
+
+pub returns-clause-taken : goal.returns-clause-taken
+returns-clause-taken c =
+    let less = (first-of c).taken.less in
+    rw c.take.ensures.after (rw (taken-is c) at less)
+
+pub returns-clause-fit : goal.returns-clause-fit
+returns-clause-fit c = rw c.take.ensures.after ((first-of c).taken.left c.requires)

@@ -1,4 +1,0 @@
-mod Lists
-mod Short
-mod Begun
-mod Prints

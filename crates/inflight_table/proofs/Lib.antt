@@ -1,6 +1,0 @@
-pub mod General
-pub mod Reach
-pub mod RowsLemmas
-pub mod Places
-pub mod Marked
-pub mod Front

@@ -1,5 +1,0 @@
-use Rattle.job_hands.proofs.HeldLemmas.{first_found}
-use Rattle.job_hands.proofs.laws.the_first_job_is_found_by_its_frame.Goals as goal
-
-pub returns : goal.returns
-returns c = first_found

@@ -1,5 +1,0 @@
-use Rattle.job_hands.proofs.HeldLemmas.{one_more}
-use Rattle.job_hands.proofs.laws.there_is_one_job_more.Goals as goal
-
-pub returns : goal.returns
-returns c = one_more

@@ -1,3 +1,0 @@
-pub mod FenceLemmas
-pub mod HomeLemmas
-pub mod Kept

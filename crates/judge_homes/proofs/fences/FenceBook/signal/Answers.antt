@@ -1,8 +1,0 @@
-use Rattle.judge_homes.proofs.FenceLemmas.{given-out, marks-signalled}
-use Rattle.judge_homes.proofs.fences.FenceBook.signal.Goals as goal
-
-pub invariant_of-self : goal.invariant_of-self
-invariant_of-self c = rw c.leave_out.ensures (given-out c.self.inside.waiting.items c.self.inside.count c.args.fence.0 c.self.invariant)
-
-pub returns : goal.returns
-returns c = rw (← c.self.view_is, c.leave_out.ensures) (marks-signalled c.self.inside.waiting.items c.self.inside.count c.args.fence.0)

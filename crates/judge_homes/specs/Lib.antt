@@ -1,2 +1,0 @@
-pub mod Fences
-pub mod Homes

@@ -1,2 +1,0 @@
-pub mod PastLemmas
-pub mod StreamLemmas

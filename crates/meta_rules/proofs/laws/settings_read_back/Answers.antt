@@ -1,5 +1,0 @@
-use Rattle.meta_rules.proofs.Kept.{settings_again}
-use Rattle.meta_rules.proofs.laws.settings_read_back.Goals as goal
-
-pub returns : goal.returns
-returns c = settings_again

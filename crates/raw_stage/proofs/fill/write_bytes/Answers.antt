@@ -1,7 +1,0 @@
-use Rattle.std.proofs.Common.{◌*◌, arith, ◌∙◌}
-use Rattle.raw_stage.proofs.RawLemmas.{raw_picture-all}
-use Rattle.raw_stage.proofs.fill.write_bytes.Goals as goal
-
-pub returns : goal.returns
-returns c =
-    raw_picture-all c.args.values.now c.loop-i.bytes c.loop-i.i (c.loop-i.i * 2) (c.loop-i.auto.bytes ∙ c.requires) (omega arith) (omega arith) c.loop-i.invariant

@@ -1,7 +1,0 @@
-use Rattle.std.proofs.Common.{refl}
-use Rattle.cam_types.specs.Picture.{picture}
-use Rattle.raw_stage.proofs.laws.a_raw_stream_has_raw_pictures.Goals as goal
-
-pub returns : goal.returns
-unfolding picture
-returns c = λ spec s n is. rw is refl

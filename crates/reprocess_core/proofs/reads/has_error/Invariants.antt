@@ -1,0 +1,6 @@
+use Rattle.std.proofs.Common.{◌≡◌, reverse, take}
+use Rattle.reprocess_model.specs.Past.{has_error}
+use Rattle.reprocess_core.proofs.reads.has_error.Given as goal
+
+abbrev pub invariant-loop-line : goal.invariant-loop-line
+invariant-loop-line l = l.found ≡ has_error l.request (reverse (take l.line-index l.lines))

@@ -1,0 +1,6 @@
+use Rattle.std.proofs.Common.{◌≡◌, reverse, take}
+use Rattle.reprocess_model.specs.Past.{is_taken}
+use Rattle.reprocess_core.proofs.reads.is_taken.Given as goal
+
+abbrev pub invariant-loop-line : goal.invariant-loop-line
+invariant-loop-line l = l.found ≡ is_taken l.request (reverse (take l.line-index l.lines))

@@ -1,5 +1,0 @@
-use Rattle.reprocess_laws.proofs.Ends.{input-balanced}
-use Rattle.reprocess_laws.proofs.laws.an_input_comes_back_once_for_each_take.Goals as goal
-
-pub returns : goal.returns
-returns c plan i past run = input-balanced plan i past run

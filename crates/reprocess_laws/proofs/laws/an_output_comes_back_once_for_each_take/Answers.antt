@@ -1,5 +1,0 @@
-use Rattle.reprocess_laws.proofs.Ends.{output-balanced}
-use Rattle.reprocess_laws.proofs.laws.an_output_comes_back_once_for_each_take.Goals as goal
-
-pub returns : goal.returns
-returns c plan b past run = output-balanced plan b past run

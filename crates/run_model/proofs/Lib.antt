@@ -1,0 +1,12 @@
+pub mod Lengths
+pub mod Room
+pub mod Slots
+pub mod Lent
+pub mod Entries
+pub mod Legal
+pub mod Moves
+pub mod Unsent
+pub mod Targets
+pub mod Home
+pub mod Few
+pub mod Shapes

@@ -1,2 +1,0 @@
-pub mod GainLemmas
-pub mod RowLemmas

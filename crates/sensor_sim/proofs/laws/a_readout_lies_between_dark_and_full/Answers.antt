@@ -1,5 +1,0 @@
-use Rattle.sensor_sim.proofs.RowLemmas.{readout-between}
-use Rattle.sensor_sim.proofs.laws.a_readout_lies_between_dark_and_full.Goals as goal
-
-pub returns : goal.returns
-returns c = λ s n k d h. readout-between s n k d h

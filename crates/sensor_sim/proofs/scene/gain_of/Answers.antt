@@ -1,5 +1,0 @@
-use Rattle.sensor_sim.proofs.GainLemmas.{gain-most}
-use Rattle.sensor_sim.proofs.scene.gain_of.Goals as goal
-
-pub returns-clause-most : goal.returns-clause-most
-returns-clause-most c = gain-most c.args.settings c.requires

@@ -1,7 +1,0 @@
-use Rattle.std.proofs.Common.{◌≡◌, take}
-use Rattle.service_choice.specs.Candidates.{candidates_by}
-use Rattle.service_choice.proofs.asking.candidates.Given as goal
-
--- the candidates below the number are listed
-abbrev pub invariant-loop-number : goal.invariant-loop-number
-invariant-loop-number l = l.steps.items ≡ take l.number (candidates_by l.state.script l.state.parts)

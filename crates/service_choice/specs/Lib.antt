@@ -1,5 +1,0 @@
-pub mod Kinds
-pub mod Candidates
-pub mod Finding
-pub mod Walks
-pub mod Looks

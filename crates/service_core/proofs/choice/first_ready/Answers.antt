@@ -1,0 +1,10 @@
+use Rattle.std.proofs.Common.{arith, sym}
+use Rattle.std.proofs.lemmas.Option.{slice_get_past}
+use Rattle.service_core.specs.Candidates.{ready_in}
+use Rattle.service_core.proofs.choice.first_ready.Goals as goal
+
+pub returns-in-Err : goal.returns-in-Err
+returns-in-Err c =
+    let s = c.args.state.now in
+    let past = c.in-Err.ensures in
+    sym (slice_get_past (ready_in s.script s.parts c.args.kind) 0 (omega (arith, past)))

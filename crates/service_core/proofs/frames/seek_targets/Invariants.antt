@@ -1,0 +1,11 @@
+use Rattle.std.proofs.Common.{drop, filter}
+use Rattle.service_core.specs.Candidates.{is_ready_by, target_steps}
+use Rattle.service_core.specs.Walks.{target_step}
+use Rattle.service_core.proofs.Walking.{Continues}
+use Rattle.service_core.proofs.frames.seek_targets.Given as goal
+
+abbrev pub invariant-loop-place : goal.invariant-loop-place
+invariant-loop-place l =
+    let q = is_ready_by l.state.script l.state.parts in
+    let rows = l.state.parts.rows in
+    Continues (filter q (target_steps (target_step l.kind) rows)) l.number (filter q (target_steps (target_step l.kind) (drop l.place rows))) l.left

@@ -1,5 +1,0 @@
-use Rattle.state_facts.proofs.Fits.{numbers_fit}
-use Rattle.state_facts.proofs.laws.numbers_fit_their_types.Goals as goal
-
-pub returns : goal.returns
-returns c = numbers_fit

@@ -1,0 +1,63 @@
+//! A command's word, the text of one, and the word of a text.
+
+ghost use Rattle.std.specs.Prelude.{◌≡◌, ◌≤◌, length};
+ghost use Rattle.text_parts.specs.CommandWords.{command_word, word_of, word_text};
+
+use cam_types::{Command, Word};
+
+/// The command that has this word.
+#[tactic(auto, unfolding(crate::specs::CommandWords::command_word))]
+pub fn command_word(text: &[u8]) -> Option<Word>
+    ensures { result ≡ command_word text.now }
+{
+    match text {
+        b"configure" => Some(Word::Configure),
+        b"once" => Some(Word::Once),
+        b"burst" => Some(Word::Burst),
+        b"repeat" => Some(Word::Repeat),
+        b"stop" => Some(Word::Stop),
+        b"wait" => Some(Word::Wait),
+        b"await" => Some(Word::Await),
+        b"flush" => Some(Word::Flush),
+        b"close" => Some(Word::Close),
+        b"disconnect" => Some(Word::Disconnect),
+        _ => None,
+    }
+}
+
+/// The text of a command's word, which has at most ten bytes.
+pub fn word_text(word: Word) -> &'static str
+    ensures text { result.now ≡ word_text word }
+    ensures long { length result.now ≤ 10 }
+{
+    match word {
+        Word::Configure => "configure",
+        Word::Once => "once",
+        Word::Burst => "burst",
+        Word::Repeat => "repeat",
+        Word::Stop => "stop",
+        Word::Wait => "wait",
+        Word::Await => "await",
+        Word::Flush => "flush",
+        Word::Close => "close",
+        Word::Disconnect => "disconnect",
+    }
+}
+
+/// The word of a command.
+pub fn word_of(command: &Command) -> Word
+    ensures { result ≡ word_of command.now }
+{
+    match command {
+        Command::Configure(_) => Word::Configure,
+        Command::Once(_) => Word::Once,
+        Command::Burst(_) => Word::Burst,
+        Command::Repeat(_) => Word::Repeat,
+        Command::Stop => Word::Stop,
+        Command::Wait => Word::Wait,
+        Command::Await(_) => Word::Await,
+        Command::Flush => Word::Flush,
+        Command::Close => Word::Close,
+        Command::Disconnect => Word::Disconnect,
+    }
+}

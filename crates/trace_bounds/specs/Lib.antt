@@ -1,4 +1,0 @@
-pub mod Bounds
-pub mod Typed
-pub mod Laws
-pub mod Worked

@@ -1,0 +1,11 @@
+pub mod Bounds
+pub mod Typed
+pub mod Laws
+pub mod Worked
+pub mod FrameLaws
+pub mod BufferLaws
+pub mod BufferWorked
+pub mod SendLaws
+pub mod Times
+pub mod Settled
+pub mod Good

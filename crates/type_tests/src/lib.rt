@@ -1,5 +1,0 @@
-//! Pictures have the worked digests.
-#![tactic(auto)]
-
-#[cfg(test)]
-mod pictures;

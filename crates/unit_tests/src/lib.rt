@@ -1,0 +1,10 @@
+//! What a flush makes of a frame by the stage at which it finds it, threads who take turns of which none is lost, and
+//! the digests of pictures.
+#![tactic(auto)]
+
+#[cfg(test)]
+mod flushes;
+#[cfg(test)]
+mod pictures;
+#[cfg(test)]
+mod tallies;

@@ -1,2 +1,0 @@
-mod Bad
-mod Texts

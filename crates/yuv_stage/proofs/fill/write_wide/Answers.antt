@@ -1,7 +1,0 @@
-use Rattle.std.proofs.Common.{arith}
-use Rattle.yuv_stage.proofs.PlaneLemmas.{picture-160}
-use Rattle.yuv_stage.proofs.fill.write_wide.Goals as goal
-
-pub returns : goal.returns
-returns c =
-    picture-160 c.args.values.now c.write_band.new.luma c.write_band.new.blue c.write_band.new.red (omega arith) (omega arith) (omega arith) c.write_band.ensures.luma c.write_band.ensures.blue c.write_band.ensures.red

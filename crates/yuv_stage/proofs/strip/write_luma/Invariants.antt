@@ -1,7 +1,0 @@
-use Rattle.std.proofs.Common.{◌≡◌, ℕ, ◌<◌, slice_index}
-use Rattle.cam_types.specs.Picture.{luma}
-use Rattle.yuv_stage.specs.Cells.{at_place}
-use Rattle.yuv_stage.proofs.strip.write_luma.Given as goal
-
-abbrev pub invariant-loop-i : goal.invariant-loop-i
-invariant-loop-i l = (k : ℕ) → k < l.i → slice_index l.bytes k ≡ at_place luma l.colours k
