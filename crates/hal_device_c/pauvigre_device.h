@@ -33,7 +33,7 @@ extern "C" {
 /* A configuration has at most so many streams; they are numbered from 0 on, in order. */
 #define PAUVIGRE_STREAMS 4
 
-/* A frame has so many metadata results, numbered 1, 2, 3. */
+/* A frame has so many partial results, numbered 1, 2, 3. */
 #define PAUVIGRE_PARTS 3
 
 /* A device, or none. Zeroed by its owner before the first call: struct pauvigre_device device = {0}; */
@@ -54,7 +54,7 @@ struct pauvigre_profile {
 /* A fault that the device shall have. */
 enum {
     PAUVIGRE_FAULT_REQUEST = 1, /* the capture of the frame fails whole */
-    PAUVIGRE_FAULT_RESULT = 2,  /* the frame lacks its last metadata result */
+    PAUVIGRE_FAULT_RESULT = 2,  /* the frame lacks its last partial result */
     PAUVIGRE_FAULT_BUFFER = 3,  /* the frame's buffer for the stream can't be filled */
     PAUVIGRE_FAULT_DEVICE = 4   /* the device fails where the frame would have its shutter */
 };
@@ -172,7 +172,7 @@ int32_t pauvigre_row_at(struct pauvigre_device *device, uint32_t place, struct p
 /* Begins the next exposure at this time, in nanoseconds, and exposes the frame: its shutter is to be notified. */
 int32_t pauvigre_expose(struct pauvigre_device *device, uint64_t time, uint32_t *frame);
 
-/* A metadata result, numbered 1 to 3: what it says beside its number depends on that, the rest is 0. */
+/* A partial result, numbered 1 to 3: what it says beside its number depends on that, the rest is 0. */
 struct pauvigre_part {
     uint64_t exposure;  /* 2: in nanoseconds */
     uint64_t timestamp; /* 3: the time of the shutter, in nanoseconds */
@@ -182,7 +182,7 @@ struct pauvigre_part {
     uint8_t pattern;    /* 1 */
 };
 
-/* Gives the next metadata result of a frame. */
+/* Gives the next partial result of a frame. */
 int32_t pauvigre_send_part(struct pauvigre_device *device, uint32_t frame, struct pauvigre_part *part);
 
 /* Draws the picture of a target, whose acquire fence was waited for, into memory of the device's own. */

@@ -7,7 +7,7 @@ use Rattle.std.proofs.lemmas.Bool.Decides.{nat_tests}
 use Rattle.basic_lemmas.proofs.Lists.{found-any}
 use Rattle.cam_types.specs.Four.{four_list}
 use Rattle.cam_types.specs.declared.four.Four.{Four}
-use Rattle.cam_types.specs.declared.number.FenceNo.{FenceNo}
+use Rattle.cam_types.specs.declared.number.DeviceFenceNo.{DeviceFenceNo}
 use Rattle.cam_types.specs.declared.number.FrameNo.{FrameNo}
 use Rattle.cam_types.specs.declared.number.RequestId.{RequestId}
 use Rattle.cam_types.specs.declared.request.Queued.{Queued}
@@ -268,7 +268,7 @@ of-signal script past f e due =
     in-signals script past e
     (of-one e (λ g. shown (signal_due past g)) (range_with_len 0 (next_fence past)) f (in-first f (next_fence past) low) (of-due e _ due))
 
-of-late : (script : Script) (past : List Entry) (d : FenceNo) (digest : List ℕ) → IsLegal script past → late_due script past d.0 ≡ Some (Late d digest) → TellsOf (Late d digest) (allowed_entries script past)
+of-late : (script : Script) (past : List Entry) (d : DeviceFenceNo) (digest : List ℕ) → IsLegal script past → late_due script past d.0 ≡ Some (Late d digest) → TellsOf (Late d digest) (allowed_entries script past)
 unfolding of_lates
 of-late script past d digest legal due =
     let low = late-low script past d digest legal due in

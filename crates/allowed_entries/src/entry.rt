@@ -2,7 +2,7 @@
 ghost use Rattle.std.specs.Prelude.{◌≡◌};
 ghost use Rattle.allowed_entries.specs.Known.{known_of};
 
-use cam_types::{BufferId, FenceNo, FrameNo, RequestId, StreamIx};
+use cam_types::{BufferId, DeviceFenceNo, FrameNo, RequestId, StreamIx};
 use trace_model::Entry;
 
 /// An entry that is allowed, as far as the past determines it, without what nobody can be asked to read.
@@ -25,7 +25,7 @@ pub enum AllowedEntry {
     },
     /// The signal of a device fence, without the digest.
     Late {
-        fence: FenceNo,
+        fence: DeviceFenceNo,
     },
 }
 

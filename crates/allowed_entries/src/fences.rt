@@ -5,7 +5,7 @@ ghost use Rattle.allowed_entries.specs.Readings.{lates_in, signals_in};
 use crate::entry::AllowedEntry;
 use crate::list::{add, add_due};
 use crate::pictures::late_due;
-use cam_types::{FenceNo, NoMemory};
+use cam_types::{DeviceFenceNo, FenceNo, NoMemory};
 use judge_rows::JudgeTables;
 
 /// Adds the signals that are due of the first so many fences.
@@ -31,7 +31,7 @@ pub(crate) fn add_lates(
     ensures { OnOk result (list.new.items ≡ list.old.items ++ lates_in tables.now.state count) }
 {
     for number in 0..count {
-        add(list, late_due(tables, FenceNo(number)))?;
+        add(list, late_due(tables, DeviceFenceNo(number)))?;
     }
     Ok(())
 }

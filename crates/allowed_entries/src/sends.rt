@@ -10,8 +10,9 @@ ghost use Rattle.allowed_entries.specs.Known.{shown};
 
 use crate::entry::AllowedEntry;
 use cam_types::{Made, Queued, STREAM_LIMIT, Script, StreamIx, Targets};
+use judge_calls::mark::are_last;
 use judge_calls::stream::asks_for;
-use judge_due::send::{are_last, may_go};
+use judge_due::send::may_go;
 use judge_rows::{Home, JudgeTables};
 
 /// The number past the last stream that an item can ask for.

@@ -1,4 +1,3 @@
 pub mod Valid
 pub mod Scripts
-pub mod Telling
 pub mod LogTexts

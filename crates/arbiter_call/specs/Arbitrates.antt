@@ -1,20 +1,19 @@
 -- What `arbiter` answers and writes. (docs/FORMATS.md, several clients)
-use Rattle.std.specs.Prelude.{◌≡◌, ℕ, List, [], ◌∷◌, ◌++◌, Option, Some, None, Result, Ok}
+use Rattle.std.specs.Prelude.{◌≡◌, ℕ, List, [], ◌∷◌, ◌++◌, Option, Some, None, Ok}
 use Rattle.io_edge.specs.States.{SinkState, Writes}
 use Rattle.cam_types.specs.declared.script.Script.{Script}
 use Rattle.camera_arbiter.specs.Answers.{log_of}
 use Rattle.camera_arbiter.specs.Laws.{IsOver, KeepsLaws}
 use Rattle.camera_arbiter.specs.declared.answer.LogLine.{LogLine}
-use Rattle.arbiter_call.specs.Grammar.{arbiter_text_of}
+use Rattle.arbiter_call.specs.Grammar.{arbiter, arbiter_text_of}
 use Rattle.arbiter_call.specs.Scripts.{script_behind}
-use Rattle.arbiter_call.specs.Spelling.{first_line, last_line, line_of, refused_text}
+use Rattle.arbiter_call.specs.Spelling.{first_line, last_line, line_of}
 use Rattle.arbiter_call.specs.declared.text.ArbiterText.{ArbiterText}
-use Rattle.text_parts.specs.declared.cause.TextRefused.{TextRefused}
 use Rattle.run_model.specs.Lawful as run_laws
 use Rattle.run_model.specs.History.{trace_of}
 use Rattle.run_model.specs.Played.{IsPlayedRun}
 use Rattle.run_model.specs.declared.step.Move.{Move}
-use Rattle.call_parts.specs.Meanings.{OfMeaning}
+use Rattle.call_parts.specs.Reading.{OfText}
 use Rattle.call_parts.specs.Texts.{text_in}
 use Rattle.call_parts.specs.declared.output.Output.TheVariants.{Summary}
 
@@ -58,13 +57,9 @@ pub record IsArbitratedText (text : ArbiterText) (told : List ℕ) : Type 0 wher
   pub laws : KeepsLaws (log_of text.cameras text.lines)
   pub over : IsOver (log_of text.cameras text.lines)
 
--- the status and the whole text that belong to what a text means
-abbrev pub ArbitratesText : Result ArbiterText TextRefused → ℕ → List ℕ → Type 0
-ArbitratesText meaning status told =
-    OfMeaning refused_text (λ text number said. (number ≡ 0) × IsArbitratedText text said) meaning status told
-
+-- the status and the whole text that belong to an input
 abbrev pub Arbitrates : List ℕ → ℕ → List ℕ → Type 0
-Arbitrates input status told = ArbitratesText (arbiter_text_of input) status told
+Arbitrates input status told = OfText arbiter IsArbitratedText input status told
 
 -- the input says what clients ask of cameras, and what was written is the whole text of their log
 pub record IsArbitrated (input : List ℕ) (before after : SinkState) : Type 0 where

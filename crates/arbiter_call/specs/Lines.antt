@@ -1,29 +1,21 @@
 -- What a line means by its words. (docs/FORMATS.md, several clients)
-use Rattle.std.specs.Prelude.{ℕ, ◌-◌, Bool, false, ◌&&◌, List, [], ◌∷◌, Result, Ok, Err, if◌then◌else◌, codes, bytes_eq}
+use Rattle.std.specs.Prelude.{ℕ, ◌-◌, List, [], ◌∷◌, Result, Ok, Err, if◌then◌else◌, codes, bytes_eq}
 use Rattle.text_parts.specs.declared.cause.Cause.{Cause}
 use Rattle.text_parts.specs.declared.cause.Cause.TheVariants.{UnknownWord, Missing}
 use Rattle.text_parts.specs.LineWords.{◌>>=◌, good, one}
 use Rattle.text_parts.specs.Numbers.{number_within}
+use Rattle.call_parts.specs.Reading.{named_number, two_numbers}
 use Rattle.camera_arbiter.specs.declared.line.ArbiterLine.{ArbiterLine}
 use Rattle.camera_arbiter.specs.declared.line.ArbiterLine.TheVariants.{Connect, Leave}
 use Rattle.camera_arbiter.specs.declared.session.Session.{Session}
 
--- `arbiter 1`
-abbrev pub is_version : List (List ℕ) → Bool
-is_version (first ∷ second ∷ []) = bytes_eq first (codes "arbiter") && bytes_eq second (codes "1")
-is_version _ = false
-
 -- `cameras C`: 1 to 4
 abbrev pub cameras_line : List ℕ → List (List ℕ) → Result ℕ Cause
-cameras_line word words = if bytes_eq word (codes "cameras") then one (number_within 1 4) words else Err UnknownWord
+cameras_line = named_number (codes "cameras") 1 4
 
 -- `P N`: a priority up to 1000, and 1 to 100 frames
-unfoldable pub priority_and_shots : List (List ℕ) → Result (ℕ × ℕ) Cause
-priority_and_shots [] = Err Missing
-priority_and_shots (priority ∷ words) = do
-  p ← good (number_within 0 1000 priority)
-  n ← one (number_within 1 100) words
-  Ok (p, n)
+abbrev pub priority_and_shots : List (List ℕ) → Result (ℕ × ℕ) Cause
+priority_and_shots = two_numbers 1000 100
 
 -- `C P N`, of a client: one of the cameras
 unfoldable pub camera_of : ℕ → ℕ → List (List ℕ) → Result Session Cause

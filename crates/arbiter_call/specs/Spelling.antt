@@ -1,7 +1,5 @@
--- How the lines of a log are spelled, and the line that refuses a text. (docs/FORMATS.md, several clients)
-use Rattle.std.specs.Prelude.{ℕ, List, [], ◌∷◌, codes, decimal}
-use Rattle.text_parts.specs.Causes.{number_of}
-use Rattle.text_parts.specs.declared.cause.Cause.{Cause}
+-- How the lines of a log are spelled. (docs/FORMATS.md, several clients)
+use Rattle.std.specs.Prelude.{List, ℕ, [], ◌∷◌, codes, decimal}
 use Rattle.text_parts.specs.Lines.{line_text}
 use Rattle.camera_arbiter.specs.Answers.{code_of}
 use Rattle.camera_arbiter.specs.declared.answer.LogLine.{LogLine}
@@ -36,8 +34,3 @@ first_line = line_text (codes "arbiter" ∷ codes "1" ∷ [])
 
 abbrev pub last_line : List ℕ
 last_line = line_text (codes "end" ∷ [])
-
--- `refused arbiter LINE CAUSE`
-abbrev pub refused_text : ℕ → Cause → List ℕ
-refused_text line cause =
-    line_text (codes "refused" ∷ codes "arbiter" ∷ decimal line ∷ decimal (number_of cause) ∷ [])

@@ -3,7 +3,7 @@ use Rattle.std.specs.Prelude.{ℕ, Bool, true, ◌&&◌, length, nat_le}
 use Rattle.std.specs.List.{list_all}
 use Rattle.camera_arbiter.specs.Ranges.{is_count, is_line}
 use Rattle.arbiter_call.specs.declared.draft.Stage.{Stage}
-use Rattle.arbiter_call.specs.declared.draft.Stage.TheVariants.{Empty, Named, Whole}
+use Rattle.arbiter_call.specs.declared.draft.Stage.TheVariants.{Named, Whole}
 use Rattle.arbiter_call.specs.declared.text.ArbiterText.{ArbiterText}
 
 -- the most lines behind the cameras
@@ -16,6 +16,5 @@ is_valid text =
 
 -- what may stand after some lines
 abbrev pub may_stand : Stage → Bool
-may_stand Empty = true
 may_stand Named = true
 may_stand (Whole text) = is_valid text

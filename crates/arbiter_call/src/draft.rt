@@ -7,8 +7,6 @@ use crate::text::ArbiterText;
 /// What stands after some lines.
 #[derive(Drop)]
 pub enum Stage {
-    /// Nothing that counts.
-    Empty,
     /// The version.
     Named,
     /// The cameras too, and any lines.

@@ -22,7 +22,7 @@ fn tell_session(alloc: Global, text: &mut TextSink, script: Script) -> Result<()
     a_complete_run_keeps_the_laws();
     let prepared = prepare(alloc, script)?;
     let status = play_prepared(prepared, Output::Summary, text);
-    if status == Status::DONE {
+    if status == Status::Done {
         Ok(())
     } else {
         // The text in memory fails only for want of it.

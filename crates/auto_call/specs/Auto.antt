@@ -1,10 +1,8 @@
 -- What `auto` answers and writes. (docs/FORMATS.md, automatic exposure)
-use Rattle.std.specs.Prelude.{◌≡◌, ℕ, List, ◌++◌, Result, Ok}
+use Rattle.std.specs.Prelude.{◌≡◌, ℕ, List, ◌++◌, Ok}
 use Rattle.io_edge.specs.States.{SinkState, Writes}
 use Rattle.cam_types.specs.declared.script.Script.{Script}
-use Rattle.auto_call.specs.Grammar.{auto_text_of}
-use Rattle.auto_call.specs.Spelling.{refused_text}
-use Rattle.text_parts.specs.declared.cause.TextRefused.{TextRefused}
+use Rattle.auto_call.specs.Grammar.{auto_text, auto_text_of}
 use Rattle.auto_call.specs.declared.text.AutoText.{AutoText}
 use Rattle.auto_call.specs.OutputLines.{front_of}
 use Rattle.auto_call.specs.Output.{lines_of, script_of, shots_of}
@@ -12,7 +10,7 @@ use Rattle.run_model.specs.Lawful.{KeepsLaws}
 use Rattle.run_model.specs.History.{trace_of}
 use Rattle.run_model.specs.Played.{IsPlayedRun}
 use Rattle.run_model.specs.declared.step.Move.{Move}
-use Rattle.call_parts.specs.Meanings.{OfMeaning}
+use Rattle.call_parts.specs.Reading.{OfText}
 use Rattle.call_parts.specs.Texts.{text_in}
 use Rattle.call_parts.specs.declared.output.Output.TheVariants.{Trace}
 
@@ -30,13 +28,9 @@ pub record IsCapturedText (text : AutoText) (told : List ℕ) : Type 0 where
   pub run : IsPlayedRun (frames_script text) history
   pub shown : told ≡ captured_in text history
 
--- the status and the whole text that belong to what a text means
-abbrev pub CapturesText : Result AutoText TextRefused → ℕ → List ℕ → Type 0
-CapturesText meaning status told =
-    OfMeaning refused_text (λ text number said. (number ≡ 0) × IsCapturedText text said) meaning status told
-
+-- the status and the whole text that belong to an input
 abbrev pub Captures : List ℕ → ℕ → List ℕ → Type 0
-Captures input status told = CapturesText (auto_text_of input) status told
+Captures input status told = OfText auto_text IsCapturedText input status told
 
 -- the input asks for scenes, and what was written is the lines of their frames, found by the least exposures alone, and
 -- the trace of the frames' played run, which is complete and keeps the laws

@@ -1,19 +1,15 @@
 -- What a text means as scenes: a function of the whole text. (docs/FORMATS.md, automatic exposure)
-use Rattle.std.specs.Prelude.{ℕ, ◌+◌, List, [], ◌∷◌, ◌++◌, length, nat_lt, Result, Ok, Err, if◌then◌else◌}
-use Rattle.std.specs.List.{list_all}
+use Rattle.std.specs.Prelude.{ℕ, ◌+◌, List, [], ◌∷◌, ◌++◌, nat_lt, Option, Some, None, Result, Ok, Err, codes, if◌then◌else◌}
 use Rattle.text_parts.specs.declared.cause.Cause.{Cause}
-use Rattle.text_parts.specs.declared.cause.Cause.TheVariants.{NotAscii, Version, Missing, Limit}
-use Rattle.text_parts.specs.LineReading.{at_line, is_comment, is_printable, text_limit}
-use Rattle.text_parts.specs.LineWords.{◌>>=◌}
-use Rattle.text_parts.specs.Lines.{lines_of}
-use Rattle.text_parts.specs.Words.{loose_words}
-use Rattle.auto_call.specs.declared.stage.Stage.{Stage}
-use Rattle.auto_call.specs.declared.stage.Stage.TheVariants.{Empty, Named, Aimed, Whole}
+use Rattle.text_parts.specs.declared.cause.Cause.TheVariants.{Limit}
 use Rattle.text_parts.specs.declared.cause.TextRefused.{TextRefused}
-use Rattle.text_parts.specs.declared.cause.TextRefused.TheVariants.{Bad}
+use Rattle.text_parts.specs.LineWords.{◌>>=◌}
+use Rattle.call_parts.specs.Reading.{Grammar, text_of}
+use Rattle.auto_call.specs.declared.stage.Stage.{Stage}
+use Rattle.auto_call.specs.declared.stage.Stage.TheVariants.{Named, Aimed, Whole}
 use Rattle.auto_call.specs.declared.text.AutoText.{AutoText}
 use Rattle.auto_call.specs.declared.text.Scene.{Scene}
-use Rattle.auto_call.specs.Lines.{is_version, target_line, iso_line, scene_line}
+use Rattle.auto_call.specs.Lines.{target_line, iso_line, scene_line}
 use Rattle.auto_call.specs.Valid.{frame_limit, frames_of}
 
 -- a text with one more scene
@@ -22,36 +18,22 @@ added text scene =
     if nat_lt frame_limit (frames_of text.scenes + scene.frames) then Err Limit
     else Ok (Whole (record text { scenes = text.scenes ++ scene ∷ [] }))
 
--- What stands after a line that isn't ignored, by its first word and the words behind it: the version, the target, the
+-- What stands after one more line behind the version line, by its first word and the words behind it: the target, the
 -- sensitivity, and then scenes.
-unfoldable pub after_words : Stage → List ℕ → List (List ℕ) → Result Stage Cause
-after_words Empty word words = if is_version (word ∷ words) then Ok Named else Err Version
-after_words Named word words = target_line word words >>= λ target. Ok (Aimed target)
-after_words (Aimed target) word words =
+unfoldable pub with_line : Stage → List ℕ → List (List ℕ) → Result Stage Cause
+with_line Named word words = target_line word words >>= λ target. Ok (Aimed target)
+with_line (Aimed target) word words =
     iso_line word words >>= λ iso. Ok (Whole (record { target = target; iso = iso; scenes = [] }))
-after_words (Whole text) word words = scene_line word words >>= added text
+with_line (Whole text) word words = scene_line word words >>= added text
 
--- a line of spaces alone, and a comment, are ignored
-abbrev pub after_line : Stage → List (List ℕ) → Result Stage Cause
-after_line before [] = Ok before
-after_line before (word ∷ words) = if is_comment word then Ok before else after_words before word words
+-- a text has its target and its sensitivity
+abbrev pub meant : Stage → Option AutoText
+meant (Whole text) = Some text
+meant _ = None
 
--- What stands after a line. The causes of one line are tried in the order of their numbers.
-unfoldable pub after : Stage → List ℕ → Result Stage Cause
-after before line = if list_all is_printable line then after_line before (loose_words line) else Err NotAscii
-
--- what stands at the end of a text, of which n is the number that a next line would have
-abbrev pub at_end : ℕ → Stage → Result AutoText TextRefused
-at_end n (Whole text) = Ok text
-at_end n Empty = Err (Bad n Version)
-at_end n _ = Err (Bad n Missing)
-
--- the lines from number n on, after what stands before them
-unfoldable pub auto_text_from : Stage → ℕ → List (List ℕ) → Result AutoText TextRefused
-auto_text_from before n [] = at_end n before
-auto_text_from before n (line ∷ lines) = at_line n (after before line) (λ next. auto_text_from next (n + 1) lines)
+abbrev pub auto_text : Grammar Stage AutoText
+auto_text = record { name = codes "auto"; begun = Named; with_line = with_line; meant = meant }
 
 -- what a text asks for, or the first line that has a cause, with the first of its causes
-unfoldable pub auto_text_of : List ℕ → Result AutoText TextRefused
-auto_text_of text =
-    if nat_lt text_limit (length text) then Err (Bad 0 Limit) else auto_text_from Empty 1 (lines_of text)
+abbrev pub auto_text_of : List ℕ → Result AutoText TextRefused
+auto_text_of text = text_of auto_text text

@@ -1,7 +1,6 @@
 pub mod Lines
 pub mod Valid
 pub mod Grammar
-pub mod Spelling
 pub mod Brightness
 pub mod Search
 pub mod Scene

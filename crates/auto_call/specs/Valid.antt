@@ -2,7 +2,7 @@
 use Rattle.std.specs.Prelude.{ℕ, Bool, true, ◌&&◌, List, nat_le, sum_by}
 use Rattle.std.specs.List.{list_all}
 use Rattle.auto_call.specs.declared.stage.Stage.{Stage}
-use Rattle.auto_call.specs.declared.stage.Stage.TheVariants.{Empty, Named, Aimed, Whole}
+use Rattle.auto_call.specs.declared.stage.Stage.TheVariants.{Named, Aimed, Whole}
 use Rattle.auto_call.specs.declared.text.AutoText.{AutoText}
 use Rattle.auto_call.specs.declared.text.Scene.{Scene}
 
@@ -34,7 +34,6 @@ is_valid text =
 
 -- what may stand after some lines
 abbrev pub may_stand : Stage → Bool
-may_stand Empty = true
 may_stand Named = true
 may_stand (Aimed target) = is_target target
 may_stand (Whole text) = is_valid text

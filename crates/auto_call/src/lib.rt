@@ -9,7 +9,6 @@ mod laws;
 mod line;
 mod output_line;
 mod reading;
-mod refusal;
 mod run;
 mod script;
 mod search;
@@ -25,7 +24,6 @@ pub use laws::{
 };
 pub use output_line::{AutoLine, LineList, LinePrinter};
 pub use reading::read;
-pub use refusal::refused_text;
 pub use run::{Drawn, draw_up};
 pub use search::Ae;
 pub use state::AeState;

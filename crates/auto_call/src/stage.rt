@@ -4,8 +4,6 @@ use crate::text::AutoText;
 /// What stands after some lines.
 #[derive(Drop)]
 pub enum Stage {
-    /// Nothing that counts.
-    Empty,
     /// The version.
     Named,
     /// The version and the target.

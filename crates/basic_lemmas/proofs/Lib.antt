@@ -3,3 +3,4 @@ pub mod Lists
 pub mod Counts
 pub mod Ranges
 pub mod Options
+pub mod Shared

@@ -10,6 +10,7 @@ use Rattle.std.proofs.lemmas.Option.{slice_get-get_or}
 use Rattle.cam_types.specs.Picture.{is_offered, is_size_of}
 use Rattle.cam_types.specs.Profile.{is_profile, pool_size}
 use Rattle.cam_types.specs.Refusals.{at_place, is_raw, is_yuv, or_else, refused, specs_refusal, where_true}
+use Rattle.cam_types.specs.declared.number.DeviceFenceNo.{DeviceFenceNo}
 use Rattle.cam_types.specs.declared.number.FenceNo.{FenceNo}
 use Rattle.cam_types.specs.declared.profile.Profile.{Profile}
 use Rattle.cam_types.specs.declared.reply.Made.{Made}
@@ -151,4 +152,4 @@ opened-more specs spec m =
     let one : Made = record { first = record { 0 = m.first + count_in (made_for m.profile m.first specs) }; count = pool_size m.profile spec.format } in
     let more = made-more m.profile m.first specs spec in
     let count : count_in (made_for m.profile m.first (specs ++ spec ∷ [])) ≡ count_in (made_for m.profile m.first specs) + pool_size m.profile spec.format = ap (λ (x : List Made). count_in x) more ∙ count-push (made_for m.profile m.first specs) (record { first = record { 0 = m.first + count_in (made_for m.profile m.first specs) }; count = pool_size m.profile spec.format }) in
-    rw (count, more, length-replicate (count_in (made_for m.profile m.first specs)) Pool, replicate-append-replicate (count_in (made_for m.profile m.first specs)) (pool_size m.profile spec.format) Pool, replicate-append-replicate {A = Option FenceNo} (count_in (made_for m.profile m.first specs)) (pool_size m.profile spec.format) None, replicate-append-replicate {A = Option (List ℕ)} (count_in (made_for m.profile m.first specs)) (pool_size m.profile spec.format) None) refl
+    rw (count, more, length-replicate (count_in (made_for m.profile m.first specs)) Pool, replicate-append-replicate (count_in (made_for m.profile m.first specs)) (pool_size m.profile spec.format) Pool, replicate-append-replicate {A = Option FenceNo} (count_in (made_for m.profile m.first specs)) (pool_size m.profile spec.format) None, replicate-append-replicate {A = Option DeviceFenceNo} (count_in (made_for m.profile m.first specs)) (pool_size m.profile spec.format) None, replicate-append-replicate {A = Option (List ℕ)} (count_in (made_for m.profile m.first specs)) (pool_size m.profile spec.format) None) refl

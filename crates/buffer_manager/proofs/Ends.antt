@@ -10,7 +10,7 @@ use Rattle.buffer_pool.specs.declared.parked.Parked.{Parked}
 use Rattle.trace_model.specs.Place.{Place, Pool, is_at}
 use Rattle.buffer_manager.specs.Resting.{Resting, listed, resting}
 use Rattle.buffer_manager.specs.declared.slot.Slot.{Slot}
-use Rattle.buffer_manager.specs.declared.slot.Slot.TheVariants.{Home, Away, Filled, Early, Late}
+use Rattle.buffer_manager.specs.declared.slot.Slot.TheVariants.{Away, Early, Late}
 use Rattle.buffer_manager.specs.declared.stream.Stream.{Stream}
 use Rattle.buffer_manager.specs.Kept.{AreKept, IsStocked}
 use Rattle.buffer_manager.specs.Managed.{is_given}
@@ -19,21 +19,7 @@ use Rattle.buffer_manager.specs.Streams.{waits_for_made}
 use Rattle.buffer_manager.proofs.Pictures.{early-parts, late-parts}
 use Rattle.buffer_manager.proofs.Pools.{fence_in_slots, place_in_slots}
 
--- the last of values that pass a test, and the others
-pub all-last : {X : Type 0} (p : X → Bool) (xs ys : List X) (x : X) → xs ≡ ys ++ x ∷ [] → list_all p xs ≡ true → (p x ≡ true) × (list_all p ys ≡ true)
-all-last {X} p xs ys x is h = go ys (rw is at h)
-  where
-    go : (zs : List X) → list_all p (zs ++ x ∷ []) ≡ true → (p x ≡ true) × (list_all p zs ≡ true)
-    go [] k = ((and_parts (p x) true k).0, refl)
-    go (z ∷ zs) k =
-        let parts = and_parts (p z) (list_all p (zs ++ x ∷ [])) k in
-        let rest = go zs parts.1 in
-        (rest.0, rw parts.0 rest.1)
-
 made-slot : (late : List Bool) (v : Slot) → is_timely late v ≡ true → is_made_slot (length late) v ≡ true
-made-slot late (Home fence) h = refl
-made-slot late Away h = refl
-made-slot late (Filled pixels) h = refl
 made-slot late (Early s w) h =
     let parts = early-parts late s w h in
     let same = parts.0 in
@@ -42,6 +28,7 @@ made-slot late (Early s w) h =
     let two : nat_lt w (length late) ≡ true = grind (arith, nat_tests, less) in
     rw (one, two) refl
 made-slot late (Late p w) h = (let less = (late-parts late p w h).0 in grind (arith, nat_tests, less))
+made-slot late _ h = refl
 
 pub made-slots : (late : List Bool) (slots : List Slot) → ((i : ℕ) → is_timely late (slice_index_or slots i Away) ≡ true) → list_all (is_made_slot (length late)) slots ≡ true
 made-slots late [] h = refl

@@ -7,6 +7,7 @@ pub mod Pictures
 pub mod Owners
 pub mod Takes
 pub mod Targets
+pub mod Spent
 pub mod Ends
 pub mod Closes
 pub mod Opens

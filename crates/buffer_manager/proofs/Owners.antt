@@ -1,6 +1,6 @@
 -- The stream to which a buffer belongs, and a buffer that comes home to it.
 use Rattle.std.proofs.Common.{◌≡◌, ℕ, suc, ◌+◌, ◌-◌, ◌<◌, ◌≤◌, ◌==◌, Bool, true, false, nat_le, nat_lt, List, [], ◌∷◌, ◌++◌, Option, Some, None, refl, sym, ◌∙◌, ap, subst, arith, length, inl, inr}
-use Rattle.std.specs.Prelude.{filter, find, is_some, slice_get, slice_set, if◌then◌else◌}
+use Rattle.std.specs.Prelude.{◌^◌, IfSome, filter, find, is_some, slice_get, slice_set, if◌then◌else◌}
 use Rattle.std.specs.List.{position_from, range_with_len}
 use Rattle.std.proofs.lemmas.Bool.{and_parts, cases_Bool, eqb-true}
 use Rattle.std.proofs.lemmas.Bool.Decides.{nat_tests}
@@ -119,7 +119,7 @@ away-more homes a n =
 
 -- ---- what is read of a stream
 
-pub made-within : (end n : ℕ) (streams : List Stream) (k : ℕ) (made : Made) → follow end n streams ≡ true → option_map (λ (s : Stream). s.made) (slice_get streams k) ≡ Some made → made.first.0 + made.count ≤ end
+made-within : (end n : ℕ) (streams : List Stream) (k : ℕ) (made : Made) → follow end n streams ≡ true → option_map (λ (s : Stream). s.made) (slice_get streams k) ≡ Some made → made.first.0 + made.count ≤ end
 made-within end n streams k made turn is = go (slice_get streams k) refl is
   where
     go : (o : Option Stream) → slice_get streams k ≡ o → option_map (λ (s : Stream). s.made) o ≡ Some made → made.first.0 + made.count ≤ end
@@ -127,6 +127,13 @@ made-within end n streams k made turn is = go (slice_get streams k) refl is
         let same : s.made ≡ made = cc in
         subst (λ (x : Made). x.first.0 + x.count ≤ end) same (within-turn end n streams k s turn at).1
     go None at h = absurd (cc)
+
+-- the numbers of a stream's buffers fit
+pub made-fits : (end n : ℕ) (streams : List Stream) (k : ℕ) (o : Option Made) → follow end n streams ≡ true → end < 2 ^ 32 → o ≡ option_map (λ (s : Stream). s.made) (slice_get streams k) → IfSome o (λ made. made.first.0 + made.count ≤ 2 ^ 32)
+made-fits end n streams k (Some made) turn fits is =
+    let high = made-within end n streams k made turn (sym is) in
+    omega (arith, high)
+made-fits end n streams k None turn fits is = tt
 
 pub counted-device : (homes : Homes) (s : ℕ) (made : Made) → slice_get homes.made s ≡ Some made → away_count homes made.first.0 made.count ≡ at_device_in homes s
 counted-device homes s made at = rw at refl

@@ -5,7 +5,7 @@ use Rattle.std.proofs.lemmas.Bool.{and_parts, cases_Bool, cases_eq, eqb-true, fa
 use Rattle.std.proofs.lemmas.Bool.Decides.{nat_tests}
 use Rattle.std.proofs.lemmas.List.{get_or-map, get_or-set_other, get_or-set_same, get_or_append_left, get_or_push, length-set, length_push}
 use Rattle.cam_types.specs.Shown.{Shown}
-use Rattle.cam_types.specs.declared.number.FenceNo.{FenceNo}
+use Rattle.cam_types.specs.declared.number.DeviceFenceNo.{DeviceFenceNo}
 use Rattle.cam_types.specs.declared.stream.StreamSpec.{StreamSpec}
 use Rattle.trace_model.specs.Place.{Client, is_at}
 use Rattle.state_facts.specs.Homes.{Homes, held_in, late_in, place_in, there_in}
@@ -37,42 +37,34 @@ late-parts late p w h =
     (grind (arith, nat_tests, parts.0), parts.1)
 
 -- the slot of a buffer whose picture isn't there
-pub early-is : (late : List Bool) (v : Slot) (d : FenceNo) → is_timely late v ≡ true → held_of v ≡ Some d → slice_index_or late d.0 false ≡ false → v ≡ Early d.0 d.0
-early-is late (Home fence) d fits held open' = absurd (cc)
-early-is late Away d fits held open' = absurd (cc)
-early-is late (Filled pixels) d fits held open' = absurd (cc)
+pub early-is : (late : List Bool) (v : Slot) (d : DeviceFenceNo) → is_timely late v ≡ true → held_of v ≡ Some d → slice_index_or late d.0 false ≡ false → v ≡ Early d.0 d.0
 early-is late (Early s w) d fits held open' =
     let parts = early-parts late s w fits in
     let is : record { 0 = w } ≡ d = cc in
-    let same : w ≡ d.0 = ap (λ (x : FenceNo). x.0) is in
+    let same : w ≡ d.0 = ap (λ (x : DeviceFenceNo). x.0) is in
     rw (parts.0, same) refl
 early-is late (Late p w) d fits held open' =
     let parts = late-parts late p w fits in
     let is : record { 0 = w } ≡ d = cc in
-    let same : w ≡ d.0 = ap (λ (x : FenceNo). x.0) is in
+    let same : w ≡ d.0 = ap (λ (x : DeviceFenceNo). x.0) is in
     absurd (false≢true (sym open' ∙ (ap (λ x. slice_index_or late x false) (sym same) ∙ parts.1)))
+early-is late _ d fits held open' = absurd (cc)
 
 pub held-at : (slots : List Slot) (i : ℕ) → i < length slots → slice_index_or (map held_of slots) i None ≡ held_of (slice_index_or slots i Away)
 held-at slots i within = get_or-map held_of slots i Away None within
 
 -- a fence that is awaited was made
 awaited-made : (late : List Bool) (v : Slot) (d : ℕ) → is_timely late v ≡ true → awaited_of v ≡ Some d → d < length late
-awaited-made late (Home fence) d fits h = absurd (cc)
-awaited-made late Away d fits h = absurd (cc)
-awaited-made late (Filled pixels) d fits h = absurd (cc)
 awaited-made late (Early s w) d fits h =
     let parts = early-parts late s w fits in
     let same : s ≡ d = cc in
     let at = parts.0 in
     let less = parts.1 in
     omega (arith, same, at, less)
-awaited-made late (Late p w) d fits h = absurd (cc)
+awaited-made late _ d fits h = absurd (cc)
 
 -- one more fence changes nothing of the others
 timely-more : (late : List Bool) (v : Slot) → is_timely late v ≡ true → is_timely (late ++ false ∷ []) v ≡ true
-timely-more late (Home fence) h = refl
-timely-more late Away h = refl
-timely-more late (Filled pixels) h = refl
 timely-more late (Early s w) h =
     let parts = early-parts late s w h in
     let less = parts.1 in
@@ -85,6 +77,7 @@ timely-more late (Late p w) h =
     let more = length_push late false in
     let within : nat_lt w (length (late ++ false ∷ [])) ≡ true = grind (arith, nat_tests, less, more) in
     rw (within, get_or_append_left late (false ∷ []) false w less, parts.1) refl
+timely-more late _ h = refl
 
 -- a buffer goes early, with the next device fence
 pub timely-early : (late : List Bool) (slots : List Slot) (i : ℕ) → AreTimely late slots → i < length slots → AreTimely (late ++ false ∷ []) (slice_set slots i (Early (length late) (length late)))
@@ -129,7 +122,7 @@ timely-late late slots i d p kept within is =
     never e h = absurd (cc)
 
 -- a buffer that the client may give back has its picture
-pub picture-there : (late : List Bool) (v : Slot) → is_timely late v ≡ true → place_of v ≡ Client → ((d : FenceNo) → held_of v ≡ Some d → slice_index_or late d.0 false ≡ true) → has_picture v ≡ true
+pub picture-there : (late : List Bool) (v : Slot) → is_timely late v ≡ true → place_of v ≡ Client → ((d : DeviceFenceNo) → held_of v ≡ Some d → slice_index_or late d.0 false ≡ true) → has_picture v ≡ true
 picture-there late (Home fence) fits at there = absurd (false≢true (ap (λ p. is_at p Client) at))
 picture-there late Away fits at there = absurd (false≢true (ap (λ p. is_at p Client) at))
 picture-there late (Filled pixels) fits at there = refl
@@ -147,7 +140,7 @@ pixels-own spec b (Early s w) p sound h = absurd (cc)
 pixels-own spec b (Late q w) p sound h = (let same : q ≡ p = cc in ap (is_buffer_of spec b) (sym same) ∙ sound)
 
 -- a buffer that the client may give back
-pub release-parts : (homes : Homes) (b : ℕ) → (is_at (place_in homes b) Client && there_in homes (held_in homes b)) ≡ true → (is_at (place_in homes b) Client ≡ true) × ((d : FenceNo) → held_in homes b ≡ Some d → late_in homes d.0 ≡ true)
+pub release-parts : (homes : Homes) (b : ℕ) → (is_at (place_in homes b) Client && there_in homes (held_in homes b)) ≡ true → (is_at (place_in homes b) Client ≡ true) × ((d : DeviceFenceNo) → held_in homes b ≡ Some d → late_in homes d.0 ≡ true)
 release-parts homes b h =
     let parts = and_parts (is_at (place_in homes b) Client) (there_in homes (held_in homes b)) h in
     (parts.0, λ d is. ap (there_in homes) (sym is) ∙ parts.1)
@@ -162,7 +155,7 @@ renumbered spec b p h = subst (λ x. is_buffer_of spec x p ≡ true) (sym (numbe
 
 -- a buffer that went early and whose picture isn't there, and what was kept for it
 pub record IsEarly (first : ℕ) (slots : List Slot) (late : List Bool) (b : ℕ) (r : Slot) : Type 0 where
-  pub device : FenceNo
+  pub device : DeviceFenceNo
   pub held : slice_index_or (map held_of slots) (b - first) None ≡ Some device
   pub out : IsOut first slots b
   pub here : slice_index_or slots (b - first) Away ≡ Early device.0 device.0
@@ -170,7 +163,7 @@ pub record IsEarly (first : ℕ) (slots : List Slot) (late : List Bool) (b : ℕ
   pub got : r ≡ Early device.0 device.0
   pub made : device.0 < length late
 
-pub early-at : (first : ℕ) (slots : List Slot) (late : List Bool) (b : ℕ) (r : Slot) → AreTimely late slots → is_at (place_at first slots b) Client ≡ true → (d : FenceNo) × (slice_index_or (map held_of slots) (b - first) None ≡ Some d) × (slice_index_or late d.0 false ≡ false) → slice_get slots (b - first) ≡ Some r → IsEarly first slots late b r
+pub early-at : (first : ℕ) (slots : List Slot) (late : List Bool) (b : ℕ) (r : Slot) → AreTimely late slots → is_at (place_at first slots b) Client ≡ true → (d : DeviceFenceNo) × (slice_index_or (map held_of slots) (b - first) None ≡ Some d) × (slice_index_or late d.0 false ≡ false) → slice_get slots (b - first) ≡ Some r → IsEarly first slots late b r
 early-at first slots late b r kept client awaits old =
     let out = client-at first slots b client in
     let d = awaits.0 in

@@ -7,7 +7,7 @@ use Rattle.std.proofs.lemmas.List.{get_or-set_same, get_or-set_other}
 use Rattle.trace_model.specs.Place.{Place, Pool, Device, Client, is_at}
 use Rattle.buffer_manager.specs.Resting.{listed}
 use Rattle.buffer_manager.specs.declared.slot.Slot.{Slot}
-use Rattle.buffer_manager.specs.declared.slot.Slot.TheVariants.{Home, Away, Filled, Early, Late}
+use Rattle.buffer_manager.specs.declared.slot.Slot.TheVariants.{Away}
 use Rattle.buffer_manager.specs.Slots.{awaited_of, is_timely, place_of, slot_at}
 use Rattle.buffer_manager.specs.Kept.{AreTimely}
 use Rattle.state_facts.proofs.Own.{at-client}
@@ -37,11 +37,8 @@ listed-alike f f' g g' a (suc n) same =
 
 -- the slot of a buffer that is at the device
 pub away-is : (v : Slot) → is_at (place_of v) Device ≡ true → v ≡ Away
-away-is (Home fence) h = absurd (false≢true h)
 away-is Away h = refl
-away-is (Filled pixels) h = absurd (false≢true h)
-away-is (Early signaller waiter) h = absurd (false≢true h)
-away-is (Late pixels waiter) h = absurd (false≢true h)
+away-is _ h = absurd (false≢true h)
 
 -- a place that isn't home is that of a slot
 pub placed-at : (slots : List Slot) (i : ℕ) (p : Place) → is_at p Pool ≡ false → slice_index_or (map place_of slots) i Pool ≡ p → (i < length slots) × (place_of (slice_index_or slots i Away) ≡ p)

@@ -30,26 +30,24 @@ within-turn end n (t ∷ streams) (suc k) s h at =
     let low = rest.0 in
     (omega (arith, low), rest.1)
 
+-- a buffer of the first stream is none of a later one's
+first-alone : {P : Type 0} (end n : ℕ) (x : Stream) (streams : List Stream) (k : ℕ) (t : Stream) (b : ℕ) → follow end n (x ∷ streams) ≡ true → slice_get streams k ≡ Some t → b < x.made.first.0 + x.made.count → t.made.first.0 ≤ b → P
+first-alone end n x streams k t b h at below from =
+    let parts = and_parts (x.made.first.0 == n) (follow end (n + x.made.count) streams) h in
+    let first = eqb-true x.made.first.0 n parts.0 in
+    let rest = (within-turn end (n + x.made.count) streams k t parts.1 at).0 in
+    absurd (omega (arith, first, rest, below, from))
+
 -- no two streams have a buffer in common
 pub one-owner : (end n : ℕ) (streams : List Stream) (j k : ℕ) (s t : Stream) (b : ℕ) → follow end n streams ≡ true → slice_get streams j ≡ Some s → slice_get streams k ≡ Some t → s.made.first.0 ≤ b → b < s.made.first.0 + s.made.count → t.made.first.0 ≤ b → b < t.made.first.0 + t.made.count → j ≡ k
 one-owner end n [] j k s t b h at-j at-k ls hs lt ht = absurd (cc)
 one-owner end n (x ∷ streams) zero zero s t b h at-j at-k ls hs lt ht = refl
 one-owner end n (x ∷ streams) zero (suc k) s t b h at-j at-k ls hs lt ht =
     let same : x ≡ s = cc in
-    let parts = and_parts (x.made.first.0 == n) (follow end (n + x.made.count) streams) h in
-    let first = eqb-true x.made.first.0 n parts.0 in
-    let rest = (within-turn end (n + x.made.count) streams k t parts.1 at-k).0 in
-    let x-first : x.made.first.0 ≡ s.made.first.0 = ap (λ (y : Stream). y.made.first.0) same in
-    let x-count : x.made.count ≡ s.made.count = ap (λ (y : Stream). y.made.count) same in
-    absurd (omega (arith, first, rest, x-first, x-count, ls, hs, lt, ht))
+    first-alone end n x streams k t b h at-k (rw same hs) lt
 one-owner end n (x ∷ streams) (suc j) zero s t b h at-j at-k ls hs lt ht =
     let same : x ≡ t = cc in
-    let parts = and_parts (x.made.first.0 == n) (follow end (n + x.made.count) streams) h in
-    let first = eqb-true x.made.first.0 n parts.0 in
-    let rest = (within-turn end (n + x.made.count) streams j s parts.1 at-j).0 in
-    let x-first : x.made.first.0 ≡ t.made.first.0 = ap (λ (y : Stream). y.made.first.0) same in
-    let x-count : x.made.count ≡ t.made.count = ap (λ (y : Stream). y.made.count) same in
-    absurd (omega (arith, first, rest, x-first, x-count, ls, hs, lt, ht))
+    first-alone end n x streams j s b h at-j (rw same ht) ls
 one-owner end n (x ∷ streams) (suc j) (suc k) s t b h at-j at-k ls hs lt ht =
     let parts = and_parts (x.made.first.0 == n) (follow end (n + x.made.count) streams) h in
     ap suc (one-owner end (n + x.made.count) streams j k s t b parts.1 at-j at-k ls hs lt ht)

@@ -4,6 +4,7 @@ use Rattle.cam_types.specs.Limits.{raw_limit, stream_limit, yuv_limit}
 use Rattle.cam_types.specs.Profile.{pool_size}
 use Rattle.cam_types.specs.Refusals.{is_raw, is_yuv}
 use Rattle.cam_types.specs.Shown.{Shown}
+use Rattle.cam_types.specs.declared.number.DeviceFenceNo.{DeviceFenceNo}
 use Rattle.cam_types.specs.declared.number.FenceNo.{FenceNo}
 use Rattle.cam_types.specs.declared.profile.Profile.{Profile}
 use Rattle.cam_types.specs.declared.reply.Made.{Made}
@@ -27,7 +28,7 @@ pub record Managed : Type 0 where
   pub first : ℕ
   pub places : List Place
   pub fences : List (Option FenceNo)
-  pub held : List (Option FenceNo)
+  pub held : List (Option DeviceFenceNo)
   pub pictures : List (Option (List ℕ))
   pub late : List Bool
   pub specs : List StreamSpec
@@ -71,7 +72,7 @@ IsBufferAt None pixels = ⊥
 
 -- buffer b goes to a place, with a fence and with a device fence (see `put` of state_facts), and shows the client these
 -- bytes
-abbrev pub moved : ℕ → Place → Option FenceNo → Option FenceNo → Option (List ℕ) → Managed → Managed
+abbrev pub moved : ℕ → Place → Option FenceNo → Option DeviceFenceNo → Option (List ℕ) → Managed → Managed
 moved b place fence device picture m =
     record m {
       places = slice_set m.places (b - m.first) place;
@@ -92,21 +93,6 @@ with_picture d b picture m =
       pictures = slice_set m.pictures (b - m.first) (Some picture);
     }
 
--- fresh buffers for these streams, each at home with no fence, numbered on from the last
-abbrev pub reopened : List StreamSpec → Managed → Managed
-reopened specs m =
-    let next = m.first + length m.places in
-    let made = made_for m.profile next specs in
-    record m {
-      made = made;
-      first = next;
-      places = replicate (count_in made) Pool;
-      fences = replicate (count_in made) None;
-      held = replicate (count_in made) None;
-      pictures = replicate (count_in made) None;
-      specs = specs;
-    }
-
 -- the number of a waiter's fence
 abbrev pub fence_from : Option ℕ → Option FenceNo
 fence_from (Some fence) = Some (record { 0 = fence })
@@ -120,7 +106,7 @@ may_be_released m b =
 -- the buffer went early, and its picture isn't there
 abbrev pub IsAwaited : Managed → ℕ → Type 0
 IsAwaited m b =
-    let homes = homes_with [] m in (d : FenceNo) × (held_in homes b ≡ Some d) × (late_in homes d.0 ≡ false)
+    let homes = homes_with [] m in (d : DeviceFenceNo) × (held_in homes b ≡ Some d) × (late_in homes d.0 ≡ false)
 
 -- the bytes that buffer b shows the client; none where the client hasn't the buffer, or its picture isn't there
 abbrev pub picture_in : Managed → ℕ → Option (List ℕ)
@@ -194,3 +180,7 @@ opened specs m =
       pictures = replicate (count_in made) None;
       specs = specs;
     }
+
+-- fresh buffers for these streams, each at home with no fence, numbered on from the last
+abbrev pub reopened : List StreamSpec → Managed → Managed
+reopened specs m = opened specs (record m { first = m.first + length m.places })

@@ -1,6 +1,7 @@
 use Rattle.std.specs.Prelude.{ℕ, ◌-◌, ◌==◌, ◌&&◌, Bool, true, false, not, List, Option, Some, None, length, nat_le, nat_lt, slice_index_or, if◌then◌else◌}
 use Rattle.cam_types.specs.Picture.{length_in}
 use Rattle.cam_types.specs.Shown.{Shown}
+use Rattle.cam_types.specs.declared.number.DeviceFenceNo.{DeviceFenceNo}
 use Rattle.cam_types.specs.declared.number.FenceNo.{FenceNo}
 use Rattle.cam_types.specs.declared.stream.StreamSpec.{StreamSpec}
 use Rattle.buffer_pool.specs.Blocks.{block_length}
@@ -23,7 +24,7 @@ fence_of (Home fence) = fence
 fence_of _ = None
 
 -- the device fence with which it went to the client early
-abbrev pub held_of : Slot → Option FenceNo
+abbrev pub held_of : Slot → Option DeviceFenceNo
 held_of (Early signaller waiter) = Some (record { 0 = waiter })
 held_of (Late pixels waiter) = Some (record { 0 = waiter })
 held_of _ = None

@@ -8,12 +8,12 @@ ghost use Rattle.buffer_manager.specs.Slots.{awaited_of};
 use crate::manager::BufferManager;
 use crate::slot::{Slot, end_away, swap_slot};
 use buffer_pool::{Signaller, Waiter};
-use cam_types::{BufferId, FenceNo, PixelBuf, StreamIx};
+use cam_types::{BufferId, DeviceFenceNo, PixelBuf, StreamIx};
 
 impl BufferManager {
     /// Lets a buffer of a stream go to the client early, and gives the device fence that says when its picture is
     /// there.
-    pub fn deliver_early(&mut self, stream: StreamIx, buffer: BufferId) -> FenceNo
+    pub fn deliver_early(&mut self, stream: StreamIx, buffer: BufferId) -> DeviceFenceNo
         requires own { IsOf self.old stream.0 buffer.0 }
         requires device { IsTrue (is_at (place_in (homes_with [] self.old) buffer.0) Device) }
         requires room { length self.old.late < self.old.room }
@@ -22,13 +22,13 @@ impl BufferManager {
     {
         let place = (buffer.0 - self.first) as usize;
         let (signaller, waiter) = self.late.make_in();
-        let fence = FenceNo(waiter.number());
+        let fence = DeviceFenceNo(waiter.number());
         end_away(swap_slot(&mut self.slots, place, Slot::Early { signaller, waiter }));
         fence
     }
 
     /// Brings the picture of a buffer that went early, signals its device fence and gives the fence's number.
-    pub fn finish(&mut self, stream: StreamIx, pixels: PixelBuf) -> FenceNo
+    pub fn finish(&mut self, stream: StreamIx, pixels: PixelBuf) -> DeviceFenceNo
         requires own { IsOf self.old stream.0 pixels.id.0 }
         requires whole { IsBufferAt (slice_get self.old.specs stream.0) pixels }
         requires client { IsTrue (is_at (place_in (homes_with [] self.old) pixels.id.0) Client) }
@@ -39,7 +39,7 @@ impl BufferManager {
         let place = (pixels.id().0 - self.first) as usize;
         let (signaller, waiter) = take_early(swap_slot(&mut self.slots, place, Slot::Away));
         end_away(swap_slot(&mut self.slots, place, Slot::Late { pixels, waiter }));
-        FenceNo(self.late.signal(signaller))
+        DeviceFenceNo(self.late.signal(signaller))
     }
 }
 

@@ -1,5 +1,5 @@
 //! What is read of the buffers.
-ghost use Rattle.std.specs.Prelude.{◌≡◌, ◌+◌, ◌≤◌, ◌^◌, [], find, slice_get};
+ghost use Rattle.std.specs.Prelude.{◌≡◌, ◌+◌, ◌≤◌, ◌^◌, [], IfSome, find, slice_get};
 ghost use Rattle.std.specs.List.{list_all, range_with_len};
 ghost use Rattle.std.specs.Option.{option_map};
 ghost use Rattle.trace_model.specs.Place.{Device, Pool, is_at};
@@ -24,10 +24,18 @@ impl BufferManager {
     pub fn at_device(&self, stream: StreamIx) -> u32
         ensures { result ≡ at_device_in (homes_with [] self.now) stream.0 }
     {
-        match made_at(&self.streams, stream.0 as usize) {
+        match self.made_of(stream.0) {
             Some(made) => self.away_count(made),
             None => 0,
         }
+    }
+
+    /// The buffers of a stream. None exactly where no such stream is configured.
+    pub(crate) fn made_of(&self, stream: u8) -> Option<Made>
+        ensures value { result ≡ slice_get self.now.made stream }
+        ensures fits { IfSome result (λ made. made.first.0 + made.count ≤ 2 ^ 32) }
+    {
+        made_at(&self.streams, stream as usize)
     }
 
     /// How many of these buffers are at the device.
@@ -111,7 +119,7 @@ impl BufferManager {
 }
 
 /// The buffers of the stream at a place.
-pub(crate) fn made_at(streams: &[Stream], place: usize) -> Option<Made>
+fn made_at(streams: &[Stream], place: usize) -> Option<Made>
     ensures { result ≡ option_map (λ s. s.made) (slice_get streams.now place) }
 {
     let stream = streams.get(place)?;

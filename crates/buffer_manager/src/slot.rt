@@ -43,16 +43,7 @@ pub(crate) fn end_away(slot: Slot)
 {
     match slot {
         Slot::Away => {}
-        Slot::Home(_) => unreachable!(),
-        Slot::Filled(_pixels) => unreachable!(),
-        Slot::Early {
-            signaller: _signaller,
-            waiter: _waiter,
-        } => unreachable!(),
-        Slot::Late {
-            pixels: _pixels,
-            waiter: _waiter,
-        } => unreachable!(),
+        _other => unreachable!(),
     }
 }
 

@@ -9,11 +9,10 @@ ghost use Rattle.buffer_manager.specs.Managed.{homes_with, moved, sent_away, sen
 ghost use Rattle.buffer_manager.specs.Taking.{AreTaken, IsTakenAt, has_each, least_target_in, least_targets_in, no_four, put_before, target_if};
 
 use crate::manager::BufferManager;
-use crate::reading::made_at;
 use crate::slot::{Slot, swap_slot, take_home};
 use crate::stream::take_from;
 use buffer_pool::Parked;
-use cam_types::{BufferId, FenceNo, Four, Item, StreamIx, Targets};
+use cam_types::{BufferId, Four, Item, StreamIx};
 use trace_model::Sent;
 
 impl BufferManager {
@@ -86,7 +85,7 @@ impl BufferManager {
     fn has_home(&self, stream: u8) -> bool
         ensures { result ≡ is_some (least_target_in (homes_with [] self.now) stream) }
     {
-        match made_at(&self.streams, stream as usize) {
+        match self.made_of(stream) {
             Some(made) => self.least_home(made).is_some(),
             None => false,
         }
@@ -120,22 +119,12 @@ impl BufferManager {
 pub fn asks(item: &Item, stream: u8) -> bool
     ensures { result ≡ list_any (λ t. t == stream) (take item.now.targets.count item.now.targets.list) }
 {
-    written(&item.targets)
+    let count = item.targets.count as usize;
+    item.targets
+        .list
         .iter()
+        .take(count)
         .any(|target| *target == stream)
-}
-
-/// The targets that were written.
-#[tactic(auto, using(std::proofs::lemmas::List::take_all))]
-fn written(targets: &Targets) -> &[u8]
-    ensures { result.now ≡ take targets.now.count targets.now.list }
-{
-    let count = targets.count as usize;
-    if count < targets.list.len() {
-        &targets.list[..count]
-    } else {
-        &targets.list
-    }
 }
 
 fn no_buffers() -> (Four<Sent>, Four<Parked>)

@@ -1,7 +1,6 @@
 -- What was written at status 0 belongs to the input.
 use Rattle.std.proofs.Common.{◌≡◌, ℕ, List, Option, Some, None, Result, Ok, Err, inl, inr, refl, arith, IfSome}
 use Rattle.io_edge.specs.States.{SinkState, Writes}
-use Rattle.cam_types.specs.declared.script.Script.{Script}
 use Rattle.text_parts.specs.declared.cause.Cause.{Cause}
 use Rattle.text_parts.specs.declared.cause.TextRefused.{TextRefused}
 use Rattle.text_parts.specs.declared.cause.TextRefused.TheVariants.{Bad, NoMemory}

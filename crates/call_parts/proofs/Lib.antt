@@ -2,3 +2,4 @@ pub mod Sinks
 pub mod Done
 pub mod Long
 pub mod Meanings
+pub mod Texts

@@ -1,4 +1,5 @@
 use Rattle.std.specs.Prelude.{◌≡◌, ◌≤◌, ℕ, ◌⊎◌, List, Option, IfSome}
+use Rattle.std.specs.Io.KnownBytes.{IsAtEnd}
 use Rattle.io_edge.specs.Faults.{Rose}
 use Rattle.io_edge.specs.States.{Breaks, SinkState, Writes, WritesNothing}
 
@@ -38,6 +39,12 @@ TellsBy Belongs status before after =
 abbrev pub Tells : (List ℕ → ℕ → List ℕ → Type 0) → Option (List ℕ) → ℕ → SinkState → SinkState → Type 0
 Tells Belongs left status before after =
     IfSome left (λ input. (status ≡ 3) ⊎ TellsBy (Belongs input) status before after)
+
+-- At status 0 the source was read to its end, and this holds of its input and of the sink: the call did the whole of
+-- what it is for.
+abbrev pub OnDone : (List ℕ → SinkState → SinkState → Type 0) → ℕ → Option (List ℕ) → Option (List ℕ) → SinkState → SinkState → Type 0
+OnDone Is status left_before left_after before after =
+    status ≡ 0 → IsAtEnd left_after × IfSome left_before (λ input. Is input before after)
 
 -- each status that belongs is one of an answer: 0 or 1
 abbrev pub AreAnswers : (ℕ → List ℕ → Type 0) → Type 0

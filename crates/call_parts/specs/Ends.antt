@@ -1,5 +1,5 @@
 -- What a call has done to its source and its sink, by the status that it ended with. (docs/FORMATS.md, Statuses)
-use Rattle.std.specs.Prelude.{◌≡◌, ◌≢◌, ◌⊎◌, ◌<◌, ℕ, List, Option, IfSome, length}
+use Rattle.std.specs.Prelude.{◌≡◌, ◌≢◌, ◌⊎◌, ◌<◌, ◌≤◌, ℕ, List, Option, IfSome, length}
 use Rattle.std.specs.Io.KnownBytes.{IsAtEnd}
 use Rattle.io_edge.specs.Faults.{Rose}
 use Rattle.io_edge.specs.States.{SinkState, WritesNothing}
@@ -23,3 +23,12 @@ IsReadWhole limit before after = IsAtEnd after ⊎ IfSome before (λ input. limi
 pub record ReadsBy (limit status : ℕ) (before after : Option (List ℕ)) : Type 0 where
   pub done : status ≡ 0 → IsAtEnd after
   pub answered : status ≢ 3 → status ≢ 5 → IsReadWhole limit before after
+
+-- What a call that reads at most so many bytes has done to its source, by its count of faults and what it has left, and
+-- to its sink. It ends with a status that an input has: each but 2, which is for words that are no form.
+pub record KeepsEnds (limit status faults_before faults_after : ℕ) (left_before left_after : Option (List ℕ)) (before after : SinkState) : Type 0 where
+  pub source : CountsSource status faults_before faults_after
+  pub sink : CountsSink status before after
+  pub read : ReadsBy limit status left_before left_after
+  pub known : status ≤ 5
+  pub no_usage : status ≢ 2

@@ -1,5 +1,7 @@
 pub mod Answers
 pub mod Ends
+pub mod Reading
 pub mod Meanings
 pub mod Program
+pub mod Status
 pub mod Texts

@@ -1,7 +1,8 @@
 //! A call that reads its whole input.
-ghost use Rattle.std.specs.Prelude.{◌≡◌, ◌≢◌, ◌≤◌, ◌<◌, ℕ, List, length};
+ghost use Rattle.std.specs.Prelude.{◌≡◌, ◌≤◌, ◌<◌, ℕ, List, length};
 ghost use Rattle.call_parts.specs.Answers.{AnswersWithMemory, AreAnswers, Tells, TellsBy};
-ghost use Rattle.call_parts.specs.Ends.{CountsSink, CountsSource, ReadsBy};
+ghost use Rattle.call_parts.specs.Ends.{KeepsEnds};
+ghost use Rattle.call_parts.specs.Status.{status_number};
 
 use crate::Status;
 use io_edge::{ReadBytes, ReadFault, Sink, Source, read_all};
@@ -20,12 +21,12 @@ pub trait InputWork {
 
     /// Refuses an input with more bytes.
     fn refuse_long<K: Sink>(&self, alloc: Global, sink: &mut K) -> Status
-        ensures { AnswersWithMemory 1 (refusal self.now) result.number (K.state sink.old) (K.state sink.new) };
+        ensures { AnswersWithMemory 1 (refusal self.now) (status_number result) (K.state sink.old) (K.state sink.new) };
 
     /// Answers an input that was read.
     fn answer_whole<K: Sink>(&self, alloc: Global, input: &[u8], sink: &mut K) -> Status
         requires { length input.now ≤ limit }
-        ensures { TellsBy (belongs self.now input.now) result.number (K.state sink.old) (K.state sink.new) };
+        ensures { TellsBy (belongs self.now input.now) (status_number result) (K.state sink.old) (K.state sink.new) };
 
     /// It does nothing. The statuses that belong to an input are those of an answer, and to an input with more bytes its
     /// refusal belongs.
@@ -45,20 +46,16 @@ pub fn answer_input<S: Source, K: Sink, W: InputWork>(
     requires { limit ≡ W.limit }
     // The status and the text belong to the input, where no end failed and memory was there. At status 4 a front of that
     // text is written.
-    ensures tells { Tells (W.belongs work.now) (S.left source.old) result.number
+    ensures tells { Tells (W.belongs work.now) (S.left source.old) (status_number result)
         (K.state sink.old) (K.state sink.new) }
-    // The source's count of faults rose at 3 alone, and the sink's at 4 alone; at 3 and 5 nothing was written. At 0 the
-    // source was read to its end; where there is another answer, too, or it has more than the limit.
-    ensures source { CountsSource result.number (S.faults source.old) (S.faults source.new) }
-    ensures sink { CountsSink result.number (K.state sink.old) (K.state sink.new) }
-    ensures read { ReadsBy limit result.number (S.left source.old) (S.left source.new) }
-    ensures known { result.number ≤ 5 }
-    ensures no_usage { result.number ≢ 2 }
+    // What it did to its ends, by the status.
+    ensures ends { KeepsEnds limit (status_number result) (S.faults source.old) (S.faults source.new) (S.left source.old)
+        (S.left source.new) (K.state sink.old) (K.state sink.new) }
 {
     work.keeps_the_laws();
     match read_all(alloc, source, limit) {
-        Err(ReadFault::Failed) => Status::SOURCE_FAILED,
-        Err(ReadFault::NoMemory) => Status::NO_MEMORY,
+        Err(ReadFault::Failed) => Status::SourceFailed,
+        Err(ReadFault::NoMemory) => Status::NoMemory,
         Ok(ReadBytes::TooLong) => work.refuse_long(alloc, sink),
         Ok(ReadBytes::Whole(bytes)) => work.answer_whole(alloc, bytes.as_slice(), sink),
     }

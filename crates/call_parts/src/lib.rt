@@ -1,19 +1,28 @@
 //! How a command of the program ends: its status, and the text that is written with it; the lines that refuse an input;
-//! what is written of a service's run; the calls that read their whole input; and what the programs are called with.
+//! what is written of a service's run; the calls that read their whole input, as a script, as a trace or as a text of
+//! lines; and what the programs are called with.
 #![tactic(auto)]
 
 mod input;
 mod output;
 mod program;
+mod reading;
 mod refusal;
 mod script;
 mod status;
+mod text;
+mod trace;
 mod write;
 
 pub use input::{InputWork, answer_input};
 pub use output::{Output, named_profile};
 pub use program::{code_of, words_of};
-pub use refusal::{TOO_LONG, refuse_script, refuse_trace};
-pub use script::{ScriptWork, answer_script};
-pub use status::{Status, answer};
+pub use reading::{
+    LineText, named_number, number_from_to, one_number_from_to, read_text, two_numbers,
+};
+pub use refusal::{PROFILE_DIFFERS, TOO_LONG, refuse_script, refuse_trace};
+pub use script::{ScriptInput, ScriptWork};
+pub use status::{Status, answer, answer_made, status_of};
+pub use text::{TextInput, TextWork};
+pub use trace::{TraceInput, TraceWork};
 pub use write::{write_run, write_trace};

@@ -22,8 +22,8 @@ fn number_of(ended: Result<Status, NoMemory>) -> u8
     ensures { result ≡ number_of ended }
 {
     match ended {
-        Ok(status) => status.number,
-        Err(_) => Status::NO_MEMORY.number,
+        Ok(status) => status.number(),
+        Err(_) => Status::NoMemory.number(),
     }
 }
 

@@ -1,14 +1,13 @@
 //! A call that reads a script.
-ghost use Rattle.std.specs.Prelude.{◌≡◌, ◌≢◌, ◌≤◌, ℕ, List, IsTrue};
+ghost use Rattle.std.specs.Prelude.{ℕ, List, IsTrue};
 ghost use Rattle.cam_types.specs.Script.{is_valid};
 ghost use Rattle.cam_types.specs.declared.script.Script.{Script as AScript};
-ghost use Rattle.call_parts.specs.Answers.{AreAnswers, Tells, TellsBy};
-ghost use Rattle.call_parts.specs.Ends.{CountsSink, CountsSource, ReadsBy};
-ghost use Rattle.call_parts.specs.Meanings.{OfScript};
+ghost use Rattle.call_parts.specs.Answers.{AreAnswers, TellsBy};
+ghost use Rattle.call_parts.specs.Status.{status_number};
 
-use crate::{InputWork, Status, answer_input, refuse_script};
-use cam_types::{SCRIPT_BYTES, Script};
-use io_edge::{Sink, Source};
+use crate::{InputWork, Status, refuse_script};
+use cam_types::Script;
+use io_edge::Sink;
 use std::alloc::Global;
 use text_parts::{Cause, TextRefused};
 
@@ -20,24 +19,24 @@ pub trait ScriptWork {
     /// Answers a script.
     fn answer_script<K: Sink>(&self, alloc: Global, script: Script, sink: &mut K) -> Status
         requires { IsTrue (is_valid script) }
-        ensures { TellsBy (belongs self.now script) result.number (K.state sink.old) (K.state sink.new) };
+        ensures { TellsBy (belongs self.now script) (status_number result) (K.state sink.old) (K.state sink.new) };
 
     /// It does nothing. The statuses that belong to a script are those of an answer.
     fn keeps_the_law(&self)
         ensures { (script : AScript) → AreAnswers (belongs self.now script) };
 }
 
-/// What a call makes of a text that is read as a script.
+/// An input that is read as a script, for what a call makes of that.
 #[derive(Drop)]
-struct OfText<'a, W: ScriptWork>(&'a W);
+pub struct ScriptInput<W>(pub W);
 
-impl<'a, W: ScriptWork> InputWork for OfText<'a, W> {
+impl<W: ScriptWork> InputWork for ScriptInput<W> {
     ghost use Rattle.call_parts.specs.Meanings.{OfScript};
     ghost use Rattle.judge_text.specs.Lines.{refused_script_text};
 
     ghost limit = { 65536 };
 
-    ghost belongs = { λ work. OfScript (W.belongs work.0.now) };
+    ghost belongs = { λ work. OfScript (W.belongs work.0) };
 
     ghost refusal = { λ _. refused_script_text 0 37 };
 
@@ -47,7 +46,7 @@ impl<'a, W: ScriptWork> InputWork for OfText<'a, W> {
 
     fn answer_whole<K: Sink>(&self, alloc: Global, input: &[u8], sink: &mut K) -> Status {
         match script_text::read(alloc, input) {
-            Err(TextRefused::NoMemory) => Status::NO_MEMORY,
+            Err(TextRefused::NoMemory) => Status::NoMemory,
             Err(TextRefused::Bad { line, cause }) => {
                 refuse_script(alloc, line, cause.number(), sink)
             }
@@ -59,23 +58,4 @@ impl<'a, W: ScriptWork> InputWork for OfText<'a, W> {
     fn keeps_the_laws(&self) {
         self.0.keeps_the_law();
     }
-}
-
-/// Reads a script, and answers it.
-pub fn answer_script<S: Source, K: Sink, W: ScriptWork>(
-    alloc: Global,
-    source: &mut S,
-    sink: &mut K,
-    work: &W,
-) -> Status
-    // As `answer_input` says of an input that is read as a script.
-    ensures tells { Tells (OfScript (W.belongs work.now)) (S.left source.old) result.number
-        (K.state sink.old) (K.state sink.new) }
-    ensures source { CountsSource result.number (S.faults source.old) (S.faults source.new) }
-    ensures sink { CountsSink result.number (K.state sink.old) (K.state sink.new) }
-    ensures read { ReadsBy SCRIPT_BYTES result.number (S.left source.old) (S.left source.new) }
-    ensures known { result.number ≤ 5 }
-    ensures no_usage { result.number ≢ 2 }
-{
-    answer_input(alloc, source, sink, SCRIPT_BYTES, &OfText(work))
 }

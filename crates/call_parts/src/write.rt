@@ -4,6 +4,7 @@ ghost use Rattle.call_parts.specs.Answers.{Answers};
 ghost use Rattle.run_model.specs.History.{trace_of};
 ghost use Rattle.trace_text.specs.Spelling.{spelling};
 ghost use Rattle.call_parts.specs.Texts.{named_profile, text_in};
+ghost use Rattle.call_parts.specs.Status.{status_number};
 
 use crate::Status;
 use crate::output::Output;
@@ -19,7 +20,7 @@ pub fn write_run<K: Sink>(
     sink: &mut K,
 ) -> Status
     requires { writer.old ≡ named_profile service.now.script }
-    ensures { Answers 0 (text_in output service.now.script service.now.history) result.number
+    ensures { Answers 0 (text_in output service.now.script service.now.history) (status_number result)
         (K.state sink.old) (K.state sink.new) }
 {
     match output {
@@ -30,23 +31,23 @@ pub fn write_run<K: Sink>(
 
 /// Writes the summary of a service's trace.
 fn write_summary<K: Sink>(writer: &mut TraceWriter, service: &Service, sink: &mut K) -> Status
-    ensures { Answers 0 (text_in Output.Summary service.now.script service.now.history) result.number
+    ensures { Answers 0 (text_in Output.Summary service.now.script service.now.history) (status_number result)
         (K.state sink.old) (K.state sink.new) }
 {
     match writer.write_summary(service.trace(), sink) {
-        Ok(()) => Status::DONE,
-        Err(_) => Status::SINK_FAILED,
+        Ok(()) => Status::Done,
+        Err(_) => Status::SinkFailed,
     }
 }
 
 /// Writes the trace of a service. It takes no memory.
 pub fn write_trace<K: Sink>(writer: &mut TraceWriter, service: &Service, sink: &mut K) -> Status
-    ensures { Answers 0 (spelling writer.old (reverse (trace_of service.now.history))) result.number
+    ensures { Answers 0 (spelling writer.old (reverse (trace_of service.now.history))) (status_number result)
         (K.state sink.old) (K.state sink.new) }
 {
     service.is_a_run();
     match writer.write(service.trace(), sink) {
-        Ok(()) => Status::DONE,
-        Err(_) => Status::SINK_FAILED,
+        Ok(()) => Status::Done,
+        Err(_) => Status::SinkFailed,
     }
 }

@@ -2,3 +2,5 @@ pub mod OverLemmas
 pub mod PictureLemmas
 pub mod Decided
 pub mod WrittenLemmas
+pub mod Fours
+pub mod RefusalLemmas

@@ -1,7 +1,7 @@
 use Rattle.std.specs.Prelude.{ℕ, ◌==◌, Bool, ◌&&◌, not, nat_le, Option, Some, None, if◌then◌else◌}
 use Rattle.cam_types.specs.declared.item.Settings.{Settings}
-use Rattle.cam_types.specs.declared.part.Part.{Part}
-use Rattle.cam_types.specs.declared.part.Part.TheVariants.{Look, Light, Time}
+use Rattle.cam_types.specs.declared.partial_result.PartialResult.{PartialResult}
+use Rattle.cam_types.specs.declared.partial_result.PartialResult.TheVariants.{Look, Light, Time}
 
 -- The metadata of requests and results: our own choice. The tags are vendor tags, from 0x80000000 on.
 abbrev pub pattern_tag : ℕ
@@ -42,5 +42,5 @@ range_fault s =
     else None)))
 
 -- part k of the metadata of a frame with these settings and this shutter time, for k from 1 to 3
-abbrev pub part_at : ℕ → Settings → ℕ → Part
+abbrev pub part_at : ℕ → Settings → ℕ → PartialResult
 part_at k s time = if k == 1 then Look s.pattern s.level else (if k == 2 then Light s.exposure s.iso else Time time)

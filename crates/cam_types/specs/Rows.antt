@@ -2,18 +2,17 @@ use Rattle.std.specs.Prelude.{Bool, true, false, ◌&&◌, not, nat_lt, Option, 
 use Rattle.cam_types.specs.declared.four.Four.{Four}
 use Rattle.cam_types.specs.declared.row.RowView.{RowView}
 use Rattle.cam_types.specs.declared.row.TargetState.{TargetState}
-use Rattle.cam_types.specs.declared.row.TargetState.TheVariants.{ReturnedEarly, EarlyFilled, ReturnedOk, ReturnedFailed}
+use Rattle.cam_types.specs.declared.row.TargetState.TheVariants.{Waiting, Out, Filled, ReturnedOk, ReturnedFailed}
 use Rattle.cam_types.specs.declared.row.TargetView.{TargetView}
 
 -- What the row of an open frame says of it (camera3.h, process_capture_result).
 
--- the buffer came back: filled, failed or early
+-- the buffer came back, filled, failed or early: it isn't with the device any more
 abbrev pub is_returned : TargetState → Bool
-is_returned ReturnedEarly = true
-is_returned EarlyFilled = true
-is_returned ReturnedOk = true
-is_returned ReturnedFailed = true
-is_returned _ = false
+is_returned Waiting = false
+is_returned Out = false
+is_returned Filled = false
+is_returned _ = true
 
 -- the device is done with the buffer: it came back with its picture, or failed
 abbrev pub is_settled : TargetState → Bool

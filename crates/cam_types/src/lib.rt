@@ -8,7 +8,7 @@ mod job;
 mod limit;
 mod list;
 mod number;
-mod part;
+mod partial_result;
 mod pixels;
 mod profile;
 mod readout;
@@ -20,22 +20,20 @@ mod script;
 mod stream;
 mod worked;
 
-pub use equality::{
-    is_same_item, is_same_job, is_same_part, is_same_reply, is_same_row, is_same_spec,
-    is_same_verdict,
-};
+pub use equality::{is_same_partial_result, is_same_reply};
 pub use four::Four;
 pub use item::{Item, ItemList, Settings, Targets};
 pub use job::{FillTarget, JobView};
 pub use limit::{
     AWAITED_LIMIT, BURST_LIMIT, COMMAND_LIMIT, FAULT_LIMIT, FIRST_SHUTTER, FRAME_DEPTH, FRAME_TIME,
-    PART_COUNT, PICK_LIMIT, PROFILE_LIMIT, QUEUE_LIMIT, RAW_BLOCK, RAW_BUFFERS, RAW_STREAMS,
-    REPEAT_LIMIT, REPEATING_AHEAD, SCRIPT_BYTES, SENSOR_HEIGHT, SENSOR_VALUES, SENSOR_WIDTH,
-    SPARE_BUFFERS, SPEC_LIMIT, STREAM_LIMIT, TARGET_LIMIT, YUV_BLOCK, YUV_BUFFERS, YUV_STREAMS,
+    PARTIAL_RESULT_COUNT, PICK_LIMIT, PROFILE_LIMIT, QUEUE_LIMIT, RAW_BLOCK, RAW_BUFFERS,
+    RAW_STREAMS, REPEAT_LIMIT, REPEATING_AHEAD, SCRIPT_BYTES, SENSOR_HEIGHT, SENSOR_VALUES,
+    SENSOR_WIDTH, SPARE_BUFFERS, SPEC_LIMIT, STREAM_LIMIT, TARGET_LIMIT, YUV_BLOCK, YUV_BUFFERS,
+    YUV_STREAMS,
 };
 pub use list::{Listing, NoMemory};
-pub use number::{BufferId, FenceNo, FrameNo, RequestId, StreamIx};
-pub use part::Part;
+pub use number::{BufferId, DeviceFenceNo, FenceNo, FrameNo, RequestId, StreamIx};
+pub use partial_result::PartialResult;
 pub use pixels::PixelBuf;
 pub use profile::Profile;
 pub use readout::Readout;

@@ -38,8 +38,8 @@ pub const PROFILE_LIMIT: u32 = 16;
 /// The most frames that are open at once, where a script names no profile.
 pub const FRAME_DEPTH: u32 = 6;
 
-/// The number of metadata results that a frame has.
-pub const PART_COUNT: u8 = 3;
+/// The number of partial results that a frame has.
+pub const PARTIAL_RESULT_COUNT: u8 = 3;
 
 /// The most buffers of a RAW16 stream at the device, where a script names no profile.
 pub const RAW_BUFFERS: u32 = 3;

@@ -7,9 +7,14 @@ pub struct FrameNo(pub u32);
 #[derive(Clone, Copy, Debug, PartialEq, Eq, PartialOrd, Ord)]
 pub struct BufferId(pub u32);
 
-/// The number of a fence, in the order in which fences are released, from 0 on.
+/// The number of a fence of the client, in the order in which fences are released, from 0 on.
 #[derive(Clone, Copy, Debug, PartialEq, Eq, PartialOrd, Ord)]
 pub struct FenceNo(pub u32);
+
+/// The number of a device fence: one that the device gives with a buffer that comes back before it is filled, in the order
+/// of these returns, from 0 on.
+#[derive(Clone, Copy, Debug, PartialEq, Eq, PartialOrd, Ord)]
+pub struct DeviceFenceNo(pub u32);
 
 /// The place of a stream in its configuration, from 0 on.
 #[derive(Clone, Copy, Debug, PartialEq, Eq, PartialOrd, Ord)]

@@ -4,7 +4,7 @@ ghost use Rattle.cam_types.specs.Rows.{are_settled, awaits_metadata, is_open, is
 
 use crate::four::Four;
 use crate::item::Settings;
-use crate::limit::PART_COUNT;
+use crate::limit::PARTIAL_RESULT_COUNT;
 use crate::number::{BufferId, FenceNo, FrameNo, RequestId, StreamIx};
 
 /// Where the sensor's work on a frame is.
@@ -59,7 +59,7 @@ pub struct RowView {
     pub targets: Four<TargetView>,
     /// The time of the shutter, in nanoseconds.
     pub shutter: Option<u64>,
-    /// How many metadata results were sent, 0 to 3.
+    /// How many partial results were sent, 0 to 3.
     pub parts: u8,
     pub request_error: bool,
     pub result_error: bool,
@@ -131,7 +131,7 @@ impl RowView {
     pub fn awaits_metadata(self) -> bool
         ensures { result ≡ awaits_metadata self }
     {
-        self.parts < PART_COUNT && (!self.result_error && !self.request_error)
+        self.parts < PARTIAL_RESULT_COUNT && (!self.result_error && !self.request_error)
     }
 
     /// Whether the frame is open: its metadata hasn't ended, or the device isn't done with all its targets.

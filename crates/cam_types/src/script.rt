@@ -50,7 +50,7 @@ pub enum Word {
 pub enum Fault {
     /// The capture of the frame fails whole.
     Request(FrameNo),
-    /// The frame lacks its last metadata result.
+    /// The frame lacks its last partial result.
     Result(FrameNo),
     /// The frame's buffer for the stream can't be filled.
     Buffer(FrameNo, StreamIx),

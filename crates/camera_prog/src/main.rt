@@ -8,6 +8,7 @@ ghost use Rattle.call_parts.specs.Program.{number_of};
 ghost use Rattle.camera_top.specs.Commands.{TellsOf};
 ghost use Rattle.camera_top.specs.Words.{limit_of};
 ghost use Rattle.text_parts.specs.Forms.{form_of};
+ghost use Rattle.call_parts.specs.Status.{status_number};
 
 use call_parts::{code_of, words_of};
 use camera_top::{OpenGate, Status, camera_main};
@@ -48,7 +49,7 @@ fn answer<R: Threads + Wait + Clock + Sync, S: Source, K: Sink>(
 ) -> Result<Status, NoMemory>
     // What the top call says of words with these texts.
     ensures tells { (words : List (Bor (List ℕ))) → map (λ word. word.now) words ≡ map string_bytes texts.now →
-        IfOk result (λ status. TellsOf (form_of words) (S.left source.old) status.number
+        IfOk result (λ status. TellsOf (form_of words) (S.left source.old) (status_number status)
         (K.state sink.old) (K.state sink.new)) }
     // By the number that the program ends with: the source's count of faults rose at 3 alone, and the sink's at 4 alone;
     // at 3 and 5, and so where there is no memory to hand the words over, nothing was written.

@@ -9,6 +9,7 @@ ghost use Rattle.call_parts.specs.Program.{number_of};
 ghost use Rattle.tools_top.specs.Commands.{TellsOfTool};
 ghost use Rattle.tools_top.specs.Words.{limit_of};
 ghost use Rattle.tools_top.specs.Tools.{tool_of};
+ghost use Rattle.call_parts.specs.Status.{status_number};
 
 use call_parts::{code_of, words_of};
 use io_edge::{NoMemory, Sink, Source, StdSink, StdSource};
@@ -39,7 +40,7 @@ fn answer<S: Source, K: Sink>(
 ) -> Result<Status, NoMemory>
     // What the top call says of words with these texts.
     ensures tells { (words : List (Bor (List ℕ))) → map (λ word. word.now) words ≡ map string_bytes texts.now →
-        IfOk result (λ status. TellsOfTool (tool_of words) (S.left source.old) status.number
+        IfOk result (λ status. TellsOfTool (tool_of words) (S.left source.old) (status_number status)
         (K.state sink.old) (K.state sink.new)) }
     // By the number that the program ends with: the source's count of faults rose at 3 alone, and the sink's at 4 alone;
     // at 3 and 5, and so where there is no memory to hand the words over, nothing was written.

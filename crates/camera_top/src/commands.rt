@@ -17,6 +17,7 @@ ghost use Rattle.reprocess_call.specs.Reprocess.{IsReprocessed};
 ghost use Rattle.run_calls.specs.Running.{IsRunWhole};
 ghost use Rattle.play_calls.specs.Says.{IsWhole, IsWholeRun};
 ghost use Rattle.camera_top.specs.Words.{limit_of};
+ghost use Rattle.call_parts.specs.Status.{status_number};
 
 use arbiter_call::arbiter_call;
 use auto_call::auto_call;
@@ -50,9 +51,9 @@ pub fn camera_main<R: Threads + Wait + Clock + Sync, S: Source, K: Sink, G: Gate
     gate: &G,
 ) -> Status
     // The status and the text are those that belong to the form that the words have, and to the input's meaning.
-    ensures tells { TellsOf (form_of words.now) (S.left source.old) result.number (K.state sink.old)
+    ensures tells { TellsOf (form_of words.now) (S.left source.old) (status_number result) (K.state sink.old)
         (K.state sink.new) }
-    ensures usage_only { result.number ≡ 2 → form_of words.now ≡ Option.None }
+    ensures usage_only { status_number result ≡ 2 → form_of words.now ≡ Option.None }
 
     // Status 0: the help text; or the source was read to its end, and the whole trace of the script's played run was
     // written, which is complete; or that of a run of the script on workers, which is complete and keeps the laws; or
@@ -60,43 +61,43 @@ pub fn camera_main<R: Threads + Wait + Clock + Sync, S: Source, K: Sink, G: Gate
     // complete legal run of the script that was read; or the trace that was read was written as one of version 2; or
     // the log of what clients ask, with their sessions; or the frames of the scenes that were read, with their trace;
     // or the joint run of two cameras of the script that was read; or the complete run of the plan that was read.
-    ensures help_done { form_of words.now ≡ Option.Some Form.Help → result.number ≡ 0
+    ensures help_done { form_of words.now ≡ Option.Some Form.Help → status_number result ≡ 0
         → Writes (K.state sink.old) (K.state sink.new) help_text }
-    ensures play_done { form_of words.now ≡ Option.Some Form.Play → result.number ≡ 0 → IsAtEnd (S.left source.new)
+    ensures play_done { form_of words.now ≡ Option.Some Form.Play → status_number result ≡ 0 → IsAtEnd (S.left source.new)
         × IfSome (S.left source.old) (λ input. IsWhole input (K.state sink.old) (K.state sink.new)) }
-    ensures run_done { (workers : ℕ) → form_of words.now ≡ Option.Some (Form.Run workers) → result.number ≡ 0
+    ensures run_done { (workers : ℕ) → form_of words.now ≡ Option.Some (Form.Run workers) → status_number result ≡ 0
         → IsAtEnd (S.left source.new)
         × IfSome (S.left source.old) (λ input. IsRunWhole input (K.state sink.old) (K.state sink.new)) }
-    ensures gen_done { (seed count : ℕ) → form_of words.now ≡ Option.Some (Form.Gen seed count) → result.number ≡ 0
+    ensures gen_done { (seed count : ℕ) → form_of words.now ≡ Option.Some (Form.Gen seed count) → status_number result ≡ 0
         → IsWholeRun Output.Summary (generated seed count) (K.state sink.old) (K.state sink.new) }
-    ensures check_done { form_of words.now ≡ Option.Some Form.Check → result.number ≡ 0 → IsAtEnd (S.left source.new)
+    ensures check_done { form_of words.now ≡ Option.Some Form.Check → status_number result ≡ 0 → IsAtEnd (S.left source.new)
         × IfSome (S.left source.old) (λ input. IsJudgedLegal input (K.state sink.old) (K.state sink.new)) }
-    ensures convert_done { form_of words.now ≡ Option.Some Form.Convert → result.number ≡ 0
+    ensures convert_done { form_of words.now ≡ Option.Some Form.Convert → status_number result ≡ 0
         → IsAtEnd (S.left source.new)
         × IfSome (S.left source.old) (λ input. IsConverted input (K.state sink.old) (K.state sink.new)) }
-    ensures arbiter_done { form_of words.now ≡ Option.Some Form.Arbiter → result.number ≡ 0
+    ensures arbiter_done { form_of words.now ≡ Option.Some Form.Arbiter → status_number result ≡ 0
         → IsAtEnd (S.left source.new)
         × IfSome (S.left source.old) (λ input. IsArbitrated input (K.state sink.old) (K.state sink.new)) }
-    ensures auto_done { form_of words.now ≡ Option.Some Form.Auto → result.number ≡ 0 → IsAtEnd (S.left source.new)
+    ensures auto_done { form_of words.now ≡ Option.Some Form.Auto → status_number result ≡ 0 → IsAtEnd (S.left source.new)
         × IfSome (S.left source.old) (λ input. IsCaptured input (K.state sink.old) (K.state sink.new)) }
-    ensures logical_done { form_of words.now ≡ Option.Some Form.Logical → result.number ≡ 0
+    ensures logical_done { form_of words.now ≡ Option.Some Form.Logical → status_number result ≡ 0
         → IsAtEnd (S.left source.new)
         × IfSome (S.left source.old) (λ input. IsLogicalWhole input (K.state sink.old) (K.state sink.new)) }
-    ensures reprocess_done { form_of words.now ≡ Option.Some Form.Reprocess → result.number ≡ 0
+    ensures reprocess_done { form_of words.now ≡ Option.Some Form.Reprocess → status_number result ≡ 0
         → IsAtEnd (S.left source.new)
         × IfSome (S.left source.old) (λ input. IsReprocessed input (K.state sink.old) (K.state sink.new)) }
-    ensures done_form { result.number ≡ 0 → is_some (form_of words.now) ≡ true }
+    ensures done_form { status_number result ≡ 0 → is_some (form_of words.now) ≡ true }
 
     // Other forms, and words of no form, leave the source as it is, and end with 0, 2, 4 or 5.
     ensures unread { is_some (limit_of (form_of words.now)) ≡ false → (S.left source.new ≡ S.left source.old)
-        × (S.faults source.new ≡ S.faults source.old) × (result.number ≢ 1) × (result.number ≢ 3) }
+        × (S.faults source.new ≡ S.faults source.old) × (status_number result ≢ 1) × (status_number result ≢ 3) }
     // The source's count of faults rose at 3 alone, and the sink's at 4 alone; at 3 and 5 nothing was written. At 0 a form
     // that reads has read the source to its end; where it has another answer, too, or there is more than the limit.
-    ensures source { CountsSource result.number (S.faults source.old) (S.faults source.new) }
-    ensures sink { CountsSink result.number (K.state sink.old) (K.state sink.new) }
-    ensures read { IfSome (limit_of (form_of words.now)) (λ limit. ReadsBy limit result.number (S.left source.old)
+    ensures source { CountsSource (status_number result) (S.faults source.old) (S.faults source.new) }
+    ensures sink { CountsSink (status_number result) (K.state sink.old) (K.state sink.new) }
+    ensures read { IfSome (limit_of (form_of words.now)) (λ limit. ReadsBy limit (status_number result) (S.left source.old)
         (S.left source.new)) }
-    ensures known { result.number ≤ 5 }
+    ensures known { status_number result ≤ 5 }
 {
     match form_of(words) {
         Some(Form::Play) => play_call(alloc, source, sink),
@@ -115,14 +116,14 @@ pub fn camera_main<R: Threads + Wait + Clock + Sync, S: Source, K: Sink, G: Gate
 
 /// Writes the usage line.
 fn usage<K: Sink>(sink: &mut K) -> Status
-    ensures { Answers 2 usage_line result.number (K.state sink.old) (K.state sink.new) }
+    ensures { Answers 2 usage_line (status_number result) (K.state sink.old) (K.state sink.new) }
 {
-    answer(sink, USAGE_LINE, Status::USAGE)
+    answer(sink, USAGE_LINE, Status::Usage)
 }
 
 /// Writes what the program does, and the usage line. It takes no memory.
 pub fn help_call<K: Sink>(sink: &mut K) -> Status
-    ensures { Answers 0 help_text result.number (K.state sink.old) (K.state sink.new) }
+    ensures { Answers 0 help_text (status_number result) (K.state sink.old) (K.state sink.new) }
 {
-    answer(sink, HELP_TEXT, Status::DONE)
+    answer(sink, HELP_TEXT, Status::Done)
 }

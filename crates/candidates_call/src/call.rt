@@ -1,13 +1,11 @@
 //! `candidates`: a script is read and played, and the candidates before each of its moves are written.
-ghost use Rattle.std.specs.Prelude.{◌≡◌, ◌≢◌, ◌≤◌, IfSome, IsTrue};
-ghost use Rattle.std.specs.Io.KnownBytes.{IsAtEnd};
-ghost use Rattle.cam_types.specs.Script.{is_valid};
-ghost use Rattle.call_parts.specs.Answers.{Tells, TellsBy};
-ghost use Rattle.call_parts.specs.Ends.{CountsSink, CountsSource, ReadsBy};
-ghost use Rattle.candidates_call.specs.Says.{IsWhole, Says, SaysOfScript};
+ghost use Rattle.call_parts.specs.Answers.{OnDone, Tells};
+ghost use Rattle.call_parts.specs.Ends.{KeepsEnds};
+ghost use Rattle.candidates_call.specs.Says.{IsWhole, Says};
+ghost use Rattle.call_parts.specs.Status.{status_number};
 
 use crate::opened::Opened;
-use call_parts::{ScriptWork, Status, answer_script};
+use call_parts::{ScriptInput, ScriptWork, Status, answer_input};
 use cam_types::{SCRIPT_BYTES, Script};
 use io_edge::{Sink, Source};
 use run_model::a_complete_run_keeps_the_laws;
@@ -23,7 +21,10 @@ impl ScriptWork for Candidates {
     ghost belongs = { λ _. SaysOfScript };
 
     fn answer_script<K: Sink>(&self, alloc: Global, script: Script, sink: &mut K) -> Status {
-        list_script(alloc, script, sink)
+        match Opened::new(alloc, script) {
+            Ok(opened) => opened.tell(sink),
+            Err(_) => Status::NoMemory,
+        }
     }
 
     fn keeps_the_law(&self) {}
@@ -34,30 +35,13 @@ impl ScriptWork for Candidates {
 pub fn candidates_call<S: Source, K: Sink>(alloc: Global, source: &mut S, sink: &mut K) -> Status
     // The headline: at status 0 the source was read to its end, its bytes spell a script, and what was written is the
     // whole text of the script's played run, which is complete and keeps the laws, and nothing else.
-    ensures whole { result.number ≡ 0 → IsAtEnd (S.left source.new)
-        × IfSome (S.left source.old) (λ input. IsWhole input (K.state sink.old) (K.state sink.new)) }
-    // Each status and each text has its cause in the input's meaning: where no end failed and memory was there, the
-    // status and the text are those that belong to it. At status 4 a front of that text is written.
-    ensures tells { Tells Says (S.left source.old) result.number (K.state sink.old) (K.state sink.new) }
-    // The source's count of faults rose at 3 alone, and the sink's at 4 alone; at 3 and 5 nothing was written. At 0 the
-    // source was read to its end; where there is another answer, too, or it has more than the limit.
-    ensures source { CountsSource result.number (S.faults source.old) (S.faults source.new) }
-    ensures sink { CountsSink result.number (K.state sink.old) (K.state sink.new) }
-    ensures read { ReadsBy SCRIPT_BYTES result.number (S.left source.old) (S.left source.new) }
-    ensures known { result.number ≤ 5 }
-    ensures no_usage { result.number ≢ 2 }
+    ensures whole { OnDone IsWhole (status_number result) (S.left source.old) (S.left source.new) (K.state sink.old)
+        (K.state sink.new) }
+    // Each status and each text has its cause in the input's meaning.
+    ensures tells { Tells Says (S.left source.old) (status_number result) (K.state sink.old) (K.state sink.new) }
+    ensures ends { KeepsEnds SCRIPT_BYTES (status_number result) (S.faults source.old) (S.faults source.new) (S.left source.old)
+        (S.left source.new) (K.state sink.old) (K.state sink.new) }
 {
     a_complete_run_keeps_the_laws();
-    answer_script(alloc, source, sink, &Candidates)
-}
-
-/// Writes the run of a script.
-fn list_script<K: Sink>(alloc: Global, script: Script, sink: &mut K) -> Status
-    requires { IsTrue (is_valid script) }
-    ensures { TellsBy (SaysOfScript script) result.number (K.state sink.old) (K.state sink.new) }
-{
-    match Opened::new(alloc, script) {
-        Ok(opened) => opened.tell(sink),
-        Err(_) => Status::NO_MEMORY,
-    }
+    answer_input(alloc, source, sink, SCRIPT_BYTES, &ScriptInput(Candidates))
 }

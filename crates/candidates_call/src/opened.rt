@@ -2,6 +2,7 @@
 ghost use Rattle.std.specs.Prelude.{◌≡◌, [], IfOk, IsTrue, false};
 ghost use Rattle.cam_types.specs.Script.{is_valid};
 ghost use Rattle.candidates_call.specs.Says.{ListsRun};
+ghost use Rattle.call_parts.specs.Status.{status_number};
 
 use crate::playing::tell_moves;
 use crate::teller::Teller;
@@ -60,7 +61,7 @@ impl Opened {
 
     /// Plays the run and tells it. It takes no memory: the status is 0, or 4 where the sink failed.
     pub(crate) fn tell<K: Sink>(self, sink: &mut K) -> Status
-        ensures { ListsRun self result.number (K.state sink.old) (K.state sink.new) }
+        ensures { ListsRun self (status_number result) (K.state sink.old) (K.state sink.new) }
     {
         let Opened {
             service,
@@ -83,7 +84,7 @@ fn tell_run<K: Sink>(
     requires service { service.history ≡ [] }
     requires hands { hands ≡ [] }
     requires teller { teller ≡ record { pieces = []; broken = false } }
-    ensures { ListsRun service.script result.number (K.state sink.old) (K.state sink.new) }
+    ensures { ListsRun service.script (status_number result) (K.state sink.old) (K.state sink.new) }
 {
     no_job_is_out_at_first();
     teller.put(b"candidates 1\n", sink);

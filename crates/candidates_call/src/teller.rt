@@ -3,6 +3,7 @@ ghost use Rattle.std.specs.Prelude.{◌≡◌, ℕ, IfOk, List, [], decimal, fal
 ghost use Rattle.call_parts.specs.Answers.{Answers};
 ghost use Rattle.io_edge.specs.States.{SinkState};
 ghost use Rattle.candidates_call.specs.Told.{IsTold, TellsMore};
+ghost use Rattle.call_parts.specs.Status.{status_number};
 
 use call_parts::Status;
 use cam_types::NoMemory;
@@ -53,14 +54,14 @@ impl Teller {
     /// Writes what is gathered. The status is 0, or 4 where the sink failed.
     pub(crate) fn finish<K: Sink>(mut self, sink: &mut K) -> Status
         ensures { (first : SinkState) (text : List ℕ) → IsTold self first (K.state sink.old) text
-            → Answers 0 text result.number first (K.state sink.new) }
+            → Answers 0 text (status_number result) first (K.state sink.new) }
     {
         if self.broken {
-            return Status::SINK_FAILED;
+            return Status::SinkFailed;
         }
         match self.pieces.flush(sink) {
-            Ok(()) => Status::DONE,
-            Err(_) => Status::SINK_FAILED,
+            Ok(()) => Status::Done,
+            Err(_) => Status::SinkFailed,
         }
     }
 }

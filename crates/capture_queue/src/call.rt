@@ -7,7 +7,7 @@ ghost use Rattle.trace_model.specs.declared.entry.Entry.TheVariants.{Call};
 ghost use Rattle.trace_model.specs.Calls.{command_at, is_repeat, word_of};
 ghost use Rattle.trace_model.specs.Queue.{is_clearing_word};
 ghost use Rattle.capture_queue.specs.Requests.{named};
-ghost use Rattle.state_facts.specs.Turns.{noted};
+ghost use Rattle.state_facts.specs.Turns.{turns_after};
 ghost use Rattle.capture_queue.specs.Views.{turns_of};
 ghost use Rattle.capture_queue.specs.Captures.{HasPlace};
 
@@ -62,7 +62,7 @@ pub(crate) fn submit(queue: &mut Queue, request: RequestId, command: &Command)
     requires { HasPlace (turns_of queue.old 0 0) command.now }
     ensures { (script : SomeScript) (n m i : ℕ) → command_at script i ≡ Option.Some command.now →
         turns_of queue.new n (request.0 + 1)
-        ≡ noted script (Call i (word_of command.now) (Submitted request)) (turns_of queue.old n m) }
+        ≡ turns_after script (Call i (word_of command.now) (Submitted request)) (turns_of queue.old n m) }
 {
     match command {
         Command::Once(item) => append_one(queue, request, *item),
@@ -75,7 +75,7 @@ pub(crate) fn submit(queue: &mut Queue, request: RequestId, command: &Command)
 /// Takes the list that repeats away, where an accepted command asks for it.
 pub(crate) fn clear(queue: &mut Queue, command: &Command)
     ensures { (script : SomeScript) (n m i : ℕ) → is_repeat (Option.Some command.now) ≡ false →
-        turns_of queue.new n m ≡ noted script (Call i (word_of command.now) Accepted) (turns_of queue.old n m) }
+        turns_of queue.new n m ≡ turns_after script (Call i (word_of command.now) Accepted) (turns_of queue.old n m) }
 {
     if is_clearing(command) {
         queue.clear_repeat();

@@ -8,7 +8,7 @@ ghost use Rattle.trace_model.specs.declared.entry.Entry.TheVariants.{Call, Dropp
 ghost use Rattle.trace_model.specs.declared.entry.Sent.{Sent as SomeSent};
 ghost use Rattle.trace_model.specs.Calls.{command_at, word_of};
 ghost use Rattle.trace_model.specs.Queue.{first_in};
-ghost use Rattle.state_facts.specs.Turns.{next_of, noted};
+ghost use Rattle.state_facts.specs.Turns.{next_of, turns_after};
 ghost use Rattle.capture_queue.specs.Captures.{CanTake, kinds_called, no_captures, with_turns};
 ghost use Rattle.capture_queue.specs.Room.{IsSubmitted};
 
@@ -124,7 +124,7 @@ impl CaptureQueue {
         requires numbered { self.old.turns.numbers + 1 < 2 ^ 32 }
         ensures { (script : SomeScript) (r : SomeRequest) (i : ℕ) (same : Bool) (targets : SomeFour SomeSent)
             (n : SomeFrame) → n.0 ≡ self.old.turns.numbers →
-            self.new ≡ with_turns (noted script (Send n r i same targets) self.old.turns) self.old }
+            self.new ≡ with_turns (turns_after script (Send n r i same targets) self.old.turns) self.old }
     {
         let _sent = self.queue.next();
         self.frames += 1;
@@ -135,7 +135,7 @@ impl CaptureQueue {
         requires some { IsSome (first_in self.old.turns.waiting) }
         requires numbered { self.old.turns.numbers + 1 < 2 ^ 32 }
         ensures { (script : SomeScript) (r : SomeRequest) (i : ℕ) (n : SomeFrame) → n.0 ≡ self.old.turns.numbers →
-            self.new ≡ with_turns (noted script (Dropped n r i) self.old.turns) self.old }
+            self.new ≡ with_turns (turns_after script (Dropped n r i) self.old.turns) self.old }
     {
         let _dropped = self.queue.drop_next();
         self.frames += 1;
@@ -148,7 +148,7 @@ impl CaptureQueue {
         requires place { CanTake self.old.turns command.now reply.now }
         requires room { IsSubmitted reply.now → length self.old.kinds < self.old.room }
         ensures turns { (script : SomeScript) (i : ℕ) → command_at script i ≡ Option.Some command.now →
-            self.new.turns ≡ noted script (Call i (word_of command.now) reply.now) self.old.turns }
+            self.new.turns ≡ turns_after script (Call i (word_of command.now) reply.now) self.old.turns }
         ensures kinds { self.new.kinds ≡ kinds_called command.now reply.now self.old.kinds }
         ensures room { self.new.room ≡ self.old.room }
     {

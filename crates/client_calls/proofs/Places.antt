@@ -1,11 +1,12 @@
 -- Four places that are filled from the first on, and the list of what is there.
-use Rattle.std.proofs.Common.{◌≡◌, ℕ, ◌+◌, ◌≤◌, true, List, [], ◌∷◌, Option, Some, None, refl, arith, zero, suc, length, slice_get, option_to_list, length-append}
+use Rattle.std.proofs.Common.{◌≡◌, ℕ, ◌+◌, ◌≤◌, true, Option, Some, None, refl, arith, length, slice_get, option_to_list, length-append}
 use Rattle.std.proofs.lemmas.Bool.{false≢true}
+use Rattle.std.proofs.lemmas.Option.{slice_get_past}
 use Rattle.std.specs.Prelude.{IsTrue}
+use Rattle.cam_types.proofs.Fours.{four-few}
 use Rattle.cam_types.specs.Four.{four_list}
 use Rattle.cam_types.specs.declared.four.Four.{Four}
 use Rattle.trace_model.specs.Printable.{is_filled}
-use Rattle.basic_lemmas.proofs.Options.{option-few}
 
 -- ---- the value at each place
 
@@ -51,19 +52,6 @@ at_3 None None (Some c) d h = absurd (false≢true h)
 at_3 None None None (Some d) h = absurd (false≢true h)
 at_3 None None None None h = refl
 
-past_end : {T : Type 0} (xs : List T) (i : ℕ) → length xs ≤ i → slice_get xs i ≡ None
-past_end [] i few = refl
-past_end (x ∷ xs) zero few = absurd (omega (arith, few))
-past_end (x ∷ xs) (suc i) few = past_end xs i (omega (arith, few))
-
-four_at_most : {T : Type 0} (f : Four T) → length (four_list f) ≤ 4
-four_at_most f =
-    let a = option-few f.a in
-    let b = option-few f.b in
-    let c = option-few f.c in
-    let d = option-few f.d in
-    rw (length-append (option_to_list f.a) _, length-append (option_to_list f.b) _, length-append (option_to_list f.c) _) (omega arith)
-
 pub first_place : {T : Type 0} (f : Four T) → IsTrue (is_filled f) → slice_get (four_list f) 0 ≡ f.a
 first_place f h = at_0 f.a f.b f.c f.d h
 
@@ -77,7 +65,7 @@ pub fourth_place : {T : Type 0} (f : Four T) → IsTrue (is_filled f) → slice_
 fourth_place f h = at_3 f.a f.b f.c f.d h
 
 pub no_place : {T : Type 0} (f : Four T) (i : ℕ) → 4 ≤ i → slice_get (four_list f) i ≡ None
-no_place f i l = let few = four_at_most f in past_end (four_list f) i (omega arith)
+no_place f i l = let few = four-few f in slice_get_past (four_list f) i (omega arith)
 
 -- how many are there
 pub length_four : {T : Type 0} (f : Four T) → length (four_list f) ≡ length (option_to_list f.a) + length (option_to_list f.b) + length (option_to_list f.c) + length (option_to_list f.d)

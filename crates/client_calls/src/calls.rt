@@ -3,7 +3,7 @@ ghost use Rattle.std.specs.Prelude.{◌≡◌, ◌==◌, ◌+◌, ◌<◌, ◌�
 ghost use Rattle.cam_types.specs.Profile.{is_profile};
 ghost use Rattle.state_facts.specs.Turns.{Turns as SomeTurns};
 ghost use Rattle.state_facts.specs.Homes.{Homes as SomeHomes};
-ghost use Rattle.state_facts.specs.Clients.{no_clients, noted, one_if, streams_called};
+ghost use Rattle.state_facts.specs.Clients.{no_clients, clients_after, one_if, streams_called};
 ghost use Rattle.state_facts.specs.Replies.{begin_in, call_in, may_repeat_in, stopping_in};
 ghost use Rattle.run_model.specs.Ready.{or_entry};
 ghost use Rattle.client_calls.specs.Around.{Fits, IsAround};
@@ -135,8 +135,8 @@ impl ClientCalls {
     /// one. `repeats` tells that the entry sends an item of a repeating list, `finishes` that the device is done with a
     /// frame of one by it. Other entries change nothing.
     pub fn note(&mut self, script: &Script, repeats: bool, finishes: bool, entry: &Entry)
-        requires { Fits (noted script.now repeats finishes entry.now self.old) }
-        ensures { self.new ≡ noted script.now repeats finishes entry.now self.old }
+        requires { Fits (clients_after script.now repeats finishes entry.now self.old) }
+        ensures { self.new ≡ clients_after script.now repeats finishes entry.now self.old }
     {
         match entry {
             Entry::Begin { word } => self.note_begin(*word),
@@ -168,7 +168,7 @@ impl ClientCalls {
     fn note_call(&mut self, script: &Script, index: u32, word: Word, reply: &Reply)
         requires counted { index + 1 < 2 ^ 32 }
         requires few { length (streams_called script.now index reply.now self.old.streams) ≤ 4 }
-        ensures { self.new ≡ noted script.now false false (Entry.Call index word reply.now) self.old }
+        ensures { self.new ≡ clients_after script.now false false (Entry.Call index word reply.now) self.old }
     {
         self.calls = index + 1;
         self.begun = None;

@@ -8,7 +8,7 @@ use Rattle.cam_types.specs.declared.row.TargetState.TheVariants.{Waiting}
 use Rattle.cam_types.specs.declared.row.TargetView.{TargetView}
 use Rattle.cam_types.specs.declared.script.Fault.{Fault}
 use Rattle.device_rows.specs.Kept.{has_made_fence, have_made_fences, is_made}
-use Rattle.device_rows.specs.Ready.{is_fill_ready, is_home, is_passed, is_sound, is_state, may_fill, passes_at, target_passes}
+use Rattle.device_rows.specs.Ready.{is_fill_ready, is_home, is_passed, is_sound, is_same_state, may_fill, passes_at, target_passes}
 use Rattle.device_rows.specs.Rows.{row_at, target_at}
 use Rattle.device_store.specs.Steps.{has_made, is_fillable, is_open_to}
 use Rattle.device_store.proofs.General.{find-passes}
@@ -40,8 +40,8 @@ made_target k n s rows q all h = made_in k n s rows (row_at n rows) q all refl h
 
 fillable_one : (faults : List Fault) (signalled : ℕ → Bool) (row : RowView) (t : TargetView) → may_fill faults signalled row t ≡ true → is_fillable row t ≡ true
 fillable_one faults signalled row t h =
-    let a = and_parts (is_sound faults row t && is_state t.state Waiting) (is_home row.sensor && is_passed signalled t.fence) h in
-    let b = and_parts (is_sound faults row t) (is_state t.state Waiting) a.0 in
+    let a = and_parts (is_sound faults row t && is_same_state t.state Waiting) (is_home row.sensor && is_passed signalled t.fence) h in
+    let b = and_parts (is_sound faults row t) (is_same_state t.state Waiting) a.0 in
     let c = and_parts (is_home row.sensor) (is_passed signalled t.fence) a.1 in
     rw (b.1, c.0) refl
 
@@ -50,8 +50,8 @@ fillable faults signalled rows n s h = target_passes_less (may_fill faults signa
 
 open_one : (faults : List Fault) (fences : FencesMade) (row : RowView) (t : TargetView) → may_fill faults (λ f. is_signalled f fences) row t ≡ true → has_made_fence (made fences) t ≡ true → is_open_to fences row t ≡ true
 open_one faults fences row t h m =
-    let a = and_parts (is_sound faults row t && is_state t.state Waiting) (is_home row.sensor && is_passed (λ f. is_signalled f fences) t.fence) h in
-    let b = and_parts (is_sound faults row t) (is_state t.state Waiting) a.0 in
+    let a = and_parts (is_sound faults row t && is_same_state t.state Waiting) (is_home row.sensor && is_passed (λ f. is_signalled f fences) t.fence) h in
+    let b = and_parts (is_sound faults row t) (is_same_state t.state Waiting) a.0 in
     let c = and_parts (is_home row.sensor) (is_passed (λ f. is_signalled f fences) t.fence) a.1 in
     let own : is_made (made fences) t.fence ≡ true = rw b.1 at m in
     rw (own, c.1) refl

@@ -2,7 +2,7 @@
 
 ghost use Rattle.std.specs.Prelude.{◌≡◌, ◌↔◌, ◌&&◌, None, Some, IfSome, IsNone, IsSome, IsTrue};
 ghost use Rattle.std.specs.Option.{option_map};
-ghost use Rattle.device_rows.specs.Ready.{is_delivery_ready, is_early_ready, is_state, may_return, target_passes};
+ghost use Rattle.device_rows.specs.Ready.{is_delivery_ready, is_early_ready, is_same_state, may_return, target_passes};
 ghost use Rattle.device_rows.specs.Rows.{delivered, gone_early, row_at, target_in, with_row};
 ghost use Rattle.device_store.specs.Steps.{ShowsAt};
 ghost use Rattle.device_store.specs.Stored.{specs_of};
@@ -10,7 +10,7 @@ ghost use Rattle.device_core.specs.View.{with_rows};
 
 use crate::device::Device;
 use cam_types::{BufferId, Fault, FrameNo, PixelBuf, RowView, StreamIx, TargetState, TargetView};
-use device_rows::{is_sound, is_state, target_at};
+use device_rows::{is_same_state, is_sound, target_at};
 use device_store::Store;
 
 impl Device {
@@ -63,7 +63,7 @@ impl Device {
     /// Whether a target is in the state, and its buffer may come back with its picture, or early.
     fn may_come_from(&self, state: TargetState, frame: FrameNo, stream: StreamIx) -> bool
         ensures { result ≡ target_passes
-            (λ row target. is_state target.state state && may_return self.now.faults self.now.rows row target)
+            (λ row target. is_same_state target.state state && may_return self.now.faults self.now.rows row target)
             stream.0 (row_at frame.0 self.now.rows) }
     {
         let Some(row) = self.store.view(frame) else {
@@ -72,7 +72,7 @@ impl Device {
         let Some(target) = target_at(row, stream) else {
             return false;
         };
-        is_state(target.state, state)
+        is_same_state(target.state, state)
             && may_return(&self.store, self.faults.as_slice(), row, target)
     }
 }

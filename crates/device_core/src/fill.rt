@@ -13,7 +13,7 @@ ghost use Rattle.device_core.specs.View.{with_rows};
 use crate::device::Device;
 use buffer_pool::Fences;
 use cam_types::{Fault, FenceNo, FrameNo, RowView, StreamIx, TargetState, TargetView};
-use device_rows::{is_home, is_sound, is_state, target_at};
+use device_rows::{is_home, is_same_state, is_sound, target_at};
 use fill_jobs::FillJob;
 
 impl Device {
@@ -84,6 +84,6 @@ fn is_passed(fence: Option<FenceNo>, fences: &Fences) -> bool
 fn may_fill(faults: &[Fault], row: RowView, target: TargetView, fences: &Fences) -> bool
     ensures { result ≡ may_fill faults.now (λ f. is_signalled f fences.now) row target }
 {
-    (is_sound(faults, row, target) && is_state(target.state, TargetState::Waiting))
+    (is_sound(faults, row, target) && is_same_state(target.state, TargetState::Waiting))
         && (is_home(row.sensor) && is_passed(target.fence, fences))
 }

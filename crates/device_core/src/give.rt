@@ -12,7 +12,7 @@ ghost use Rattle.device_core.specs.View.{with_rows};
 use crate::device::Device;
 use buffer_pool::{Fences, Parked};
 use cam_types::{FrameNo, PixelBuf, StreamIx, TargetState};
-use device_rows::{is_state, may_return_failed, target_at};
+use device_rows::{is_same_state, may_return_failed, target_at};
 
 impl Device {
     /// Whether `finish` gives the buffer of a target.
@@ -25,7 +25,7 @@ impl Device {
         let Some(target) = target_at(row, stream) else {
             return false;
         };
-        is_state(target.state, TargetState::EarlyFilled)
+        is_same_state(target.state, TargetState::EarlyFilled)
     }
 
     /// Whether `return_failed` gives the buffer of a target back.

@@ -1,4 +1,4 @@
-//! The metadata results of a frame.
+//! The partial results of a frame.
 
 ghost use Rattle.std.specs.Prelude.{◌≡◌, IfSome, IsNone};
 ghost use Rattle.device_rows.specs.Ready.{may_be_last, may_send_part, next_part};
@@ -6,14 +6,14 @@ ghost use Rattle.device_rows.specs.Rows.{with_part, with_row};
 ghost use Rattle.device_core.specs.View.{with_rows};
 
 use crate::device::Device;
-use cam_types::{Fault, FrameNo, Part, RowView};
+use cam_types::{Fault, FrameNo, PartialResult, RowView};
 use device_rows::{has_request_fault, has_result_fault};
 use device_store::Store;
 use metadata_rules::part;
 
 impl Device {
-    /// The metadata result that `partial` gives of a frame. None exactly where it gives none.
-    pub fn part_due(&self, frame: FrameNo) -> Option<(u8, Part)>
+    /// The partial result that `partial` gives of a frame. None exactly where it gives none.
+    pub fn part_due(&self, frame: FrameNo) -> Option<(u8, PartialResult)>
         ensures { result ≡ next_part self.now.faults self.now.rows frame.0 }
     {
         let row = self.store.view(frame)?;
@@ -25,10 +25,10 @@ impl Device {
         Some((number, part(number, row.settings, time)))
     }
 
-    /// Gives the next metadata result of a frame: its number and its part. None exactly where it isn't exposed, its
+    /// Gives the next partial result of a frame: its number and its part. None exactly where it isn't exposed, its
     /// metadata has ended, it fails whole or will, or the part is the last and it shall lack it or the metadata of an
     /// earlier frame hasn't ended.
-    pub fn partial(&mut self, frame: FrameNo) -> Option<(u8, Part)>
+    pub fn partial(&mut self, frame: FrameNo) -> Option<(u8, PartialResult)>
         ensures part { result ≡ next_part self.old.faults self.old.rows frame.0 }
         ensures rows { IfSome result
             (λ sent. self.new ≡ with_rows (with_row frame.0 (with_part sent.0) self.old.rows) self.old) }

@@ -6,7 +6,7 @@ use Rattle.cam_types.specs.declared.four.Four.{Four}
 use Rattle.cam_types.specs.declared.number.FrameNo.{FrameNo}
 use Rattle.cam_types.specs.declared.row.RowView.{RowView}
 use Rattle.device_rows.specs.declared.mark.Mark.{Mark}
-use Rattle.device_rows.specs.declared.mark.Mark.TheVariants.{Shutter, Part, RequestError, ResultError, Announced, Target, Sensor, Stopped}
+use Rattle.device_rows.specs.declared.mark.Mark.TheVariants.{Shutter, PartialResult, RequestError, ResultError, Announced, Target, Sensor, Stopped}
 use Rattle.device_rows.specs.declared.table_row.Row.{Row}
 use Rattle.device_rows.specs.Marks.{marked}
 use Rattle.device_rows.specs.Inside.Kept.{IsKept}
@@ -21,7 +21,7 @@ mk view parked = record { view = view; parked = parked }
 -- no mark changes which frame the row is of
 frame-marked : (mark : Mark) (view : RowView) → (marked mark view).frame ≡ view.frame
 frame-marked (Shutter time) view = refl
-frame-marked (Part parts) view = refl
+frame-marked (PartialResult parts) view = refl
 frame-marked RequestError view = refl
 frame-marked ResultError view = refl
 frame-marked (Announced stream) view = refl

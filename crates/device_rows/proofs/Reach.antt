@@ -8,7 +8,7 @@ use Rattle.cam_types.specs.declared.four.Four.{Four}
 use Rattle.cam_types.specs.declared.row.RowView.{RowView}
 use Rattle.cam_types.specs.declared.row.TargetView.{TargetView}
 use Rattle.device_rows.specs.declared.mark.Mark.{Mark}
-use Rattle.device_rows.specs.declared.mark.Mark.TheVariants.{Shutter, Part, RequestError, ResultError, Announced, Target, Sensor, Stopped}
+use Rattle.device_rows.specs.declared.mark.Mark.TheVariants.{Shutter, PartialResult, RequestError, ResultError, Announced, Target, Sensor, Stopped}
 use Rattle.device_rows.specs.declared.table_row.Row.{Row}
 use Rattle.device_rows.specs.Marks.{as_announced, if_of_stream, in_state, marked, with_target}
 use Rattle.device_rows.specs.TableRows.{are_apart, are_both, has_place, is_apart, is_at_target, is_cleared, is_for, is_in_reach, is_one_each, is_sound, parked_at, parked_for, placed_at}
@@ -181,7 +181,7 @@ sound-changed s change targets parked keeps sound =
 
 sound-mark : {B : Type 0} (mark : Mark) (view : RowView) (parked : Four B) → is_in_reach view.targets parked ≡ true → is_in_reach (marked mark view).targets parked ≡ true
 sound-mark (Shutter time) view parked h = h
-sound-mark (Part parts) view parked h = h
+sound-mark (PartialResult parts) view parked h = h
 sound-mark RequestError view parked h = h
 sound-mark ResultError view parked h = h
 sound-mark (Announced stream) view parked h = sound-changed stream.0 as_announced view.targets parked (λ u. refl) h

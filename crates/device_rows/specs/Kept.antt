@@ -7,7 +7,7 @@ use Rattle.cam_types.specs.declared.row.SensorPlace.{SensorPlace}
 use Rattle.cam_types.specs.declared.row.SensorPlace.TheVariants.{NotYet, WithFill}
 use Rattle.cam_types.specs.declared.row.TargetState.TheVariants.{Waiting}
 use Rattle.cam_types.specs.declared.row.TargetView.{TargetView}
-use Rattle.device_rows.specs.Ready.{is_state}
+use Rattle.device_rows.specs.Ready.{is_same_state}
 
 -- What the device's rows meet: as it admits them, and ever after.
 
@@ -20,7 +20,7 @@ is_with_fill WithFill = true
 is_with_fill _ = false
 
 abbrev pub is_fresh_target : TargetView → Bool
-is_fresh_target target = is_state target.state Waiting && not target.announced
+is_fresh_target target = is_same_state target.state Waiting && not target.announced
 
 -- a row as it is just sent: nothing of it began
 abbrev pub is_fresh : RowView → Bool
@@ -44,7 +44,7 @@ is_made made None = true
 
 -- a buffer that waits has the waiter of such a fence
 abbrev pub has_made_fence : ℕ → TargetView → Bool
-has_made_fence made target = not (is_state target.state Waiting) || is_made made target.fence
+has_made_fence made target = not (is_same_state target.state Waiting) || is_made made target.fence
 
 abbrev pub have_made_fences : ℕ → RowView → Bool
 have_made_fences made row = list_all (has_made_fence made) (four_list row.targets)

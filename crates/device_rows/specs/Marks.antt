@@ -4,7 +4,7 @@ use Rattle.cam_types.specs.declared.row.RowView.{RowView}
 use Rattle.cam_types.specs.declared.row.TargetState.{TargetState}
 use Rattle.cam_types.specs.declared.row.TargetView.{TargetView}
 use Rattle.device_rows.specs.declared.mark.Mark.{Mark}
-use Rattle.device_rows.specs.declared.mark.Mark.TheVariants.{Shutter, Part, RequestError, ResultError, Announced, Target, Sensor, Stopped}
+use Rattle.device_rows.specs.declared.mark.Mark.TheVariants.{Shutter, PartialResult, RequestError, ResultError, Announced, Target, Sensor, Stopped}
 
 -- What a mark changes in a row: the one field that it names (our own choice).
 
@@ -30,7 +30,7 @@ in_state state target = record target { state = state }
 
 abbrev pub marked : Mark → RowView → RowView
 marked (Shutter time) row = record row { shutter = Some time }
-marked (Part parts) row = record row { parts = parts }
+marked (PartialResult parts) row = record row { parts = parts }
 marked RequestError row = record row { request_error = true }
 marked ResultError row = record row { result_error = true }
 marked (Announced stream) row = record row { targets = with_target stream.0 as_announced row.targets }

@@ -2,7 +2,7 @@ use Rattle.std.specs.Prelude.{ℕ, ◌==◌, ◌+◌, Bool, true, false, ◌&&�
 use Rattle.cam_types.specs.Metadata.{part_at}
 use Rattle.cam_types.specs.Rows.{awaits_metadata, is_open}
 use Rattle.cam_types.specs.declared.number.FenceNo.{FenceNo}
-use Rattle.cam_types.specs.declared.part.Part.{Part}
+use Rattle.cam_types.specs.declared.partial_result.PartialResult.{PartialResult}
 use Rattle.cam_types.specs.declared.row.RowView.{RowView}
 use Rattle.cam_types.specs.declared.row.SensorPlace.{SensorPlace}
 use Rattle.cam_types.specs.declared.row.SensorPlace.TheVariants.{Out as SensorOut, Home}
@@ -54,27 +54,27 @@ may_send_part faults rows row =
     (awaits_metadata row && not (fault_of_request faults row.frame.0))
     && (not (row.parts == 2) || may_be_last faults rows row)
 
-abbrev pub part_with : List Fault → List RowView → RowView → Option ℕ → Option (ℕ × Part)
+abbrev pub part_with : List Fault → List RowView → RowView → Option ℕ → Option (ℕ × PartialResult)
 part_with faults rows row (Some time) =
     if may_send_part faults rows row then Some (row.parts + 1, part_at (row.parts + 1) row.settings time) else None
 part_with faults rows row None = None
 
-abbrev pub part_of : List Fault → List RowView → Option RowView → Option (ℕ × Part)
-part_of faults rows (Some row) = part_with faults rows row row.shutter
-part_of faults rows None = None
+abbrev pub partial_of : List Fault → List RowView → Option RowView → Option (ℕ × PartialResult)
+partial_of faults rows (Some row) = part_with faults rows row row.shutter
+partial_of faults rows None = None
 
 -- the number of the part of frame n that may be sent, and what it says
-abbrev pub next_part : List Fault → List RowView → ℕ → Option (ℕ × Part)
-next_part faults rows n = part_of faults rows (row_at n rows)
+abbrev pub next_part : List Fault → List RowView → ℕ → Option (ℕ × PartialResult)
+next_part faults rows n = partial_of faults rows (row_at n rows)
 
 -- ---- buffers (camera3.h, process_capture_result; camera3_stream_buffer, acquire_fence)
 
-abbrev pub is_state : TargetState → TargetState → Bool
-is_state Waiting Waiting = true
-is_state Out Out = true
-is_state Filled Filled = true
-is_state EarlyFilled EarlyFilled = true
-is_state _ _ = false
+abbrev pub is_same_state : TargetState → TargetState → Bool
+is_same_state Waiting Waiting = true
+is_same_state Out Out = true
+is_same_state Filled Filled = true
+is_same_state EarlyFilled EarlyFilled = true
+is_same_state _ _ = false
 
 abbrev pub is_home : SensorPlace → Bool
 is_home Home = true
@@ -107,7 +107,7 @@ target_passes test s None = false
 -- a stage may take the buffer: it waits, the readout is home, and the acquire fence is passed
 abbrev pub may_fill : List Fault → (ℕ → Bool) → RowView → TargetView → Bool
 may_fill faults signalled row target =
-    (is_sound faults row target && is_state target.state Waiting)
+    (is_sound faults row target && is_same_state target.state Waiting)
     && (is_home row.sensor && is_passed signalled target.fence)
 
 abbrev pub is_fill_ready : List Fault → (ℕ → Bool) → List RowView → ℕ → ℕ → Bool
@@ -120,21 +120,21 @@ may_return faults rows row target =
     && each_below row.frame.0 (λ other. not (holds_back target.stream.0 other)) rows
 
 abbrev pub may_deliver : List Fault → List RowView → RowView → TargetView → Bool
-may_deliver faults rows row target = is_state target.state Filled && may_return faults rows row target
+may_deliver faults rows row target = is_same_state target.state Filled && may_return faults rows row target
 
 abbrev pub is_delivery_ready : List Fault → List RowView → ℕ → ℕ → Bool
 is_delivery_ready faults rows n s = target_passes (may_deliver faults rows) s (row_at n rows)
 
 -- early: while a stage fills it
 abbrev pub may_go_early : List Fault → List RowView → RowView → TargetView → Bool
-may_go_early faults rows row target = is_state target.state Out && may_return faults rows row target
+may_go_early faults rows row target = is_same_state target.state Out && may_return faults rows row target
 
 abbrev pub is_early_ready : List Fault → List RowView → ℕ → ℕ → Bool
 is_early_ready faults rows n s = target_passes (may_go_early faults rows) s (row_at n rows)
 
 -- the picture of a buffer that came back early is there
 abbrev pub is_finish_ready : List RowView → ℕ → ℕ → Bool
-is_finish_ready rows n s = target_passes (λ row target. is_state target.state EarlyFilled) s (row_at n rows)
+is_finish_ready rows n s = target_passes (λ row target. is_same_state target.state EarlyFilled) s (row_at n rows)
 
 -- ---- errors (camera3.h, S6 and flush)
 
@@ -160,7 +160,7 @@ next_error faults rows n = if fails_device_at faults rows n then Some Device els
 abbrev pub may_return_failed : RowView → TargetView → Bool
 may_return_failed row target =
     (row.request_error || target.announced)
-    && (not (is_sensor_out row.sensor) && (is_state target.state Waiting || is_state target.state Filled))
+    && (not (is_sensor_out row.sensor) && (is_same_state target.state Waiting || is_same_state target.state Filled))
 
 abbrev pub is_failed_return_ready : List RowView → ℕ → ℕ → Bool
 is_failed_return_ready rows n s = target_passes may_return_failed s (row_at n rows)

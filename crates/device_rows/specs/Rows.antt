@@ -9,7 +9,7 @@ use Rattle.cam_types.specs.declared.row.TargetState.TheVariants.{Out, Filled, Re
 use Rattle.cam_types.specs.declared.row.TargetView.{TargetView}
 use Rattle.device_rows.specs.declared.entry.ErrorEntry.{ErrorEntry}
 use Rattle.device_rows.specs.declared.entry.ErrorEntry.TheVariants.{Request, Result, Buffer, Device}
-use Rattle.device_rows.specs.declared.mark.Mark.TheVariants.{Shutter, Part, RequestError, ResultError, Announced, Target, Sensor, Stopped}
+use Rattle.device_rows.specs.declared.mark.Mark.TheVariants.{Shutter, PartialResult, RequestError, ResultError, Announced, Target, Sensor, Stopped}
 use Rattle.device_rows.specs.Marks.{marked}
 
 -- The rows of the open frames, the oldest first, and what each of the device's steps makes of them. Each step changes
@@ -44,9 +44,9 @@ exposed time row = marked (Sensor SensorOut) (marked (Shutter time) row)
 abbrev pub sensor_home : RowView → RowView
 sensor_home row = marked (Sensor Home) row
 
--- metadata result k is sent (camera3.h, camera3_capture_result.partial_result)
+-- partial result k is sent (camera3.h, camera3_capture_result.partial_result)
 abbrev pub with_part : ℕ → RowView → RowView
-with_part k row = marked (Part k) row
+with_part k row = marked (PartialResult k) row
 
 -- a stage takes the buffer, and the readout with it
 abbrev pub fill_begun : StreamIx → RowView → RowView

@@ -25,7 +25,7 @@ pub use flush_laws::{a_stop_leaves_nothing_out, no_error_without_a_cause};
 pub use mark::Mark;
 pub use next::next_error;
 pub use order_row::holds_back;
-pub use ready::{is_home, is_sensor_out, is_sound, is_state, may_expose, may_return_failed};
+pub use ready::{is_home, is_same_state, is_sensor_out, is_sound, may_expose, may_return_failed};
 pub use table::Table;
 pub use table_laws::what_is_parked_is_in_reach;
 pub use table_row::Row;

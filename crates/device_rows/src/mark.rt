@@ -9,8 +9,8 @@ use cam_types::{Four, RowView, SensorPlace, StreamIx, TargetState, TargetView};
 pub enum Mark {
     /// The time of the shutter, in nanoseconds.
     Shutter(u64),
-    /// How many metadata results were sent.
-    Part(u8),
+    /// How many partial results were sent.
+    PartialResult(u8),
     RequestError,
     ResultError,
     /// The error of the stream's buffer was announced.
@@ -30,7 +30,7 @@ pub(crate) fn marked(mark: Mark, row: RowView) -> RowView
             shutter: Some(time),
             ..row
         },
-        Mark::Part(parts) => RowView { parts, ..row },
+        Mark::PartialResult(parts) => RowView { parts, ..row },
         Mark::RequestError => RowView {
             request_error: true,
             ..row

@@ -1,6 +1,6 @@
 //! Which step a row is ready for.
 ghost use Rattle.std.specs.Prelude.{◌≡◌, ◌&&◌, ◌||◌, not};
-ghost use Rattle.device_rows.specs.Ready.{is_home, is_sensor_out, is_sound, is_state, may_expose, may_return_failed};
+ghost use Rattle.device_rows.specs.Ready.{is_home, is_sensor_out, is_sound, is_same_state, may_expose, may_return_failed};
 
 use crate::fault::{has_buffer_fault, has_device_fault, has_request_fault};
 use cam_types::{Fault, RowView, SensorPlace, TargetState, TargetView};
@@ -21,8 +21,8 @@ pub fn is_sound(faults: &[Fault], row: RowView, target: TargetView) -> bool
 }
 
 /// Whether a buffer is in the state.
-pub fn is_state(state: TargetState, wanted: TargetState) -> bool
-    ensures { result ≡ is_state state wanted }
+pub fn is_same_state(state: TargetState, wanted: TargetState) -> bool
+    ensures { result ≡ is_same_state state wanted }
 {
     matches!(
         (state, wanted),
@@ -54,6 +54,6 @@ pub fn may_return_failed(row: RowView, target: TargetView) -> bool
 {
     (row.request_error || target.announced)
         && (!is_sensor_out(row.sensor)
-            && (is_state(target.state, TargetState::Waiting)
-                || is_state(target.state, TargetState::Filled)))
+            && (is_same_state(target.state, TargetState::Waiting)
+                || is_same_state(target.state, TargetState::Filled)))
 }

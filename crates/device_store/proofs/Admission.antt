@@ -18,7 +18,7 @@ use Rattle.cam_types.specs.declared.row.TargetState.TheVariants.{Waiting, Out, F
 use Rattle.cam_types.specs.declared.row.TargetView.{TargetView}
 use Rattle.cam_types.specs.declared.stream.StreamSpec.{StreamSpec}
 use Rattle.device_rows.specs.Kept.{is_fresh, is_fresh_target, is_not_yet, rise_from}
-use Rattle.device_rows.specs.Ready.{is_state}
+use Rattle.device_rows.specs.Ready.{is_same_state}
 use Rattle.device_store.specs.declared.buffers.Held.{Held}
 use Rattle.device_store.specs.declared.readouts.Slot.{Slot}
 use Rattle.device_store.specs.declared.readouts.Slot.TheVariants.{Spare}
@@ -86,7 +86,7 @@ one-each specs targets parked h =
 
 -- ---- what is held for a fresh row
 
-state-waiting : (state : TargetState) → is_state state Waiting ≡ true → state ≡ Waiting
+state-waiting : (state : TargetState) → is_same_state state Waiting ≡ true → state ≡ Waiting
 state-waiting Waiting h = refl
 state-waiting Out h = absurd (false≢true h)
 state-waiting Filled h = absurd (false≢true h)
@@ -103,7 +103,7 @@ fresh-at : (specs : List StreamSpec) (row : RowView) (o : Option TargetView) (re
 fresh-at specs row None rest h = (refl, h)
 fresh-at specs row (Some t) rest h =
     let parts = and_parts (is_fresh_target t) (list_all is_fresh_target rest) h in
-    let own = and_parts (is_state t.state Waiting) (not t.announced) parts.0 in
+    let own = and_parts (is_same_state t.state Waiting) (not t.announced) parts.0 in
     (rw (state-waiting t.state own.0) (held-waiting row t (slice_get specs t.stream.0)), parts.1)
 
 fresh-in : (specs : List StreamSpec) (row : RowView) → list_all is_fresh_target (four_list row.targets) ≡ true → held_in specs row ≡ waiting_in specs row.targets
@@ -123,12 +123,12 @@ sensor-not_yet WithFill h = absurd (false≢true h)
 
 fresh-waits : (t : TargetView) → is_fresh_target t ≡ true → waits t ≡ true
 fresh-waits t h =
-    let own = and_parts (is_state t.state Waiting) (not t.announced) h in
+    let own = and_parts (is_same_state t.state Waiting) (not t.announced) h in
     rw (state-waiting t.state own.0) refl
 
 fresh-unbegun : (t : TargetView) → is_fresh_target t ≡ true → is_unbegun t ≡ true
 fresh-unbegun t h =
-    let own = and_parts (is_state t.state Waiting) (not t.announced) h in
+    let own = and_parts (is_same_state t.state Waiting) (not t.announced) h in
     rw (state-waiting t.state own.0) own.1
 
 -- what a fresh row says

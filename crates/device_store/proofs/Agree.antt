@@ -3,7 +3,7 @@ use Rattle.std.proofs.Common.{◌≡◌, ℕ, ◌+◌, ◌==◌, Bool, true, fal
 use Rattle.std.specs.List.{list_all, list_any}
 use Rattle.std.proofs.lemmas.Bool.{and_parts, both_ways, cases_Bool, false≢true}
 use Rattle.std.proofs.lemmas.Bool.Decides.{nat_tests}
-use Rattle.basic_lemmas.proofs.Lists.{all-agree, all-mapped, any-mapped, any-agree}
+use Rattle.basic_lemmas.proofs.Lists.{all-agree, all-found, all-mapped, any-agree, any-mapped}
 use Rattle.cam_types.specs.Four.{four_list}
 use Rattle.cam_types.specs.Metadata.{range_fault}
 use Rattle.cam_types.specs.declared.number.StreamIx.{StreamIx}
@@ -21,7 +21,7 @@ use Rattle.device_store.specs.Kept.{agree, agree_at, fills_out, is_kept, is_kept
 use Rattle.device_store.specs.Stored.{is_some_target, rises}
 use Rattle.device_rows.specs.Marks.{as_announced, in_state, marked, with_target}
 use Rattle.device_rows.specs.declared.mark.Mark.TheVariants.{Announced, RequestError, Target}
-use Rattle.device_store.proofs.General.{kept-at, count-at, find-passes}
+use Rattle.device_store.proofs.General.{kept-at, count-at}
 use Rattle.device_store.proofs.Targets.{four-mapped, rise-mapped, stream_number, streams-rise}
 use Rattle.basic_lemmas.proofs.Options.{is-none}
 
@@ -117,12 +117,12 @@ pub agree-moved : (place : SensorPlace) (row : RowView) (s : StreamIx) (st : Tar
 agree-moved NotYet row s st t order found moved same agrees =
     let parts = and_parts (is_none row.shutter) (list_all is_unbegun (four_list row.targets) && (row.request_error || list_all waits (four_list row.targets))) agrees in
     let later = and_parts (list_all is_unbegun (four_list row.targets)) (row.request_error || list_all waits (four_list row.targets)) parts.1 in
-    let own = find-passes (λ u. u.stream.0 == s.0) is_unbegun (four_list row.targets) t later.0 found in
+    let own = all-found is_unbegun (λ u. u.stream.0 == s.0) (four_list row.targets) t later.0 found in
     absurd (both_ways (is_kept_back t.state) moved (and_parts (is_kept_back t.state) (not t.announced) own).0)
 agree-moved SensorOut row s st t order found moved same agrees =
     let parts = and_parts (is_some row.shutter) (list_any waits (four_list row.targets) && list_all waits (four_list row.targets)) agrees in
     let later = and_parts (list_any waits (four_list row.targets)) (list_all waits (four_list row.targets)) parts.1 in
-    let own = find-passes (λ u. u.stream.0 == s.0) waits (four_list row.targets) t later.1 found in
+    let own = all-found waits (λ u. u.stream.0 == s.0) (four_list row.targets) t later.1 found in
     absurd (both_ways (is_kept_back t.state) moved (waiting-back t.state own))
 agree-moved Home row s st t order found moved same agrees =
     let count = same-count (fills_out (marked (Target s st) row)) (fills_out row) (is_fill_out t.state) (is_fill_out st) same (fills-changed row s st t order found) in
@@ -141,7 +141,7 @@ pub agree-failed : (place : SensorPlace) (row : RowView) (s : StreamIx) (t : Tar
 agree-failed NotYet row s t order found in' cause here agrees =
     let parts = and_parts (is_none row.shutter) (list_all is_unbegun (four_list row.targets) && (row.request_error || list_all waits (four_list row.targets))) agrees in
     let later = and_parts (list_all is_unbegun (four_list row.targets)) (row.request_error || list_all waits (four_list row.targets)) parts.1 in
-    let own = find-passes (λ u. u.stream.0 == s.0) is_unbegun (four_list row.targets) t later.0 found in
+    let own = all-found is_unbegun (λ u. u.stream.0 == s.0) (four_list row.targets) t later.0 found in
     let own' = and_parts (is_kept_back t.state) (not t.announced) own in
     let failed = failed-back row.request_error t.announced cause own'.1 in
     let still : is_unbegun (in_state ReturnedFailed t) ≡ true = own'.1 in

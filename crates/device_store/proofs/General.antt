@@ -6,16 +6,10 @@ use Rattle.std.proofs.lemmas.Bool.Decides.{nat_tests}
 use Rattle.std.proofs.lemmas.Grind.{common_steps}
 use Rattle.std.specs.Option.{option_map}
 use Rattle.device_store.specs.Stored.{rises}
-use Rattle.basic_lemmas.proofs.Lists.{all-agree, all-append, all-filtered, all-mapped, map-where, all-at}
+use Rattle.basic_lemmas.proofs.Lists.{all-agree, all-append, all-filtered, all-mapped, map-where, all-at, all-found}
 
 pub find-passes : {X : Type 0} (p : X → Bool) (t : X → Bool) (xs : List X) (x : X) → list_all t xs ≡ true → find p xs ≡ Some x → t x ≡ true
-find-passes p t [] x all h = absurd (cc)
-find-passes p t (y ∷ xs) x all h =
-    let parts = and_parts (t y) (list_all t xs) all in
-    elim (cases_Bool (p y)) [
-      | inl here ↦ (let h' = rw here at h in let same : y ≡ x = cc in rw same at parts.0)
-      | inr other ↦ (let h' = rw other at h in find-passes p t xs x parts.1 h')
-    ]
+find-passes p t xs x all h = all-found t p xs x all h
 
 -- what is left from a place on, by what stands there
 pub drop-here : {X : Type 0} (xs : List X) (i : ℕ) (x : X) → slice_get xs i ≡ Some x → drop i xs ≡ x ∷ drop (i + 1) xs

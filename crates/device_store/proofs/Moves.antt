@@ -2,7 +2,6 @@
 use Rattle.std.proofs.Common.{◌≡◌, ℕ, ◌==◌, [], ◌∷◌, filter, if◌then◌else◌, Bool, true, false, ◌&&◌, ◌||◌, not, is_some, is_none, List, length, map, Option, Some, None, slice_get, slice_set, refl, ap, ◌∙◌, sym, arith, inl, inr}
 use Rattle.std.specs.List.{find, list_all, list_any}
 use Rattle.std.specs.Option.{option_map}
-use Rattle.device_store.proofs.General.{find-passes}
 use Rattle.std.proofs.lemmas.Bool.{and_from, and_parts, both_ways, cases_Bool, eqb-true, false≢true, not-true}
 use Rattle.cam_types.specs.Four.{four_list}
 use Rattle.cam_types.specs.declared.number.StreamIx.{StreamIx}
@@ -14,7 +13,7 @@ use Rattle.cam_types.specs.declared.row.TargetState.TheVariants.{Waiting, Out, F
 use Rattle.cam_types.specs.declared.row.TargetView.{TargetView}
 use Rattle.cam_types.specs.declared.stream.StreamSpec.{StreamSpec}
 use Rattle.device_rows.specs.Jobs.{is_fill_out, sensor_job}
-use Rattle.device_rows.specs.Ready.{is_home, is_sensor_out, is_state, may_return_failed}
+use Rattle.device_rows.specs.Ready.{is_home, is_sensor_out, is_same_state, may_return_failed}
 use Rattle.device_rows.specs.Rows.{exposed, fill_begun, fill_ended, filled_after, filled_from, row_at, sensor_home, target_at, with_row as with_view}
 use Rattle.device_store.specs.declared.buffers.Held.{Held}
 use Rattle.device_store.specs.declared.readouts.Slot.{Slot}
@@ -30,6 +29,7 @@ use Rattle.request_checks.specs.declared.plan.Plan.{Plan}
 use Rattle.device_store.proofs.Agree.{agree-begun, agree-ended, agree-exposed, agree-failed, agree-home, agree-moved, dark-sensor, placed-changed, placed-parts}
 use Rattle.device_store.proofs.Ops.{early-full, full-same, is-target, IsTarget, place-free, slot-same, store-same, table-1, table-2, table-3, target-full}
 use Rattle.device_store.proofs.Steps.{kept-stepped, slots-same, slots-set, Stands, stands, Stepped, stepped-1, stepped-2, stepped-3}
+use Rattle.basic_lemmas.proofs.Lists.{all-found}
 
 -- the store after a step on one row
 pub record Moved (plan : Plan) (t u : Rows Held) (slots : List Slot) (spares slot_room spare_room n : ℕ) (change : RowView → RowView) : Type 0 where
@@ -64,14 +64,10 @@ pub record IsFilledState (st : TargetState) : Type 0 where
   pub in' : is_fill_out st ≡ false
   pub held : (row : RowView) (g : TargetView) (spec : StreamSpec) → held_by st row g (Some spec) ≡ Some (filled_for row g spec)
 
-pub filled-state : (st : TargetState) → (is_state st Filled || is_state st EarlyFilled) ≡ true → IsFilledState st
+pub filled-state : (st : TargetState) → (is_same_state st Filled || is_same_state st EarlyFilled) ≡ true → IsFilledState st
 filled-state Filled h = record { moved = refl; in' = refl; held = λ row g spec. refl }
 filled-state EarlyFilled h = record { moved = refl; in' = refl; held = λ row g spec. refl }
-filled-state Waiting h = absurd (false≢true h)
-filled-state Out h = absurd (false≢true h)
-filled-state ReturnedEarly h = absurd (false≢true h)
-filled-state ReturnedOk h = absurd (false≢true h)
-filled-state ReturnedFailed h = absurd (false≢true h)
+filled-state _ h = absurd (false≢true h)
 
 pub filled-moved : (plan : Plan) (t u v : Rows Held) (slots : List Slot) (spares slot_room spare_room n : ℕ) (s : StreamIx) (row : RowView) (g : TargetView) → IsKept plan t.rows t.capacity slots spares slot_room spare_room → row_at n (views t.rows) ≡ Some row → target_at s.0 row ≡ Some g → is_filled row g ≡ true → u ≡ with_rows (with_row n (with_parked s.0 None) t.rows) t → v ≡ with_rows (with_row n (with_mark (Target s ReturnedOk)) u.rows) u → Moved plan t v slots spares slot_room spare_room n (marked (Target s ReturnedOk))
 filled-moved plan t u v slots spares slot_room spare_room n s row g kept found target filled is is' =
@@ -82,19 +78,15 @@ filled-moved plan t u v slots spares slot_room spare_room n s row g kept found t
 pub record IsFailingState (st : TargetState) : Type 0 where
   pub in' : is_fill_out st ≡ false
 
-failing-state : (st : TargetState) → (is_state st Waiting || is_state st Filled) ≡ true → is_fill_out st ≡ false
+failing-state : (st : TargetState) → (is_same_state st Waiting || is_same_state st Filled) ≡ true → is_fill_out st ≡ false
 failing-state Waiting h = refl
 failing-state Filled h = refl
-failing-state EarlyFilled h = absurd (false≢true h)
-failing-state Out h = absurd (false≢true h)
-failing-state ReturnedEarly h = absurd (false≢true h)
-failing-state ReturnedOk h = absurd (false≢true h)
-failing-state ReturnedFailed h = absurd (false≢true h)
+failing-state _ h = absurd (false≢true h)
 
 pub failed-moved : (plan : Plan) (t u v : Rows Held) (slots : List Slot) (spares slot_room spare_room n : ℕ) (s : StreamIx) (row : RowView) (g : TargetView) → IsKept plan t.rows t.capacity slots spares slot_room spare_room → row_at n (views t.rows) ≡ Some row → target_at s.0 row ≡ Some g → may_return_failed row g ≡ true → u ≡ with_rows (with_row n (with_parked s.0 None) t.rows) t → v ≡ with_rows (with_row n (with_mark (Target s ReturnedFailed)) u.rows) u → Moved plan t v slots spares slot_room spare_room n (marked (Target s ReturnedFailed))
 failed-moved plan t u v slots spares slot_room spare_room n s row g kept found target failed is is' =
-    let parts = and_parts (row.request_error || g.announced) (not (is_sensor_out row.sensor) && (is_state g.state Waiting || is_state g.state Filled)) failed in
-    let later = and_parts (not (is_sensor_out row.sensor)) (is_state g.state Waiting || is_state g.state Filled) parts.1 in
+    let parts = and_parts (row.request_error || g.announced) (not (is_sensor_out row.sensor) && (is_same_state g.state Waiting || is_same_state g.state Filled)) failed in
+    let later = and_parts (not (is_sensor_out row.sensor)) (is_same_state g.state Waiting || is_same_state g.state Filled) parts.1 in
     take-moved plan t u v slots spares slot_room spare_room n s ReturnedFailed row g kept found target is is' (λ x o. refl) (λ spec tg. agree-failed row.sensor row s g tg.order tg.found (failing-state g.state later.1) parts.0 (not-true (is_sensor_out row.sensor) later.0) tg.agrees)
 
 -- ---- the sensor
@@ -201,23 +193,19 @@ counted p q (y ∷ xs) x h yes' none =
 out-moved : (st : TargetState) → is_fill_out st ≡ true → (is_kept_back st ≡ false) × (is_waiting st ≡ false)
 out-moved Out h = (refl, refl)
 out-moved ReturnedEarly h = (refl, refl)
-out-moved Waiting h = absurd (false≢true h)
-out-moved Filled h = absurd (false≢true h)
-out-moved EarlyFilled h = absurd (false≢true h)
-out-moved ReturnedOk h = absurd (false≢true h)
-out-moved ReturnedFailed h = absurd (false≢true h)
+out-moved _ h = absurd (false≢true h)
 
 -- while a stage fills a buffer, the readout is with it
 pub out-place : (place : SensorPlace) (row : RowView) (s : ℕ) (g : TargetView) → target_at s row ≡ Some g → is_fill_out g.state ≡ true → agree_at place row ≡ true → place ≡ WithFill
 out-place NotYet row s g found out agrees =
     let parts = and_parts (is_none row.shutter) (list_all is_unbegun (four_list row.targets) && (row.request_error || list_all waits (four_list row.targets))) agrees in
     let later = and_parts (list_all is_unbegun (four_list row.targets)) (row.request_error || list_all waits (four_list row.targets)) parts.1 in
-    let own = find-passes (λ u. u.stream.0 == s) is_unbegun (four_list row.targets) g later.0 found in
+    let own = all-found is_unbegun (λ u. u.stream.0 == s) (four_list row.targets) g later.0 found in
     absurd (both_ways (is_kept_back g.state) (out-moved g.state out).0 (and_parts (is_kept_back g.state) (not g.announced) own).0)
 out-place SensorOut row s g found out agrees =
     let parts = and_parts (is_some row.shutter) (list_any waits (four_list row.targets) && list_all waits (four_list row.targets)) agrees in
     let later = and_parts (list_any waits (four_list row.targets)) (list_all waits (four_list row.targets)) parts.1 in
-    let own = find-passes (λ u. u.stream.0 == s) waits (four_list row.targets) g later.1 found in
+    let own = all-found waits (λ u. u.stream.0 == s) (four_list row.targets) g later.1 found in
     absurd (both_ways (is_waiting g.state) (out-moved g.state out).1 own)
 out-place Home row s g found out agrees =
     let parts = and_parts (is_some row.shutter) (fills_out row == 0) agrees in
@@ -226,30 +214,16 @@ out-place WithFill row s g found out agrees = refl
 
 filled-from-held : (st : TargetState) (row : RowView) (g : TargetView) (spec : StreamSpec) → held_by (filled_from st) row g (Some spec) ≡ Some (filled_for row g spec)
 filled-from-held Waiting row g spec = refl
-filled-from-held Out row g spec = refl
-filled-from-held Filled row g spec = refl
-filled-from-held ReturnedEarly row g spec = refl
-filled-from-held EarlyFilled row g spec = refl
-filled-from-held ReturnedOk row g spec = refl
-filled-from-held ReturnedFailed row g spec = refl
+filled-from-held _ row g spec = refl
 
 pub filled-from-in : (st : TargetState) → is_fill_out (filled_from st) ≡ false
 filled-from-in Waiting = refl
-filled-from-in Out = refl
-filled-from-in Filled = refl
-filled-from-in ReturnedEarly = refl
-filled-from-in EarlyFilled = refl
-filled-from-in ReturnedOk = refl
-filled-from-in ReturnedFailed = refl
+filled-from-in _ = refl
 
 pub out-held : (st : TargetState) (row : RowView) (g : TargetView) (spec : StreamSpec) → is_fill_out st ≡ true → held_by st row g (Some spec) ≡ None
 out-held Out row g spec h = refl
 out-held ReturnedEarly row g spec h = refl
-out-held Waiting row g spec h = absurd (false≢true h)
-out-held Filled row g spec h = absurd (false≢true h)
-out-held EarlyFilled row g spec h = absurd (false≢true h)
-out-held ReturnedOk row g spec h = absurd (false≢true h)
-out-held ReturnedFailed row g spec h = absurd (false≢true h)
+out-held _ row g spec h = absurd (false≢true h)
 
 -- the row once a fill has ended in this state
 abbrev pub ended_in : StreamIx → TargetState → RowView → RowView

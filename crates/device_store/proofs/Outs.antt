@@ -23,7 +23,7 @@ use Rattle.buffer_pool.specs.Fences.{FencesMade, is_signalled}
 use Rattle.fill_jobs.specs.Buffers.{IsBufferFor, IsPictureFor, IsPictureOf}
 use Rattle.device_rows.specs.Jobs.{fill_job, fill_job_in, fill_job_of, is_fill_out, IsFillJobOut, IsFillOutFor, sensor_job, sensor_job_of}
 use Rattle.device_rows.specs.Kept.{is_made}
-use Rattle.device_rows.specs.Ready.{is_passed, is_sensor_out, is_state, target_passes}
+use Rattle.device_rows.specs.Ready.{is_passed, is_sensor_out, is_same_state, target_passes}
 use Rattle.device_rows.specs.Rows.{row_at, target_at}
 use Rattle.device_store.specs.declared.buffers.Held.{Held}
 use Rattle.device_store.specs.declared.buffers.Held.TheVariants.{Waiting as HeldWaiting, Filled as HeldFilled}
@@ -76,7 +76,7 @@ not-waiting g spec taken held job is which waiting =
     cc
 
 -- the state of a buffer that waits
-pub waiting-state : (st : TargetState) → is_state st Waiting ≡ true → st ≡ Waiting
+pub waiting-state : (st : TargetState) → is_same_state st Waiting ≡ true → st ≡ Waiting
 waiting-state Waiting h = refl
 waiting-state Out h = absurd (false≢true h)
 waiting-state Filled h = absurd (false≢true h)
@@ -85,7 +85,7 @@ waiting-state EarlyFilled h = absurd (false≢true h)
 waiting-state ReturnedOk h = absurd (false≢true h)
 waiting-state ReturnedFailed h = absurd (false≢true h)
 
-pub out-state : (st : TargetState) → is_state st Out ≡ true → st ≡ Out
+pub out-state : (st : TargetState) → is_same_state st Out ≡ true → st ≡ Out
 out-state Out h = refl
 out-state Waiting h = absurd (false≢true h)
 out-state Filled h = absurd (false≢true h)
@@ -173,7 +173,7 @@ picture-buffer spec s n buffer pixels digest offered shown = record {
   block = shown.block;
 }
 
-pub made-held : (st : TargetState) (row : RowView) (g : TargetView) (spec : StreamSpec) (fences : ℕ) (held : Held) → (is_state st Waiting || is_state st Filled) ≡ true → (not (is_state st Waiting) || is_made fences g.fence) ≡ true → held_by st row g (Some spec) ≡ Some held → IsMadeHeld fences held
+pub made-held : (st : TargetState) (row : RowView) (g : TargetView) (spec : StreamSpec) (fences : ℕ) (held : Held) → (is_same_state st Waiting || is_same_state st Filled) ≡ true → (not (is_same_state st Waiting) || is_made fences g.fence) ≡ true → held_by st row g (Some spec) ≡ Some held → IsMadeHeld fences held
 made-held Waiting row g spec fences held state made' is = let same : waiting_for g spec ≡ held = cc in rw (← same) (made-below fences g.fence made')
 made-held Filled row g spec fences held state made' is = let same : filled_for row g spec ≡ held = cc in rw (← same) tt
 made-held Out row g spec fences held state made' is = absurd (false≢true state)
@@ -182,7 +182,7 @@ made-held EarlyFilled row g spec fences held state made' is = absurd (false≢tr
 made-held ReturnedOk row g spec fences held state made' is = absurd (false≢true state)
 made-held ReturnedFailed row g spec fences held state made' is = absurd (false≢true state)
 
-unpacked-parts : (st : TargetState) (row : RowView) (g : TargetView) (spec : StreamSpec) (fences : FencesMade) (held : Held) (parked : Parked) → is_offered spec ≡ true → (is_state st Waiting || is_state st Filled) ≡ true → held_by st row g (Some spec) ≡ Some held → IsUnpacked fences held parked → IsBufferFor spec g.buffer parked.pixels × (parked.waiter ≡ (if is_state st Waiting then waiter_kept fences (fence_number g.fence) else None))
+unpacked-parts : (st : TargetState) (row : RowView) (g : TargetView) (spec : StreamSpec) (fences : FencesMade) (held : Held) (parked : Parked) → is_offered spec ≡ true → (is_same_state st Waiting || is_same_state st Filled) ≡ true → held_by st row g (Some spec) ≡ Some held → IsUnpacked fences held parked → IsBufferFor spec g.buffer parked.pixels × (parked.waiter ≡ (if is_same_state st Waiting then waiter_kept fences (fence_number g.fence) else None))
 unpacked-parts Waiting row g spec fences held parked offered state is back = let same : held ≡ waiting_for g spec = cc in let back' = rw same at back in (back'.0, back'.1)
 unpacked-parts Filled row g spec fences held parked offered state is back =
     let same : held ≡ filled_for row g spec = cc in
@@ -194,13 +194,13 @@ unpacked-parts EarlyFilled row g spec fences held parked offered state is back =
 unpacked-parts ReturnedOk row g spec fences held parked offered state is back = absurd (false≢true state)
 unpacked-parts ReturnedFailed row g spec fences held parked offered state is back = absurd (false≢true state)
 
-pub back-at : (specs : List StreamSpec) (n s : ℕ) (rows : List RowView) (row : RowView) (g : TargetView) (spec : StreamSpec) (fences : FencesMade) (held : Held) (parked : Parked) → row_at n rows ≡ Some row → IsTarget specs row s g spec → (is_state g.state Waiting || is_state g.state Filled) ≡ true → held_by g.state row g (Some spec) ≡ Some held → IsUnpacked fences held parked → IsBackAt fences specs n s rows parked
+pub back-at : (specs : List StreamSpec) (n s : ℕ) (rows : List RowView) (row : RowView) (g : TargetView) (spec : StreamSpec) (fences : FencesMade) (held : Held) (parked : Parked) → row_at n rows ≡ Some row → IsTarget specs row s g spec → (is_same_state g.state Waiting || is_same_state g.state Filled) ≡ true → held_by g.state row g (Some spec) ≡ Some held → IsUnpacked fences held parked → IsBackAt fences specs n s rows parked
 back-at specs n s rows row g spec fences held parked at tg state is back =
     let parts = unpacked-parts g.state row g spec fences held parked tg.offered state is back in
     rw (at, tg.found, spec-at specs row s g spec tg) (record { pixels = parts.0; waiter = parts.1 })
 
 -- what may come back in error is held
-pub failing-held : (st : TargetState) (row : RowView) (g : TargetView) (spec : StreamSpec) → (is_state st Waiting || is_state st Filled) ≡ true → held_by st row g (Some spec) ≡ None → ⊥
+pub failing-held : (st : TargetState) (row : RowView) (g : TargetView) (spec : StreamSpec) → (is_same_state st Waiting || is_same_state st Filled) ≡ true → held_by st row g (Some spec) ≡ None → ⊥
 failing-held Waiting row g spec state none = let both : Some (waiting_for g spec) ≡ None = none in cc
 failing-held Filled row g spec state none = let both : Some (filled_for row g spec) ≡ None = none in cc
 failing-held Out row g spec state none = absurd (false≢true state)

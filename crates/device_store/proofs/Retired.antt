@@ -51,11 +51,7 @@ done-row (Some row) h = (row, record { at = refl; settled = (and_parts (not (awa
 settled-held : (st : TargetState) (row : RowView) (t : TargetView) (o : Option StreamSpec) → is_settled st ≡ true → held_by st row t o ≡ None
 settled-held ReturnedOk row t o h = refl
 settled-held ReturnedFailed row t o h = refl
-settled-held Waiting row t o h = absurd (false≢true h)
-settled-held Out row t o h = absurd (false≢true h)
-settled-held Filled row t o h = absurd (false≢true h)
-settled-held ReturnedEarly row t o h = absurd (false≢true h)
-settled-held EarlyFilled row t o h = absurd (false≢true h)
+settled-held _ row t o h = absurd (false≢true h)
 
 settled-at : (specs : List StreamSpec) (row : RowView) (o : Option TargetView) → is_settled_at o ≡ true → held_at specs row o ≡ None
 settled-at specs row None h = refl

@@ -10,7 +10,7 @@ use Rattle.cam_types.specs.declared.row.TargetState.TheVariants.{Waiting, Out, F
 use Rattle.cam_types.specs.declared.row.TargetView.{TargetView}
 use Rattle.cam_types.specs.declared.stream.StreamSpec.{StreamSpec}
 use Rattle.device_rows.specs.Kept.{has_made_fence, have_made_fences, is_made}
-use Rattle.device_rows.specs.Ready.{is_state}
+use Rattle.device_rows.specs.Ready.{is_same_state}
 use Rattle.device_store.specs.declared.buffers.Held.{Held}
 use Rattle.device_store.specs.Kept.{fence_number, full, held_at, held_by}
 use Rattle.device_store.specs.Stored.{views}
@@ -21,7 +21,7 @@ made-number : (k : ℕ) (fence : Option FenceNo) → is_made k fence ≡ true �
 made-number k None h = refl
 made-number k (Some f) h = h
 
-made-held : (k : ℕ) (st : TargetState) (row : RowView) (t : TargetView) (o : Option StreamSpec) → (not (is_state st Waiting) || is_made k t.fence) ≡ true → is_made_at k (held_by st row t o) ≡ true
+made-held : (k : ℕ) (st : TargetState) (row : RowView) (t : TargetView) (o : Option StreamSpec) → (not (is_same_state st Waiting) || is_made k t.fence) ≡ true → is_made_at k (held_by st row t o) ≡ true
 made-held k Waiting row t (Some spec) h = made-number k t.fence h
 made-held k Waiting row t None h = refl
 made-held k Filled row t (Some spec) h = refl

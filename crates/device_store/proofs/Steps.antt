@@ -3,7 +3,7 @@ use Rattle.std.proofs.Common.{◌≡◌, ℕ, ◌<◌, ◌==◌, Bool, true, fal
 use Rattle.std.specs.Option.{option_map}
 use Rattle.std.proofs.lemmas.List.{length-map, map-set}
 use Rattle.std.proofs.lemmas.Option.{slice_get-map, slice_get_within}
-use Rattle.basic_lemmas.proofs.Lists.{map-map}
+use Rattle.basic_lemmas.proofs.Lists.{all-found, map-map}
 use Rattle.cam_types.specs.declared.row.RowView.{RowView}
 use Rattle.device_rows.specs.Rows.{row_at, with_row as with_view}
 use Rattle.device_store.specs.declared.buffers.Held.{Held}
@@ -13,7 +13,7 @@ use Rattle.device_store.specs.Stored.{frame_number, rises, specs_of, views}
 use Rattle.device_rows.specs.declared.table_row.Row.{Row}
 use Rattle.device_rows.specs.TableRows.{if_of, is_of, view_of, with_row}
 use Rattle.request_checks.specs.declared.plan.Plan.{Plan}
-use Rattle.device_store.proofs.General.{kept-at, changed-at, find-passes, map-at, rises-mapped}
+use Rattle.device_store.proofs.General.{kept-at, changed-at, map-at, rises-mapped}
 use Rattle.device_store.proofs.Views.{found-own, step-full, views-full}
 
 -- the row that a step changes, as it stands
@@ -31,7 +31,7 @@ stands plan rows capacity slots spares slot_room spare_room n row kept found =
       order = kept.order;
       found = found;
       own = found-own n (views rows) row found;
-      kept = find-passes (λ v. v.frame.0 == n) (is_kept (length (specs_of plan))) (views rows) row kept.each found;
+      kept = all-found (is_kept (length (specs_of plan))) (λ v. v.frame.0 == n) (views rows) row kept.each found;
     }
 
 -- the rows after the step

@@ -14,7 +14,7 @@ use Rattle.fill_jobs.specs.Buffers.{IsBufferFor, IsPictureFor}
 use Rattle.cam_types.specs.declared.job.JobView.{JobView}
 use Rattle.device_rows.specs.Jobs.{fill_job}
 use Rattle.device_rows.specs.Kept.{has_made_fence, is_made}
-use Rattle.device_rows.specs.Ready.{is_home, is_passed, is_state}
+use Rattle.device_rows.specs.Ready.{is_home, is_passed, is_same_state}
 use Rattle.device_rows.specs.Rows.{row_at, target_at}
 
 -- When a step may move what the store holds, and what it gives out (our own choice).
@@ -38,7 +38,7 @@ is_timely rows Device = true
 
 -- the buffer waits, and the readout is home
 abbrev pub is_fillable : RowView → TargetView → Bool
-is_fillable row target = is_state target.state Waiting && is_home row.sensor
+is_fillable row target = is_same_state target.state Waiting && is_home row.sensor
 
 -- the fence was made by these, and is signalled; or there is none
 abbrev pub is_open_to : FencesMade → RowView → TargetView → Bool
@@ -46,11 +46,11 @@ is_open_to fences row target = is_made (made fences) target.fence && is_passed (
 
 -- the buffer shows its picture, and is still here
 abbrev pub is_filled : RowView → TargetView → Bool
-is_filled row target = is_state target.state Filled || is_state target.state EarlyFilled
+is_filled row target = is_same_state target.state Filled || is_same_state target.state EarlyFilled
 
 -- a stage fills the buffer, and it didn't come back
 abbrev pub is_in_fill : RowView → TargetView → Bool
-is_in_fill row target = is_state target.state Out
+is_in_fill row target = is_same_state target.state Out
 
 -- a buffer that waits has the waiter of one of so many fences
 abbrev pub has_made : ℕ → RowView → TargetView → Bool
@@ -89,7 +89,7 @@ ShowsAt specs n s rows pixels digest = ShowsRow specs s (row_at n rows) pixels d
 -- the waiter that is left: that of a target that waits, whose fence isn't signalled
 abbrev pub waiter_left : FencesMade → TargetView → Option ℕ
 waiter_left fences target =
-    if is_state target.state Waiting then waiter_kept fences (option_map (λ (f : FenceNo). f.0) target.fence) else None
+    if is_same_state target.state Waiting then waiter_kept fences (option_map (λ (f : FenceNo). f.0) target.fence) else None
 
 -- the target's buffer, with that waiter
 pub record IsBack (fences : FencesMade) (spec : StreamSpec) (target : TargetView) (parked : Parked) : Type 0 where

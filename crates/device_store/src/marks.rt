@@ -10,12 +10,12 @@ use cam_types::{FrameNo, StreamIx};
 use device_rows::{ErrorEntry, Mark};
 
 impl Store {
-    /// Notes how many metadata results of a frame were sent.
+    /// Notes how many partial results of a frame were sent.
     pub fn note_part(&mut self, frame: FrameNo, parts: u8)
         requires { IsTrue (is_some (row_at frame.0 self.old.rows)) }
         ensures { self.new ≡ with_rows (with_row frame.0 (with_part parts) self.old.rows) self.old }
     {
-        let _ = self.table.mark(frame, Mark::Part(parts));
+        let _ = self.table.mark(frame, Mark::PartialResult(parts));
     }
 
     /// Notes that an error of a frame was told; that of a buffer is of a frame that has its shutter.

@@ -22,7 +22,7 @@ pub struct PictureKey {
 }
 
 /// How far the ramp has moved at the frame; 0 for the other patterns.
-fn turn_of(settings: Settings, frame: FrameNo) -> u32
+pub fn turn_of(settings: Settings, frame: FrameNo) -> u32
     ensures { result ≡ turn_of settings frame.0 }
 {
     if settings.pattern == 0 || settings.pattern == 1 {

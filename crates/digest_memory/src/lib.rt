@@ -15,6 +15,7 @@ mod places;
 
 pub use canvas::Canvas;
 pub use digests::PictureDigests;
-pub use key::PictureKey;
+pub use key::{PictureKey, turn_of};
 pub use laws::a_picture_is_that_of_its_key;
 pub use memory::{DigestMemory, REMEMBERED_LIMIT};
+pub use places::{TRIES, tries_of};

@@ -4,10 +4,10 @@ ghost use Rattle.std.specs.Prelude.{◌≡◌, ◌+◌, ◌≤◌, ◌<◌, IfSo
 use crate::key::PictureKey;
 use cam_types::NoMemory;
 use std::alloc::Global;
-use std::hash::{BuildHasher, BuildHasherDefault, FoldHasher};
+use std::hash::{BuildHasher, BuildHasherDefault, FoldHasher, Hash};
 
 /// So many places a key may stand at, one after another. Half the places and more stay free, so that is plenty.
-const TRIES: usize = 64;
+pub const TRIES: usize = 64;
 
 /// The hint of a place that is free: no digest stands there.
 const FREE: u16 = u16::MAX;
@@ -31,13 +31,13 @@ impl Places {
 
     /// The hints of the places at which the key may stand.
     pub(crate) fn hints_of(&self, key: PictureKey) -> &[u16] {
-        let (first, end) = tries_of(key, self.hints.len());
+        let (first, end) = tries_of(&key, self.hints.len());
         &self.hints[first..end]
     }
 
     /// Gives the key's first free place to a digest. Nothing is done where none is free.
     pub(crate) fn put(&mut self, key: PictureKey, digest: u16) {
-        let (first, end) = tries_of(key, self.hints.len());
+        let (first, end) = tries_of(&key, self.hints.len());
         if let Some(free) = free_place(&self.hints[first..end]) {
             self.hints[first + free] = digest;
         }
@@ -45,12 +45,12 @@ impl Places {
 }
 
 /// The first of the places at which the key may stand, of so many in all, and the one behind the last.
-fn tries_of(key: PictureKey, places: usize) -> (usize, usize)
+pub fn tries_of<K: Hash>(key: &K, places: usize) -> (usize, usize)
     ensures order { result.0 ≤ result.1 }
     ensures within { result.1 ≤ places }
 {
     let firsts = places.saturating_sub(TRIES) + 1;
-    let hash = BuildHasherDefault::<FoldHasher>::new().hash_one(&key);
+    let hash = BuildHasherDefault::<FoldHasher>::new().hash_one(key);
     let first = (hash % firsts as u64) as usize;
     (first, first + TRIES.min(places - first))
 }

@@ -68,7 +68,7 @@ pub fn run_once<T: Threads + Wait + Clock + Sync>(
         )
     };
     Ok(Ended {
-        status: status.number,
+        status: status.number(),
         text: sink.bytes().to_vec(alloc)?,
         reads: source.reads(),
         writes: sink.writes(),

@@ -1,28 +1,26 @@
 //! `explain`: a script and a trace are read, the trace is judged, and the verdict is explained.
-ghost use Rattle.std.specs.Prelude.{◌≡◌, ◌≢◌, ◌+◌, ◌≤◌, IfSome, IsTrue, Ok, length};
-ghost use Rattle.std.specs.Io.KnownBytes.{IsAtEnd};
+ghost use Rattle.std.specs.Prelude.{◌≡◌, ◌+◌, ◌≤◌, IsTrue, Ok, length};
 ghost use Rattle.std.specs.List.{list_all};
 ghost use Rattle.cam_types.specs.Script.{is_valid};
-ghost use Rattle.io_edge.specs.States.{Writes};
 ghost use Rattle.trace_check.specs.Verdict.{IsVerdict};
 ghost use Rattle.trace_model.specs.Printable.{is_printable};
 ghost use Rattle.script_text.specs.Grammar.{script_of};
 ghost use Rattle.trace_reader.specs.Grammar.{trace_of};
 ghost use Rattle.judge_text.specs.Lines.{verdict_status};
-ghost use Rattle.call_parts.specs.Answers.{AnswersWithMemory, Tells, TellsBy};
-ghost use Rattle.call_parts.specs.Ends.{CountsSink, CountsSource, ReadsBy};
+ghost use Rattle.call_parts.specs.Answers.{AnswersWithMemory, OnDone, Tells, TellsBy};
+ghost use Rattle.call_parts.specs.Ends.{KeepsEnds};
 ghost use Rattle.explain_call.specs.Explaining.{explained, Explains, ExplainsBoth, ExplainsTrace, ExplainsWhole, IsExplainedLegal};
+ghost use Rattle.call_parts.specs.Status.{status_number};
 
 use crate::judged::{Judged, judge};
 use crate::refusals::{refuse_input, refuse_profile, refuse_script, refuse_trace};
 use crate::verdict::explain_verdict;
-use call_parts::{InputWork, Status, answer, answer_input};
+use call_parts::{InputWork, Status, answer_input, answer_made, status_of};
 use cam_types::Script;
 use io_edge::{Sink, Source};
 use judge_text::{parts_of, profiles_agree};
 use std::alloc::Global;
 use text_parts::TextRefused;
-use trace_check::Verdict;
 use trace_model::TraceList;
 use trace_reader::{TRACE_BYTES, TraceRefused, read_is_spelled};
 
@@ -57,18 +55,12 @@ impl InputWork for Explain {
 pub fn explain_call<S: Source, K: Sink>(alloc: Global, source: &mut S, sink: &mut K) -> Status
     // At status 0 the source was read to its end, its bytes are a script and a trace of its profile, the trace is a
     // complete legal run of the script, and `legal` was written with what of the script did nothing.
-    ensures whole { result.number ≡ 0 → IsAtEnd (S.left source.new)
-        × IfSome (S.left source.old) (λ input. IsExplainedLegal input (K.state sink.old) (K.state sink.new)) }
-    // Each status and each text has its cause in the input's meaning: where no end failed and memory was there, the
-    // status and the text are those that belong to it. At status 4 a front of that text is written.
-    ensures tells { Tells Explains (S.left source.old) result.number (K.state sink.old) (K.state sink.new) }
-    // The source's count of faults rose at 3 alone, and the sink's at 4 alone; at 3 and 5 nothing was written. At 0 the
-    // source was read to its end; where there is another answer, too, or it has more than the limit.
-    ensures source { CountsSource result.number (S.faults source.old) (S.faults source.new) }
-    ensures sink { CountsSink result.number (K.state sink.old) (K.state sink.new) }
-    ensures read { ReadsBy TRACE_BYTES result.number (S.left source.old) (S.left source.new) }
-    ensures known { result.number ≤ 5 }
-    ensures no_usage { result.number ≢ 2 }
+    ensures whole { OnDone IsExplainedLegal (status_number result) (S.left source.old) (S.left source.new) (K.state sink.old)
+        (K.state sink.new) }
+    // Each status and each text has its cause in the input's meaning.
+    ensures tells { Tells Explains (S.left source.old) (status_number result) (K.state sink.old) (K.state sink.new) }
+    ensures ends { KeepsEnds TRACE_BYTES (status_number result) (S.faults source.old) (S.faults source.new) (S.left source.old)
+        (S.left source.new) (K.state sink.old) (K.state sink.new) }
 {
     answer_input(alloc, source, sink, TRACE_BYTES, &Explain)
 }
@@ -76,11 +68,11 @@ pub fn explain_call<S: Source, K: Sink>(alloc: Global, source: &mut S, sink: &mu
 /// Reads a script followed by a trace, judges the trace and writes its verdict in words.
 fn explain_input<K: Sink>(alloc: Global, input: &[u8], sink: &mut K) -> Status
     requires { length input.now ≤ 134217728 }
-    ensures { TellsBy (ExplainsWhole input.now) result.number (K.state sink.old) (K.state sink.new) }
+    ensures { TellsBy (ExplainsWhole input.now) (status_number result) (K.state sink.old) (K.state sink.new) }
 {
     let parts = parts_of(input);
     match script_text::read(alloc, parts.script) {
-        Err(TextRefused::NoMemory) => Status::NO_MEMORY,
+        Err(TextRefused::NoMemory) => Status::NoMemory,
         Err(TextRefused::Bad { line, cause }) => {
             refuse_script(alloc, parts.script, line, cause, sink)
         }
@@ -111,11 +103,11 @@ fn explain_text_of<K: Sink>(
     requires some { 1 ≤ first_line }
     requires numbers { first_line ≤ 134217729 }
     ensures { TellsBy (ExplainsTrace first_line part.now text.now script.now (trace_of first_line text.now))
-        result.number (K.state sink.old) (K.state sink.new) }
+        (status_number result) (K.state sink.old) (K.state sink.new) }
 {
     read_is_spelled();
     match trace_reader::read(alloc, text, first_line) {
-        Err(TraceRefused::NoMemory) => Status::NO_MEMORY,
+        Err(TraceRefused::NoMemory) => Status::NoMemory,
         Err(TraceRefused::Bad { line, cause }) => {
             refuse_trace(alloc, text, first_line, line, cause, sink)
         }
@@ -139,7 +131,7 @@ fn explain_trace<K: Sink>(
     requires part { length part.now ≤ 134217728 }
     requires numbers { first_line ≤ 134217729 }
     requires printable { IsTrue (list_all is_printable trace.now.entries) }
-    ensures { TellsBy (ExplainsBoth first_line part.now text.now script.now trace.now) result.number
+    ensures { TellsBy (ExplainsBoth first_line part.now text.now script.now trace.now) (status_number result)
         (K.state sink.old) (K.state sink.new) }
 {
     if !profiles_agree(script, trace) {
@@ -147,18 +139,7 @@ fn explain_trace<K: Sink>(
     }
     match judge(alloc, script, part, trace) {
         Ok(judged) => write_explanation(alloc, script, part, trace, first_line, judged, sink),
-        Err(_) => Status::NO_MEMORY,
-    }
-}
-
-/// The status of a verdict.
-fn status_of(verdict: Verdict) -> Status
-    ensures { result.number ≡ verdict_status verdict }
-{
-    match verdict {
-        Verdict::Legal => Status::DONE,
-        Verdict::IllegalAt { .. } => Status::REFUSED,
-        Verdict::Incomplete { .. } => Status::REFUSED,
+        Err(_) => Status::NoMemory,
     }
 }
 
@@ -178,13 +159,11 @@ fn write_explanation<K: Sink>(
     requires numbers { first_line ≤ 134217729 }
     requires printable { IsTrue (list_all is_printable trace.now.entries) }
     ensures { AnswersWithMemory (verdict_status judged.verdict)
-        (explained script.now part.now judged.moves (first_line + 1) trace.now.entries judged.verdict) result.number
+        (explained script.now part.now judged.moves (first_line + 1) trace.now.entries judged.verdict) (status_number result)
         (K.state sink.old) (K.state sink.new) }
 {
     let _count = trace.len();
     let number = u64::from(first_line) + 1;
-    match explain_verdict(alloc, script, part, trace, number, judged) {
-        Ok(text) => answer(sink, text.as_slice(), status_of(judged.verdict)),
-        Err(_) => Status::NO_MEMORY,
-    }
+    let text = explain_verdict(alloc, script, part, trace, number, judged);
+    answer_made(text, status_of(judged.verdict), sink)
 }

@@ -1,8 +1,9 @@
 //! The refusal of an input in words.
 ghost use Rattle.call_parts.specs.Answers.{AnswersWithMemory};
 ghost use Rattle.explain_refused.specs.Refused.{refused_input, refused_profile, refused_script, refused_trace};
+ghost use Rattle.call_parts.specs.Status.{status_number};
 
-use call_parts::{Status, answer};
+use call_parts::{Status, answer_made};
 use cam_types::Profile;
 use explain_refused::{refused_input, refused_profile, refused_script, refused_trace};
 use io_edge::Sink;
@@ -18,13 +19,14 @@ pub fn refuse_script<K: Sink>(
     cause: Cause,
     sink: &mut K,
 ) -> Status
-    ensures { AnswersWithMemory 1 (refused_script part.now line cause) result.number
+    ensures { AnswersWithMemory 1 (refused_script part.now line cause) (status_number result)
         (K.state sink.old) (K.state sink.new) }
 {
-    match refused_script(alloc, part, line, cause) {
-        Ok(text) => answer(sink, text.as_slice(), Status::REFUSED),
-        Err(_) => Status::NO_MEMORY,
-    }
+    answer_made(
+        refused_script(alloc, part, line, cause),
+        Status::Refused,
+        sink,
+    )
 }
 
 /// Refuses a trace, of that text, whose first line has the number.
@@ -36,13 +38,14 @@ pub fn refuse_trace<K: Sink>(
     cause: TraceCause,
     sink: &mut K,
 ) -> Status
-    ensures { AnswersWithMemory 1 (refused_trace text.now first_line line cause) result.number
+    ensures { AnswersWithMemory 1 (refused_trace text.now first_line line cause) (status_number result)
         (K.state sink.old) (K.state sink.new) }
 {
-    match refused_trace(alloc, text, first_line, line, cause) {
-        Ok(told) => answer(sink, told.as_slice(), Status::REFUSED),
-        Err(_) => Status::NO_MEMORY,
-    }
+    answer_made(
+        refused_trace(alloc, text, first_line, line, cause),
+        Status::Refused,
+        sink,
+    )
 }
 
 /// Refuses a trace, of that text, beside a script of another profile.
@@ -53,21 +56,19 @@ pub fn refuse_profile<K: Sink>(
     profile: Profile,
     sink: &mut K,
 ) -> Status
-    ensures { AnswersWithMemory 1 (refused_profile text.now first_line profile) result.number
+    ensures { AnswersWithMemory 1 (refused_profile text.now first_line profile) (status_number result)
         (K.state sink.old) (K.state sink.new) }
 {
-    match refused_profile(alloc, text, first_line, profile) {
-        Ok(told) => answer(sink, told.as_slice(), Status::REFUSED),
-        Err(_) => Status::NO_MEMORY,
-    }
+    answer_made(
+        refused_profile(alloc, text, first_line, profile),
+        Status::Refused,
+        sink,
+    )
 }
 
 /// Refuses an input that is too long.
 pub fn refuse_input<K: Sink>(alloc: Global, sink: &mut K) -> Status
-    ensures { AnswersWithMemory 1 refused_input result.number (K.state sink.old) (K.state sink.new) }
+    ensures { AnswersWithMemory 1 refused_input (status_number result) (K.state sink.old) (K.state sink.new) }
 {
-    match refused_input(alloc) {
-        Ok(text) => answer(sink, text.as_slice(), Status::REFUSED),
-        Err(_) => Status::NO_MEMORY,
-    }
+    answer_made(refused_input(alloc), Status::Refused, sink)
 }

@@ -2,11 +2,11 @@
 ghost use Rattle.std.specs.Prelude.{◌≡◌, ◌++◌, IsTrue, OnOk, take};
 ghost use Rattle.std.specs.List.{flat_map, list_all};
 ghost use Rattle.allowed_entries.specs.Known.{prints};
-ghost use Rattle.explain_text.specs.Allowed.{allowed_line, allowed_lines, allowed_part, allowed_text, filled_text, late_text, mark_text, more_mark, numbered, send_text};
+ghost use Rattle.explain_text.specs.Allowed.{allowed_line, allowed_lines, allowed_part, filled_text, late_text, mark_text, more_mark, numbered, send_text};
 ghost use Rattle.wrong_words.specs.Lines.{most_lines};
 
 use allowed_entries::AllowedEntry;
-use cam_types::{BufferId, FenceNo, FrameNo, NoMemory, RequestId, StreamIx};
+use cam_types::{BufferId, DeviceFenceNo, FrameNo, NoMemory, RequestId, StreamIx};
 use std::alloc::Global;
 use trace_text::Printer;
 use wrong_words::{MOST_LINES, put_number};
@@ -69,23 +69,25 @@ fn put_filled(
 
 /// Writes the signal of a device fence.
 #[tactic(auto, unfolding(crate::specs::Allowed::late_text))]
-fn put_late(text: &mut Vec<u8>, alloc: Global, fence: FenceNo) -> Result<(), NoMemory>
+fn put_late(text: &mut Vec<u8>, alloc: Global, fence: DeviceFenceNo) -> Result<(), NoMemory>
     ensures { OnOk result (text.new.items ≡ text.old.items ++ late_text fence.0) }
 {
     put_numbered(text, alloc, b"filled d", fence.0)?;
     text.extend_from_slice(b" ..\n")
 }
 
-/// Writes an entry that is allowed.
-fn put_allowed(
+/// Writes the line of an entry that is allowed.
+#[tactic(auto, unfolding(crate::specs::Allowed::allowed_line))]
+fn put_line(
     text: &mut Vec<u8>,
     alloc: Global,
     printer: &mut Printer,
     allowed: &AllowedEntry,
 ) -> Result<(), NoMemory>
     requires { IsTrue (prints allowed.now) }
-    ensures { OnOk result (text.new.items ≡ text.old.items ++ allowed_text allowed.now) }
+    ensures { OnOk result (text.new.items ≡ text.old.items ++ allowed_line allowed.now) }
 {
+    text.extend_from_slice(b"    ")?;
     match *allowed {
         AllowedEntry::Whole(entry) => text.extend_from_slice(printer.line(entry)),
         AllowedEntry::Send {
@@ -101,21 +103,6 @@ fn put_allowed(
         } => put_filled(text, alloc, frame, stream, buffer),
         AllowedEntry::Late { fence } => put_late(text, alloc, fence),
     }
-}
-
-/// Writes the line of an entry that is allowed.
-#[tactic(auto, unfolding(crate::specs::Allowed::allowed_line))]
-fn put_line(
-    text: &mut Vec<u8>,
-    alloc: Global,
-    printer: &mut Printer,
-    allowed: &AllowedEntry,
-) -> Result<(), NoMemory>
-    requires { IsTrue (prints allowed.now) }
-    ensures { OnOk result (text.new.items ≡ text.old.items ++ allowed_line allowed.now) }
-{
-    text.extend_from_slice(b"    ")?;
-    put_allowed(text, alloc, printer, allowed)
 }
 
 /// Writes the lines of the entries.

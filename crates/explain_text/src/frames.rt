@@ -3,7 +3,7 @@ ghost use Rattle.std.specs.Prelude.{◌≡◌, ◌+◌, ◌≤◌, ◌++◌, IfO
 ghost use Rattle.std.specs.List.{flat_map, list_all};
 ghost use Rattle.cam_types.specs.Four.{four_list};
 ghost use Rattle.trace_model.specs.Printable.{is_printable};
-ghost use Rattle.explain_text.specs.Missing.{buffer_lack, is_open_in, metadata_lack, open_frame, open_line, open_lines, what_lacks};
+ghost use Rattle.explain_text.specs.Missing.{buffer_lack, is_open_in, metadata_lack, open_line, open_lines, what_lacks};
 
 use cam_types::{Four, FrameNo, NoMemory};
 use judge_filters::open::{is_metadata_ended, is_open, is_returned, is_settled};
@@ -83,31 +83,8 @@ fn is_open_in(entries: &[Entry], frame: FrameNo) -> bool
     is_open(entries, frame)
 }
 
-/// Writes the entry, which sends the frame, and what the frame lacks, where it is open.
+/// Writes the entry, where it sends a frame that is open, and what the frame lacks.
 #[tactic(auto, unfolding(crate::specs::Missing::open_frame))]
-fn put_open_frame(
-    text: &mut Vec<u8>,
-    alloc: Global,
-    printer: &mut Printer,
-    entries: &[Entry],
-    number: u64,
-    entry: &Entry,
-    frame: FrameNo,
-    targets: &Four<Sent>,
-) -> Result<(), NoMemory>
-    requires { IsTrue (is_printable entry.now) }
-    ensures { OnOk result (text.new.items ≡ text.old.items
-        ++ open_frame (reverse entries.now) number entry.now frame.0 targets.now) }
-{
-    if !is_open_in(entries, frame) {
-        return Ok(());
-    }
-    put_line(text, alloc, printer, number, entry)?;
-    put_metadata_lack(text, entries, frame)?;
-    put_buffer_lacks(text, alloc, entries, frame, targets)
-}
-
-/// Writes the entry, where it sends a frame that is open, and what that lacks.
 fn put_open(
     text: &mut Vec<u8>,
     alloc: Global,
@@ -119,12 +96,15 @@ fn put_open(
     requires { IsTrue (is_printable entry.now) }
     ensures { OnOk result (text.new.items ≡ text.old.items ++ open_line (reverse entries.now) number entry.now) }
 {
-    match entry {
-        Entry::Send { frame, targets, .. } => put_open_frame(
-            text, alloc, printer, entries, number, entry, *frame, targets,
-        ),
-        _ => Ok(()),
+    let Entry::Send { frame, targets, .. } = entry else {
+        return Ok(());
+    };
+    if !is_open_in(entries, *frame) {
+        return Ok(());
     }
+    put_line(text, alloc, printer, number, entry)?;
+    put_metadata_lack(text, entries, *frame)?;
+    put_buffer_lacks(text, alloc, entries, *frame, targets)
 }
 
 /// The open frames in the order of their sends, each with what it lacks. The line of the first entry has the number.

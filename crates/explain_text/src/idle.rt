@@ -1,10 +1,10 @@
 //! What of a script did nothing.
 ghost use Rattle.std.specs.Prelude.{◌≡◌, ◌+◌, ◌≤◌, ◌++◌, IfOk, IsTrue, OnOk, length, reverse};
 ghost use Rattle.std.specs.List.{list_all};
-ghost use Rattle.explain_text.specs.Explained.{is_unmet, legal_text, refused_command, refused_line, refused_lines, refused_part, unmet_line, unmet_lines, unmet_part};
+ghost use Rattle.explain_text.specs.Explained.{is_unmet, legal_text, refused_command, refused_line, refused_part, unmet_part};
 ghost use Rattle.trace_model.specs.Printable.{is_printable};
 
-use crate::script::{put_command, put_fault};
+use crate::script::put_found;
 use cam_types::{Fault, NoMemory, Script};
 use judge_entries::entry::is_refusal;
 use judge_filters::frame::{has_target, is_sent};
@@ -13,7 +13,7 @@ use std::alloc::Global;
 use trace_check::Verdict;
 use trace_model::Entry;
 use trace_text::Printer;
-use wrong_words::{LINE_LIMIT, put_headed, put_line, put_picks_part};
+use wrong_words::{LINE_LIMIT, command_line, fault_line, put_headed, put_line, put_picks_part};
 
 /// Whether the fault is of a frame that was never sent, or of a stream that wasn't a target of it.
 fn is_unmet(entries: &[Entry], fault: &Fault) -> bool
@@ -27,45 +27,30 @@ fn is_unmet(entries: &[Entry], fault: &Fault) -> bool
     }
 }
 
-/// Writes the line of the fault that has this place in the script, where no frame met it.
-fn put_unmet(
+/// Writes the faults that no frame met, each by its line, behind their heading.
+#[tactic(auto, unfolding(crate::specs::Explained::unmet_part))]
+fn put_unmet_part(
     text: &mut Vec<u8>,
     alloc: Global,
+    script: &Script,
     part: &[u8],
     entries: &[Entry],
-    place: usize,
-    fault: &Fault,
 ) -> Result<(), NoMemory>
     requires { length part.now ≤ 134217728 }
     ensures { OnOk result
-        (text.new.items ≡ text.old.items ++ unmet_line part.now (reverse entries.now) place fault.now) }
+        (text.new.items ≡ text.old.items ++ unmet_part script.now part.now (reverse entries.now)) }
 {
-    if is_unmet(entries, fault) {
-        put_fault(text, alloc, part, place)
-    } else {
-        Ok(())
-    }
-}
-
-/// The lines of the faults that no frame met.
-fn unmet(
-    alloc: Global,
-    part: &[u8],
-    entries: &[Entry],
-    faults: &[Fault],
-) -> Result<Vec<u8>, NoMemory>
-    requires { length part.now ≤ 134217728 }
-    ensures { IfOk result (λ text. text.items ≡ unmet_lines part.now (reverse entries.now) 0 faults.now) }
-{
-    let mut text = Vec::new(alloc);
+    let mut lines = Vec::new(alloc);
     let mut place = 0;
-    let mut rest = faults;
+    let mut rest = script.faults.as_slice();
     while let [fault, after @ ..] = rest {
-        put_unmet(&mut text, alloc, part, entries, place, fault)?;
+        if is_unmet(entries, fault) {
+            put_found(&mut lines, alloc, fault_line(part, place))?;
+        }
         place += 1;
         rest = after;
     }
-    Ok(text)
+    put_headed(text, b"Faults that no frame met:\n", lines.as_slice())
 }
 
 /// Writes the line of the command that has this place in the script, and that of its call, which has the number.
@@ -83,7 +68,7 @@ fn put_refused_command(
     requires printable { IsTrue (is_printable call.now) }
     ensures { OnOk result (text.new.items ≡ text.old.items ++ refused_command part.now number place call.now) }
 {
-    put_command(text, alloc, part, place as usize)?;
+    put_found(text, alloc, command_line(part, place as usize))?;
     text.extend_from_slice(b"    ")?;
     put_line(text, alloc, printer, number, call)
 }
@@ -109,48 +94,7 @@ fn put_refused(
     }
 }
 
-/// The commands that were refused. The line of the first entry has the number.
-fn refused(
-    alloc: Global,
-    printer: &mut Printer,
-    part: &[u8],
-    entries: &[Entry],
-    number: u64,
-) -> Result<Vec<u8>, NoMemory>
-    requires long { length part.now ≤ 134217728 }
-    requires printable { IsTrue (list_all is_printable entries.now) }
-    requires numbers { number + length entries.now ≤ LINE_LIMIT }
-    ensures { IfOk result (λ text. text.items ≡ refused_lines part.now number entries.now) }
-{
-    let mut text = Vec::new(alloc);
-    let mut number = number;
-    let mut rest = entries;
-    while let [entry, after @ ..] = rest {
-        put_refused(&mut text, alloc, printer, part, number, entry)?;
-        number += 1;
-        rest = after;
-    }
-    Ok(text)
-}
-
-/// Writes the faults that no frame met, behind their heading.
-#[tactic(auto, unfolding(crate::specs::Explained::unmet_part))]
-fn put_unmet_part(
-    text: &mut Vec<u8>,
-    alloc: Global,
-    script: &Script,
-    part: &[u8],
-    entries: &[Entry],
-) -> Result<(), NoMemory>
-    requires { length part.now ≤ 134217728 }
-    ensures { OnOk result
-        (text.new.items ≡ text.old.items ++ unmet_part script.now part.now (reverse entries.now)) }
-{
-    let faults = unmet(alloc, part, entries, script.faults.as_slice())?;
-    put_headed(text, b"Faults that no frame met:\n", faults.as_slice())
-}
-
-/// Writes the commands that were refused, behind their heading.
+/// Writes the commands that were refused, behind their heading. The line of the first entry has the number.
 #[tactic(auto, unfolding(crate::specs::Explained::refused_part))]
 fn put_refused_part(
     text: &mut Vec<u8>,
@@ -165,7 +109,14 @@ fn put_refused_part(
     requires numbers { number + length entries.now ≤ LINE_LIMIT }
     ensures { OnOk result (text.new.items ≡ text.old.items ++ refused_part part.now number entries.now) }
 {
-    let lines = refused(alloc, printer, part, entries, number)?;
+    let mut lines = Vec::new(alloc);
+    let mut number = number;
+    let mut rest = entries;
+    while let [entry, after @ ..] = rest {
+        put_refused(&mut lines, alloc, printer, part, number, entry)?;
+        number += 1;
+        rest = after;
+    }
     put_headed(text, b"Commands that were refused:\n", lines.as_slice())
 }
 

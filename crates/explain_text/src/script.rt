@@ -2,42 +2,23 @@
 ghost use Rattle.std.specs.Prelude.{◌≡◌, ◌≤◌, ◌++◌, OnOk, length};
 ghost use Rattle.std.specs.Option.{option_map};
 ghost use Rattle.explain_text.specs.Explained.{command_part, next_command, next_command_text, next_heading, script_line};
-ghost use Rattle.wrong_words.specs.Places.{place_of};
-ghost use Rattle.wrong_words.specs.declared.kind.LineKind.TheVariants.{Command, Fault};
 
 use cam_types::{NoMemory, Script};
 use judge_entries::number::call_count;
 use std::alloc::Global;
 use trace_model::Entry;
-use wrong_words::{command_line, fault_line, put_numbered_line};
+use wrong_words::{command_line, put_numbered_line};
 
-/// Writes the line of the command that has this place in the script, where it has one.
-pub fn put_command(
+/// Writes a line that was found in the script, with its number, where one was.
+pub fn put_found(
     text: &mut Vec<u8>,
     alloc: Global,
-    part: &[u8],
-    place: usize,
+    found: Option<(u32, &[u8])>,
 ) -> Result<(), NoMemory>
-    requires { length part.now ≤ 134217728 }
-    ensures { OnOk result (text.new.items ≡ text.old.items ++ script_line (place_of Command part.now place)) }
+    ensures { OnOk result (text.new.items ≡ text.old.items
+        ++ script_line (option_map (λ found. (found.0, found.1.now)) found.entry)) }
 {
-    match command_line(part, place) {
-        Some((number, line)) => put_numbered_line(text, alloc, number, line),
-        None => Ok(()),
-    }
-}
-
-/// Writes the line of the fault that has this place in the script, where it has one.
-pub fn put_fault(
-    text: &mut Vec<u8>,
-    alloc: Global,
-    part: &[u8],
-    place: usize,
-) -> Result<(), NoMemory>
-    requires { length part.now ≤ 134217728 }
-    ensures { OnOk result (text.new.items ≡ text.old.items ++ script_line (place_of Fault part.now place)) }
-{
-    match fault_line(part, place) {
+    match found {
         Some((number, line)) => put_numbered_line(text, alloc, number, line),
         None => Ok(()),
     }

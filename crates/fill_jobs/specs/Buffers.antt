@@ -1,6 +1,6 @@
 use Rattle.std.specs.Prelude.{◌≡◌, ℕ, List, Option, Some, None, true, length}
 use Rattle.cam_types.specs.Metadata.{range_fault}
-use Rattle.cam_types.specs.Picture.{is_offered, length_in, picture, readout}
+use Rattle.cam_types.specs.Picture.{is_offered, length_in, picture, picture_of, readout}
 use Rattle.cam_types.specs.Shown.{Shown}
 use Rattle.cam_types.specs.declared.item.Settings.{Settings}
 use Rattle.cam_types.specs.declared.job.FillTarget.{FillTarget}
@@ -26,6 +26,10 @@ pub record IsPictureFor (spec : StreamSpec) (settings : Settings) (n : ℕ) (buf
   pub bytes : pixels.bytes ≡ picture spec settings n
   pub block : pixels.block ≡ block_length spec.format
   pub digested : digest ≡ sha256 (picture spec settings n)
+
+-- the buffer when a stream's picture of a readout was drawn into it
+abbrev pub drawn : StreamSpec → List ℕ → Shown → Shown
+drawn spec values pixels = record pixels { bytes = picture_of spec.format spec.width spec.height values }
 
 -- what a fill of frame n has: settings in range, a stream that is offered, the frame's readout, and the target's buffer
 pub record IsFillOf (settings : Settings) (n : ℕ) (target : FillTarget) (values : List ℕ)

@@ -3,6 +3,7 @@ ghost use Rattle.std.specs.Prelude.{◌≡◌, ◌≤◌, length, IsTrue};
 ghost use Rattle.std.specs.List.{All};
 ghost use Rattle.cam_types.specs.Picture.{is_offered, length_in, picture_of};
 ghost use Rattle.sha2.specs.Sha256.{sha256};
+ghost use Rattle.fill_jobs.specs.Buffers.{drawn};
 
 use cam_types::{Format, PixelBuf, Readout, StreamSpec};
 use picture_stages::{draw_raw, draw_yuv, fill_raw, fill_raw_bands, fill_yuv, fill_yuv_bands};
@@ -13,12 +14,7 @@ pub(crate) fn draw_alone(readout: &Readout, spec: StreamSpec, pixels: &mut Pixel
     requires values { All (λ v. (64 ≤ v) × (v ≤ 1023)) readout.now }
     requires offered { IsTrue (is_offered spec) }
     requires room { length pixels.old.bytes ≡ length_in spec.format spec.width spec.height }
-    ensures { pixels.new ≡
-        record {
-          id = pixels.old.id;
-          bytes = picture_of spec.format spec.width spec.height readout.now;
-          block = pixels.old.block;
-        } }
+    ensures { pixels.new ≡ drawn spec readout.now pixels.old }
 {
     match spec.format {
         Format::Raw16 => draw_raw(readout, pixels),
@@ -31,12 +27,7 @@ pub(crate) fn draw(readout: &Readout, spec: StreamSpec, pixels: &mut PixelBuf) -
     requires values { All (λ v. (64 ≤ v) × (v ≤ 1023)) readout.now }
     requires offered { IsTrue (is_offered spec) }
     requires room { length pixels.old.bytes ≡ length_in spec.format spec.width spec.height }
-    ensures picture { pixels.new ≡
-        record {
-          id = pixels.old.id;
-          bytes = picture_of spec.format spec.width spec.height readout.now;
-          block = pixels.old.block;
-        } }
+    ensures picture { pixels.new ≡ drawn spec readout.now pixels.old }
     ensures digest { result ≡ sha256 (picture_of spec.format spec.width spec.height readout.now) }
 {
     match spec.format {
@@ -58,12 +49,7 @@ pub(crate) fn draw_bands<R: Threads + Sync>(
     requires least { 1 ≤ bands }
     requires most { bands ≤ 8 }
     requires room { length pixels.old.bytes ≡ length_in spec.format spec.width spec.height }
-    ensures picture { pixels.new ≡
-        record {
-          id = pixels.old.id;
-          bytes = picture_of spec.format spec.width spec.height readout.now;
-          block = pixels.old.block;
-        } }
+    ensures picture { pixels.new ≡ drawn spec readout.now pixels.old }
     ensures digest { result ≡ sha256 (picture_of spec.format spec.width spec.height readout.now) }
 {
     match spec.format {

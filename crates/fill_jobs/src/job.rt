@@ -12,14 +12,19 @@ use picture_stages::a_readout_lies_between_dark_and_full;
 use std::marker::Model;
 use std::thread::Threads;
 
-/// A buffer that a stage is to fill with the picture of a frame, with the frame's readout. It must be spent: it is
-/// neither dropped nor copied, and ends by `fill`, `fill_with` or `fill_bands` alone.
-pub struct FillJob {
+/// A buffer for the picture of a frame, with the frame's readout.
+struct Fill {
     frame: FrameNo,
     settings: Settings,
     target: FillTarget,
     readout: Readout,
     pixels: PixelBuf,
+}
+
+/// A buffer that a stage is to fill with the picture of a frame, with the frame's readout. It must be spent: it is
+/// neither dropped nor copied, and ends by `fill`, `fill_with` or `fill_bands` alone.
+pub struct FillJob {
+    fill: Fill,
 }
 
 impl Model for FillJob {
@@ -29,19 +34,15 @@ impl Model for FillJob {
 
     ghost Value = { JobView };
 
-    ghost view = { λ j. record { frame = j.frame; settings = j.settings; fill = Some j.target } };
+    ghost view = { λ j. record { frame = j.fill.frame; settings = j.fill.settings; fill = Some j.fill.target } };
 
-    ghost invariant = { λ j. IsFillOf j.settings j.frame.0 j.target j.readout j.pixels };
+    ghost invariant = { λ j. IsFillOf j.fill.settings j.fill.frame.0 j.fill.target j.fill.readout j.fill.pixels };
 }
 
 /// A buffer that a stage filled: it shows the picture of its frame, settings and stream, and its digest is that
 /// picture's. It must be spent: it is neither dropped nor copied, and ends by `into_parts` alone.
 pub struct FilledJob {
-    frame: FrameNo,
-    settings: Settings,
-    target: FillTarget,
-    readout: Readout,
-    pixels: PixelBuf,
+    fill: Fill,
     digest: [u8; 32],
 }
 
@@ -52,9 +53,10 @@ impl Model for FilledJob {
 
     ghost Value = { JobView };
 
-    ghost view = { λ j. record { frame = j.frame; settings = j.settings; fill = Some j.target } };
+    ghost view = { λ j. record { frame = j.fill.frame; settings = j.fill.settings; fill = Some j.fill.target } };
 
-    ghost invariant = { λ j. IsFilledOf j.settings j.frame.0 j.target j.readout j.pixels j.digest };
+    ghost invariant = { λ j.
+        IsFilledOf j.fill.settings j.fill.frame.0 j.fill.target j.fill.readout j.fill.pixels j.digest };
 }
 
 impl FillJob {
@@ -73,27 +75,28 @@ impl FillJob {
         requires pixels { IsBufferFor target.spec target.buffer pixels }
         ensures { result ≡ record { frame = frame; settings = settings; fill = Some target } }
     {
-        FillJob {
+        let fill = Fill {
             frame,
             settings,
             target,
             readout,
             pixels,
-        }
+        };
+        FillJob { fill }
     }
 
     /// The number of the frame.
     pub fn frame(&self) -> FrameNo
         ensures { result ≡ self.now.frame }
     {
-        self.frame
+        self.fill.frame
     }
 
     /// The stream whose buffer is filled.
     pub fn stream(&self) -> StreamIx
         ensures { IsStreamAt result.0 self.now.fill }
     {
-        self.target.stream
+        self.fill.target.stream
     }
 
     /// Fills the buffer with the picture. It takes no lock and no memory.
@@ -101,22 +104,10 @@ impl FillJob {
         ensures { result ≡ self }
     {
         a_readout_lies_between_dark_and_full();
-        let FillJob {
-            frame,
-            settings,
-            target,
-            readout,
-            mut pixels,
-        } = self;
-        let digest = draw(&readout, target.spec, &mut pixels);
-        FilledJob {
-            frame,
-            settings,
-            target,
-            readout,
-            pixels,
-            digest,
-        }
+        let FillJob { mut fill } = self;
+        let parts = &mut fill;
+        let digest = draw(&parts.readout, parts.target.spec, &mut parts.pixels);
+        FilledJob { fill, digest }
     }
 
     /// Fills the buffer as `fill` does, and hashes the picture only where the memory doesn't know its digest; it may
@@ -125,23 +116,17 @@ impl FillJob {
         ensures { result ≡ self }
     {
         a_readout_lies_between_dark_and_full();
-        let FillJob {
-            frame,
-            settings,
-            target,
-            readout,
-            mut pixels,
-        } = self;
-        draw_alone(&readout, target.spec, &mut pixels);
-        let digest = digest_with(memory, target.spec, settings, frame, &pixels);
-        FilledJob {
-            frame,
-            settings,
-            target,
-            readout,
-            pixels,
-            digest,
-        }
+        let FillJob { mut fill } = self;
+        let parts = &mut fill;
+        draw_alone(&parts.readout, parts.target.spec, &mut parts.pixels);
+        let digest = digest_with(
+            memory,
+            fill.target.spec,
+            fill.settings,
+            fill.frame,
+            &fill.pixels,
+        );
+        FilledJob { fill, digest }
     }
 
     /// Fills the buffer as `fill` does, the rows of the largest pictures in 1 to 8 bands that are written side by side,
@@ -152,22 +137,16 @@ impl FillJob {
         ensures { result ≡ self }
     {
         a_readout_lies_between_dark_and_full();
-        let FillJob {
-            frame,
-            settings,
-            target,
-            readout,
-            mut pixels,
-        } = self;
-        let digest = draw_bands(rt, &readout, target.spec, bands, &mut pixels);
-        FilledJob {
-            frame,
-            settings,
-            target,
-            readout,
-            pixels,
-            digest,
-        }
+        let FillJob { mut fill } = self;
+        let parts = &mut fill;
+        let digest = draw_bands(
+            rt,
+            &parts.readout,
+            parts.target.spec,
+            bands,
+            &mut parts.pixels,
+        );
+        FilledJob { fill, digest }
     }
 }
 
@@ -176,28 +155,28 @@ impl FilledJob {
     pub fn frame(&self) -> FrameNo
         ensures { result ≡ self.now.frame }
     {
-        self.frame
+        self.fill.frame
     }
 
     /// The settings of the frame.
     pub fn settings(&self) -> Settings
         ensures { result ≡ self.now.settings }
     {
-        self.settings
+        self.fill.settings
     }
 
     /// The buffer that was filled.
     pub fn target(&self) -> FillTarget
         ensures { self.now.fill ≡ Some result }
     {
-        self.target
+        self.fill.target
     }
 
     /// The stream whose buffer was filled.
     pub fn stream(&self) -> StreamIx
         ensures { IsStreamAt result.0 self.now.fill }
     {
-        self.target.stream
+        self.fill.target.stream
     }
 
     /// The frame's readout, and the buffer with its digest: it is the target's, over a whole block, and shows the
@@ -207,14 +186,14 @@ impl FilledJob {
         ensures picture { IsPictureOf self result.1 result.2 }
         ensures range { range_fault self.settings ≡ None }
     {
-        let FilledJob {
+        let FilledJob { fill, digest } = self;
+        let Fill {
             frame: _,
             settings: _,
             target: _,
             readout,
             pixels,
-            digest,
-        } = self;
+        } = fill;
         (readout, pixels, digest)
     }
 }

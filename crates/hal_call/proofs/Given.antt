@@ -7,6 +7,7 @@ use Rattle.std.proofs.lemmas.List.{reverse-append, reverse-reverse}
 use Rattle.std.proofs.lemmas.List.Folds.{list_all-append}
 use Rattle.cam_types.specs.Four.{four_list}
 use Rattle.cam_types.specs.Script.{is_valid}
+use Rattle.cam_types.specs.declared.number.DeviceFenceNo.{DeviceFenceNo}
 use Rattle.cam_types.specs.declared.number.FenceNo.{FenceNo}
 use Rattle.cam_types.specs.declared.script.Script.{Script}
 use Rattle.trace_model.specs.declared.entry.Entry.{Entry}
@@ -33,7 +34,7 @@ given_small script past (Some f) fits legal h =
     let bound = fences_bounded script past legal in
     below f.0 (next_fence past) h (omega (arith, few, bound))
 
-early_small : (script : Script) (past : List Entry) (d : FenceNo) → is_valid script ≡ true → IsLegal script past → d.0 ≡ next_early past → is_small d ≡ true
+early_small : (script : Script) (past : List Entry) (d : DeviceFenceNo) → is_valid script ≡ true → IsLegal script past → d.0 ≡ next_early past → is_small d.0 ≡ true
 early_small script past d fits legal number =
     let few = few-frames script (valid script fits) in
     let bound = earlies_bounded script past legal in

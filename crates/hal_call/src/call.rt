@@ -1,16 +1,16 @@
 //! `hal`: a hal log is read and judged, and its report is written, for a person or for tools.
-ghost use Rattle.std.specs.Prelude.{◌≡◌, ◌≢◌, ◌≤◌, [], true, IfOk, IfSome, IsTrue, Result, length};
+ghost use Rattle.std.specs.Prelude.{◌≡◌, [], true, IfOk, IsTrue, Result, length};
 ghost use Rattle.std.specs.List.{list_all};
-ghost use Rattle.std.specs.Io.KnownBytes.{IsAtEnd};
-ghost use Rattle.call_parts.specs.Answers.{AnswersWithMemory, Tells, TellsBy};
-ghost use Rattle.call_parts.specs.Ends.{CountsSink, CountsSource, ReadsBy};
+ghost use Rattle.call_parts.specs.Answers.{AnswersWithMemory, OnDone, Tells, TellsBy};
+ghost use Rattle.call_parts.specs.Ends.{KeepsEnds};
 ghost use Rattle.hal_text.specs.Meaning.{log_of};
 ghost use Rattle.hal_spelling.specs.Fits.{is_valid, is_well_made};
 ghost use Rattle.hal_text.specs.Plain.{has_line};
 ghost use Rattle.hal_call.specs.Judging.{IsUnbroken, Judges, JudgesLog, refusal_text, report_status, told_text};
+ghost use Rattle.call_parts.specs.Status.{status_number};
 
 use crate::form::Form;
-use call_parts::{InputWork, Status, answer, answer_input};
+use call_parts::{InputWork, Status, answer, answer_input, answer_made};
 use hal_judge::{Report, report_of};
 use hal_model::Breach;
 use hal_person::person_text;
@@ -57,18 +57,12 @@ pub fn hal_call<S: Source, K: Sink>(
 ) -> Status
     // At status 0 the source was read to its end, its bytes are a hal log that breaks none of the rules, and its report
     // was written, and nothing else.
-    ensures whole { result.number ≡ 0 → IsAtEnd (S.left source.new)
-        × IfSome (S.left source.old) (λ input. IsUnbroken form strict input (K.state sink.old) (K.state sink.new)) }
-    // Each status and each text has its cause in the input's meaning: where no end failed and memory was there, the
-    // status and the text are those that belong to it. At status 4 a front of that text is written.
-    ensures tells { Tells (Judges form strict) (S.left source.old) result.number (K.state sink.old) (K.state sink.new) }
-    // The source's count of faults rose at 3 alone, and the sink's at 4 alone; at 3 and 5 nothing was written. At 0 the
-    // source was read to its end; where there is another answer, too, or it has more than the limit.
-    ensures source { CountsSource result.number (S.faults source.old) (S.faults source.new) }
-    ensures sink { CountsSink result.number (K.state sink.old) (K.state sink.new) }
-    ensures read { ReadsBy HAL_BYTES result.number (S.left source.old) (S.left source.new) }
-    ensures known { result.number ≤ 5 }
-    ensures no_usage { result.number ≢ 2 }
+    ensures whole { OnDone (IsUnbroken form strict) (status_number result) (S.left source.old) (S.left source.new)
+        (K.state sink.old) (K.state sink.new) }
+    // Each status and each text has its cause in the input's meaning.
+    ensures tells { Tells (Judges form strict) (S.left source.old) (status_number result) (K.state sink.old) (K.state sink.new) }
+    ensures ends { KeepsEnds HAL_BYTES (status_number result) (S.faults source.old) (S.faults source.new) (S.left source.old)
+        (S.left source.new) (K.state sink.old) (K.state sink.new) }
 {
     answer_input(alloc, source, sink, HAL_BYTES, &Hal { form, strict })
 }
@@ -85,20 +79,21 @@ fn refusal_text(alloc: Global, form: Form, line: u32, cause: Cause) -> Result<Ve
 
 /// Refuses a text.
 fn refuse_log<K: Sink>(alloc: Global, form: Form, line: u32, cause: Cause, sink: &mut K) -> Status
-    ensures { AnswersWithMemory 1 (refusal_text form line cause) result.number (K.state sink.old) (K.state sink.new) }
+    ensures { AnswersWithMemory 1 (refusal_text form line cause) (status_number result) (K.state sink.old) (K.state sink.new) }
 {
-    match refusal_text(alloc, form, line, cause) {
-        Ok(text) => answer(sink, text.as_slice(), Status::REFUSED),
-        Err(_) => Status::NO_MEMORY,
-    }
+    answer_made(
+        refusal_text(alloc, form, line, cause),
+        Status::Refused,
+        sink,
+    )
 }
 
 /// Reads a hal log from its text, judges it and writes its report.
 fn judge_text<K: Sink>(alloc: Global, text: &[u8], form: Form, strict: bool, sink: &mut K) -> Status
-    ensures { TellsBy (JudgesLog form strict (log_of text.now)) result.number (K.state sink.old) (K.state sink.new) }
+    ensures { TellsBy (JudgesLog form strict (log_of text.now)) (status_number result) (K.state sink.old) (K.state sink.new) }
 {
     match read(alloc, text) {
-        Err(LogRefused::NoMemory) => Status::NO_MEMORY,
+        Err(LogRefused::NoMemory) => Status::NoMemory,
         Err(LogRefused::Bad { line, cause }) => refuse_log(alloc, form, line, cause, sink),
         Ok(log) => judge_log(alloc, &log, form, strict, sink),
     }
@@ -126,28 +121,28 @@ fn told_text(
 fn judge_log<K: Sink>(alloc: Global, log: &HalLog, form: Form, strict: bool, sink: &mut K) -> Status
     requires same { length log.now.lines ≡ length log.now.events }
     requires valid { IsTrue (is_valid log.now.parts log.now.events) }
-    ensures { TellsBy (JudgesLog form strict (Result.Ok log.now)) result.number (K.state sink.old) (K.state sink.new) }
+    ensures { TellsBy (JudgesLog form strict (Result.Ok log.now)) (status_number result) (K.state sink.old) (K.state sink.new) }
 {
     each_breach_has_its_line();
     let report = match report_of(alloc, log.parts, strict, &log.events) {
         Ok(report) => report,
-        Err(_) => return Status::NO_MEMORY,
+        Err(_) => return Status::NoMemory,
     };
     let Report { breaches, left } = report;
     let breaches = breaches.as_slice();
     match told_text(alloc, form, log, breaches, left.as_slice()) {
         Ok(text) => answer(sink, text.as_slice(), status_of(breaches)),
-        Err(_) => Status::NO_MEMORY,
+        Err(_) => Status::NoMemory,
     }
 }
 
 /// The status of a report.
 fn status_of(breaches: &[Breach]) -> Status
-    ensures { result.number ≡ report_status breaches.now }
+    ensures { status_number result ≡ report_status breaches.now }
 {
     if breaches.is_empty() {
-        Status::DONE
+        Status::Done
     } else {
-        Status::REFUSED
+        Status::Refused
     }
 }

@@ -6,7 +6,7 @@ ghost use Rattle.hal_call.specs.Printed.{log_text};
 
 use crate::text_laws::hal_logs_of_legal_traces_print;
 use crate::{fences_of_legal_traces_fit, hal_log};
-use cam_types::{NoMemory, PART_COUNT, Script};
+use cam_types::{NoMemory, PARTIAL_RESULT_COUNT, Script};
 use hal_spelling::print;
 use std::alloc::Global;
 use trace_model::Entry;
@@ -20,5 +20,5 @@ pub fn hal_log_text(alloc: Global, script: &Script, entries: &[Entry]) -> Result
     fences_of_legal_traces_fit();
     hal_logs_of_legal_traces_print();
     let log = hal_log(alloc, script, entries)?;
-    print(alloc, u32::from(PART_COUNT), log.as_slice())
+    print(alloc, u32::from(PARTIAL_RESULT_COUNT), log.as_slice())
 }

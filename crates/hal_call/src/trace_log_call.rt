@@ -1,9 +1,9 @@
 //! `hal-of`: a script and a trace are read, the trace is judged, and its hal log is written.
-ghost use Rattle.std.specs.Prelude.{◌≡◌, ◌≢◌, ◌≤◌, IfSome, length};
-ghost use Rattle.std.specs.Io.KnownBytes.{IsAtEnd};
-ghost use Rattle.call_parts.specs.Answers.{Tells, TellsBy};
-ghost use Rattle.call_parts.specs.Ends.{CountsSink, CountsSource, ReadsBy};
+ghost use Rattle.std.specs.Prelude.{◌≤◌, length};
+ghost use Rattle.call_parts.specs.Answers.{OnDone, Tells, TellsBy};
+ghost use Rattle.call_parts.specs.Ends.{KeepsEnds};
 ghost use Rattle.hal_call.specs.Shown.{IsShown, Shows};
+ghost use Rattle.call_parts.specs.Status.{status_number};
 
 use crate::input::log_of_input;
 use call_parts::{InputWork, Status, TOO_LONG, answer, answer_input, refuse_trace};
@@ -43,18 +43,12 @@ impl InputWork for HalOf {
 pub fn hal_of_call<S: Source, K: Sink>(alloc: Global, source: &mut S, sink: &mut K) -> Status
     // At status 0 the source was read to its end, its bytes are a script and a legal trace of its profile, and the hal
     // log of the trace was written, and nothing else.
-    ensures whole { result.number ≡ 0 → IsAtEnd (S.left source.new)
-        × IfSome (S.left source.old) (λ input. IsShown input (K.state sink.old) (K.state sink.new)) }
-    // Each status and each text has its cause in the input's meaning: where no end failed and memory was there, the
-    // status and the text are those that belong to it. At status 4 a front of that text is written.
-    ensures tells { Tells Shows (S.left source.old) result.number (K.state sink.old) (K.state sink.new) }
-    // The source's count of faults rose at 3 alone, and the sink's at 4 alone; at 3 and 5 nothing was written. At 0 the
-    // source was read to its end; where there is another answer, too, or it has more than the limit.
-    ensures source { CountsSource result.number (S.faults source.old) (S.faults source.new) }
-    ensures sink { CountsSink result.number (K.state sink.old) (K.state sink.new) }
-    ensures read { ReadsBy TRACE_BYTES result.number (S.left source.old) (S.left source.new) }
-    ensures known { result.number ≤ 5 }
-    ensures no_usage { result.number ≢ 2 }
+    ensures whole { OnDone IsShown (status_number result) (S.left source.old) (S.left source.new) (K.state sink.old)
+        (K.state sink.new) }
+    // Each status and each text has its cause in the input's meaning.
+    ensures tells { Tells Shows (S.left source.old) (status_number result) (K.state sink.old) (K.state sink.new) }
+    ensures ends { KeepsEnds TRACE_BYTES (status_number result) (S.faults source.old) (S.faults source.new) (S.left source.old)
+        (S.left source.new) (K.state sink.old) (K.state sink.new) }
 {
     answer_input(alloc, source, sink, TRACE_BYTES, &HalOf)
 }
@@ -62,11 +56,11 @@ pub fn hal_of_call<S: Source, K: Sink>(alloc: Global, source: &mut S, sink: &mut
 /// Writes the hal log of an input, or what `check` says of it where it has none.
 fn show_input<K: Sink>(alloc: Global, input: &[u8], sink: &mut K) -> Status
     requires { length input.now ≤ 134217728 }
-    ensures { TellsBy (Shows input.now) result.number (K.state sink.old) (K.state sink.new) }
+    ensures { TellsBy (Shows input.now) (status_number result) (K.state sink.old) (K.state sink.new) }
 {
     match log_of_input(alloc, input) {
-        Ok(Some(text)) => answer(sink, text.as_slice(), Status::DONE),
+        Ok(Some(text)) => answer(sink, text.as_slice(), Status::Done),
         Ok(None) => judge_input(alloc, input, sink),
-        Err(_) => Status::NO_MEMORY,
+        Err(_) => Status::NoMemory,
     }
 }

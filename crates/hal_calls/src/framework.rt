@@ -1,23 +1,19 @@
 //! The rules that bind the framework: whether an event breaks them.
 ghost use Rattle.std.specs.Prelude.{◌≡◌, ◌==◌, ◌+◌, ◌&&◌, ◌||◌, ℕ, count_by, find, min, nat_lt, not, option_copied, sum_by};
-ghost use Rattle.std.specs.Map.Iter.{ShowsInOrder, deref_pair};
-ghost use Rattle.hal_rows.specs.declared.row.Row.{Row as ARow};
 ghost use Rattle.std.specs.List.{list_all, list_any};
 ghost use Rattle.hal_model.specs.Framework.{has_no_output, has_two_inputs, is_past, is_twice_stream};
 ghost use Rattle.hal_model.specs.Words.{is_begin};
-ghost use Rattle.hal_rows.specs.Row.{is_row_in_call};
-ghost use Rattle.hal_rows.specs.Judged.{call_after_close_at, configure_in_flight_at, excused_at, frame_number_at, held_buffer_at, held_count_at, init_order_at, init_twice_at, is_flawed_at, is_held_at, is_held_target_at, is_holding, is_holding_for, is_in_other_call_at, is_output_in, is_requesting_at, is_row_awaited, is_row_called_from, is_row_in_flight, is_too_many_at, is_unknown_in, no_configuration_at, no_output_at, no_settings_at, overlapping_calls_at, repeated_stream_at, too_many_buffers_at, two_inputs_at, unknown_stream_at};
+ghost use Rattle.hal_rows.specs.Judged.{call_after_close_at, configure_in_flight_at, excused_at, frame_number_at, held_buffer_at, held_count_at, init_order_at, init_twice_at, is_flawed_at, is_held_at, is_held_target_at, is_holding, is_holding_for, is_in_other_call_at, is_output_in, is_requesting_at, is_row_called_from, is_too_many_at, is_unknown_in, no_configuration_at, no_output_at, no_settings_at, overlapping_calls_at, repeated_stream_at, too_many_buffers_at, two_inputs_at, unknown_stream_at};
 ghost use Rattle.hal_table.specs.State.{state_of};
 
+use crate::meant::{Which, is_some_meant};
 use crate::stream::{
     are_outputs_in, find_most, has_no_output, has_two_inputs, is_twice_buffer, is_twice_stream,
     is_unknown_in, is_without_target, stream_count,
 };
 use hal_model::{HalEvent, HalStream, HalTarget, StreamMax};
-use hal_row::row::is_in_call;
-use hal_rows::{Device, Row, TargetRow};
+use hal_rows::Device;
 use hal_table::HalTable;
-use lru::Iter;
 
 /// Whether a call begins.
 fn is_begin(event: &HalEvent) -> bool
@@ -100,47 +96,12 @@ pub fn two_inputs(event: &HalEvent, table: &HalTable) -> bool
     }
 }
 
-fn are_back(targets: &[TargetRow]) -> bool
-    ensures { result ≡ list_all (λ t. t.back) targets.now }
-{
-    targets.iter().all(|target| target.back)
-}
-
-fn is_awaited(row: &Row) -> bool
-    ensures { result ≡ is_row_awaited row.now }
-{
-    row.accepted
-        && !(((row.last_part || (row.result_error || row.failed)) || row.last_empty)
-            && are_back(row.targets.as_slice()))
-}
-
-/// Whether the request stands in the way of a configuration.
-pub fn is_in_flight(row: &Row) -> bool
-    ensures { result ≡ is_row_in_flight row.now }
-{
-    is_in_call(row) || (is_awaited(row) && !row.flushed)
-}
-
-fn is_some_in_flight_of(rows: Iter<'_, u32, Row>) -> bool
-    requires { ShowsInOrder (deref_pair {K = ℕ} {X = ARow}) }
-    ensures { result ≡ list_any (λ e. is_row_in_flight e.1) rows.entry }
-{
-    let mut rows = rows;
-    rows.any(|(_, row)| is_in_flight(row))
-}
-
-fn is_some_in_flight(table: &HalTable) -> bool
-    ensures { result ≡ list_any is_row_in_flight (state_of table.now).rows }
-{
-    is_some_in_flight_of(table.rows())
-}
-
 /// Whether a configuration begins while requests are in flight.
 pub fn configure_in_flight(event: &HalEvent, table: &HalTable) -> bool
     ensures { result ≡ configure_in_flight_at event.now (state_of table.now) }
 {
     match event {
-        HalEvent::ConfigureBegin { .. } => is_some_in_flight(table),
+        HalEvent::ConfigureBegin { .. } => is_some_meant(Which::InFlight, event, table),
         _ => false,
     }
 }

@@ -4,5 +4,6 @@
 
 pub mod framework;
 pub mod left;
+pub mod meant;
 pub mod returns;
 pub mod stream;

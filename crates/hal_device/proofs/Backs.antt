@@ -11,13 +11,13 @@ use Rattle.cam_types.specs.declared.row.TargetState.TheVariants.{Waiting}
 use Rattle.cam_types.specs.declared.row.TargetView.{TargetView}
 use Rattle.cam_types.specs.declared.stream.StreamSpec.{StreamSpec}
 use Rattle.device_rows.specs.Jobs.{is_fill_out}
-use Rattle.device_rows.specs.Ready.{is_sensor_out, is_state}
+use Rattle.device_rows.specs.Ready.{is_sensor_out, is_same_state}
 use Rattle.device_rows.specs.Rows.{row_at, target_at}
 use Rattle.device_store.proofs.General.{find-passes}
 use Rattle.device_store.specs.Steps.{IsBackAt, IsBackRow, IsBackTarget, waiter_left}
 use Rattle.buffer_pool.specs.Fences.{FencesMade}
 use Rattle.hal_device.specs.Kept.{IsBlockAt, rests, rests_at}
-use Rattle.hal_device.proofs.Resting.{all_places}
+use Rattle.hal_device.proofs.Fours.{all-four}
 
 no-fence : (o : Option FenceNo) → is_none o ≡ true → o ≡ None
 no-fence None h = refl
@@ -26,10 +26,10 @@ no-fence (Some f) h = absurd (false≢true h)
 target-free : (row : RowView) (s : ℕ) (t : TargetView) → rests row ≡ true → target_at s row ≡ Some t → t.fence ≡ None
 target-free row s t h at =
     let parts = and_parts (not (is_sensor_out row.sensor)) ((rests_at row.targets.a && rests_at row.targets.b) && (rests_at row.targets.c && rests_at row.targets.d)) h in
-    let all = all_places (λ (u : TargetView). is_none u.fence) (λ u r. (and_parts (not (is_fill_out u.state)) (is_none u.fence) r).1) row.targets.a row.targets.b row.targets.c row.targets.d parts.1 in
+    let all = all-four rests_at (λ (u : TargetView). is_none u.fence) (λ u r. (and_parts (not (is_fill_out u.state)) (is_none u.fence) r).1) row.targets.a row.targets.b row.targets.c row.targets.d parts.1 in
     no-fence t.fence (find-passes (λ (u : TargetView). u.stream.0 == s) (λ (u : TargetView). is_none u.fence) (four_list row.targets) t all at)
 
-free-waiter : (fences : FencesMade) (t : TargetView) (b : Bool) → is_state t.state Waiting ≡ b → t.fence ≡ None → waiter_left fences t ≡ None
+free-waiter : (fences : FencesMade) (t : TargetView) (b : Bool) → is_same_state t.state Waiting ≡ b → t.fence ≡ None → waiter_left fences t ≡ None
 free-waiter fences t true is free = rw (is, free) refl
 free-waiter fences t false is free = rw is refl
 
@@ -45,7 +45,7 @@ back_free fences specs n s rows parked all h = by-row (row_at n rows) refl h
     by-spec row t (Some spec) found at stream h' =
         let free = target-free row s t (find-passes (λ (r : RowView). r.frame.0 == n) rests rows row all found) at in
         record {
-          waiter = h'.waiter ∙ free-waiter fences t (is_state t.state Waiting) refl free;
+          waiter = h'.waiter ∙ free-waiter fences t (is_same_state t.state Waiting) refl free;
           block = rw (found, at, stream) (h'.pixels.id, h'.pixels.block);
         }
     by-spec row t None found at stream h' = absurd h'

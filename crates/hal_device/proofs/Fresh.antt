@@ -8,6 +8,7 @@ use Rattle.std.proofs.lemmas.Bool.Decides.{nat_tests}
 use Rattle.std.proofs.lemmas.List.{length-map}
 use Rattle.basic_lemmas.proofs.Lists.{all-append, all-where}
 use Rattle.buffer_pool.specs.Blocks.{block_length}
+use Rattle.cam_types.proofs.Fours.{four-few}
 use Rattle.cam_types.specs.Four.{four_list}
 use Rattle.cam_types.specs.Metadata.{range_fault}
 use Rattle.cam_types.specs.declared.four.Four.{Four}
@@ -28,7 +29,7 @@ use Rattle.hal_model.specs.declared.event.HalTarget.{HalTarget}
 use Rattle.request_checks.specs.declared.plan.Plan.{Plan}
 use Rattle.request_checks.specs.declared.plan.PlanStream.{PlanStream}
 use Rattle.basic_lemmas.proofs.Tests.{or-first, or-second, not-false}
-use Rattle.basic_lemmas.proofs.Options.{not-some, option-few}
+use Rattle.basic_lemmas.proofs.Options.{not-some}
 
 -- ---- what is known where no error is due
 
@@ -182,15 +183,8 @@ fresh_some k (t ∷ targets) few some known =
       ]
     ]
 
-few-next : {T : Type 0} (o : Option T) (rest : List T) (n : ℕ) → length rest ≤ n → length (option_to_list o ++ rest) ≤ n + 1
-few-next None rest n l = omega (arith, l)
-few-next (Some t) rest n l = omega (arith, l)
-
-few-four : {T : Type 0} (f : Four T) → length (four_list f) ≤ 4
-few-four f = few-next f.a _ 3 (few-next f.b _ 2 (few-next f.c _ 1 (option-few f.d)))
-
 few-specs : (plan : Plan) → length (specs_of plan) ≤ 4
-few-specs plan = rw (length-map (four_list plan.streams) spec_of) (few-four plan.streams)
+few-specs plan = rw (length-map (four_list plan.streams) spec_of) (four-few plan.streams)
 
 pub fresh_some_in : (plan : Plan) (targets : List HalTarget) → (length targets == 0) ≡ false → list_any (λ (t : HalTarget). not (nat_lt t.stream (length (specs_of plan)))) targets ≡ false → is_some_target (four_list (placed targets)) ≡ true
 fresh_some_in plan targets some known = fresh_some (length (specs_of plan)) targets (few-specs plan) some known
@@ -264,19 +258,6 @@ kept_requested d new plan profile spares after next n row k is blocks same fresh
     own f = grind (arith, nat_tests)
 
 -- ---- all that the device asks of the row
-
-abbrev pub shown : DeviceView → Spares → Profile → Bool → Bool → Bool → Bool → Option Settings → ℕ → HalDeviceState
-shown device spares profile initialized failed flushing closing last next = record {
-  profile = profile;
-  device = device;
-  spares = spares;
-  initialized = initialized;
-  failed = failed;
-  flushing = flushing;
-  closing = closing;
-  last = last;
-  next = next;
-}
 
 pub record Admitted (d : DeviceView) (plan : Plan) (spares : Spares) (next : ℕ) (row : RowView) : Type 0 where
   pub fit : AreFit plan row.targets spares

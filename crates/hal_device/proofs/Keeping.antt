@@ -7,7 +7,7 @@ use Rattle.basic_lemmas.proofs.Lists.{all-filtered, all-mapped}
 use Rattle.buffer_pool.specs.Blocks.{block_length}
 use Rattle.cam_types.specs.declared.number.BufferId.{BufferId}
 use Rattle.cam_types.specs.declared.number.StreamIx.{StreamIx}
-use Rattle.cam_types.specs.declared.part.Part.{Part}
+use Rattle.cam_types.specs.declared.partial_result.PartialResult.{PartialResult}
 use Rattle.cam_types.specs.declared.profile.Profile.{Profile}
 use Rattle.cam_types.specs.declared.row.RowView.{RowView}
 use Rattle.cam_types.specs.declared.row.TargetView.{TargetView}
@@ -54,7 +54,7 @@ before_exposed next time (Some row) rows h =
     before-changed next row.frame.0 sensor_home (with_row row.frame.0 (exposed time) rows) (λ r. refl) (before-changed next row.frame.0 (exposed time) rows (λ r. refl) h)
 before_exposed next time None rows h = h
 
-pub before_sent : (next n : ℕ) (o : Option (ℕ × Part)) (rows : List RowView) → are_before next rows ≡ true → are_before next (sent_rows n o rows) ≡ true
+pub before_sent : (next n : ℕ) (o : Option (ℕ × PartialResult)) (rows : List RowView) → are_before next rows ≡ true → are_before next (sent_rows n o rows) ≡ true
 before_sent next n (Some sent) rows h = gone next n (with_row n (with_part sent.0) rows) (before-changed next n (with_part sent.0) rows (λ r. refl) h)
 before_sent next n None rows h = h
 

@@ -1,3 +1,4 @@
+pub mod Fours
 pub mod Resting
 pub mod Jobs
 pub mod Backs

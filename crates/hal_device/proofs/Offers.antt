@@ -16,26 +16,15 @@ use Rattle.hal_device.specs.Kept.{are_offered, are_packed, is_offered_at, is_siz
 use Rattle.request_checks.specs.Plan.{plan_of, plan_stream}
 use Rattle.request_checks.specs.declared.plan.Plan.{Plan}
 use Rattle.request_checks.specs.declared.plan.PlanStream.{PlanStream}
-use Rattle.basic_lemmas.proofs.Lists.{all-at}
+use Rattle.cam_types.specs.Four.{four_list}
+use Rattle.hal_device.proofs.Fours.{all-four}
+use Rattle.basic_lemmas.proofs.Lists.{all-at, all-mapped}
 use Rattle.basic_lemmas.proofs.Tests.{own-number}
 
-all-specs : (a b c d : Option PlanStream) → ((is_offered_at a && is_offered_at b) && (is_offered_at c && is_offered_at d)) ≡ true → list_all is_offered (map spec_of (option_to_list a ++ (option_to_list b ++ (option_to_list c ++ option_to_list d)))) ≡ true
-all-specs a b c d h =
-    let l = and_parts (is_offered_at a && is_offered_at b) (is_offered_at c && is_offered_at d) h in
-    let u = and_parts (is_offered_at a) (is_offered_at b) l.0 in
-    let v = and_parts (is_offered_at c) (is_offered_at d) l.1 in
-    one a (option_to_list b ++ (option_to_list c ++ option_to_list d)) u.0 (one b (option_to_list c ++ option_to_list d) u.1 (one c (option_to_list d) v.0 (last d v.1)))
-  where
-    last : (o : Option PlanStream) → is_offered_at o ≡ true → list_all is_offered (map spec_of (option_to_list o)) ≡ true
-    last None g = refl
-    last (Some s) g = rw g refl
-
-    one : (o : Option PlanStream) (rest : List PlanStream) → is_offered_at o ≡ true → list_all is_offered (map spec_of rest) ≡ true → list_all is_offered (map spec_of (option_to_list o ++ rest)) ≡ true
-    one None rest g k = k
-    one (Some s) rest g k = rw g k
-
 pub offered_all : (plan : Plan) → are_offered plan ≡ true → list_all is_offered (specs_of plan) ≡ true
-offered_all plan h = all-specs plan.streams.a plan.streams.b plan.streams.c plan.streams.d h
+offered_all plan h =
+    all-mapped is_offered spec_of (four_list plan.streams)
+    ∙ all-four is_offered_at (λ (s : PlanStream). is_offered (spec_of s)) (λ s g. g) plan.streams.a plan.streams.b plan.streams.c plan.streams.d h
 
 -- ---- the plan of accepted streams
 

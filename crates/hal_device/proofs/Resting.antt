@@ -1,8 +1,10 @@
 -- Rows with no job out stay so.
-use Rattle.std.proofs.Common.{◌≡◌, ℕ, ◌==◌, Bool, true, false, ◌&&◌, ◌||◌, not, is_none, List, [], ◌∷◌, ◌++◌, Option, Some, None, refl, ap, ◌∙◌, inl, inr, option_to_list, arith}
-use Rattle.std.specs.List.{list_all, list_any}
-use Rattle.std.proofs.lemmas.Bool.{and_parts, cases_Bool, false≢true}
+use Rattle.std.proofs.Common.{◌≡◌, ℕ, ◌==◌, Bool, true, false, ◌&&◌, ◌||◌, not, is_none, List, [], ◌∷◌, Option, Some, None, refl, ap, ◌∙◌, inl, inr, arith}
+use Rattle.std.specs.List.{list_all}
+use Rattle.std.proofs.lemmas.Bool.{and_parts, cases_Bool}
 use Rattle.basic_lemmas.proofs.Lists.{all-filtered, all-mapped, all-where}
+use Rattle.cam_types.specs.Four.{four_list}
+use Rattle.hal_device.proofs.Fours.{all-four, none-passes}
 use Rattle.cam_types.specs.declared.number.StreamIx.{StreamIx}
 use Rattle.cam_types.specs.declared.row.RowView.{RowView}
 use Rattle.cam_types.specs.declared.row.TargetState.{TargetState}
@@ -23,35 +25,10 @@ use Rattle.hal_device_model.proofs.Whole.{changed_twice}
 
 -- ---- what a row that rests meets
 
-no-fill : (a b c d : Option TargetView) → ((rests_at a && rests_at b) && (rests_at c && rests_at d)) ≡ true → list_any (λ (t : TargetView). is_fill_out t.state) (option_to_list a ++ (option_to_list b ++ (option_to_list c ++ option_to_list d))) ≡ false
-no-fill a b c d h =
-    let l = and_parts (rests_at a && rests_at b) (rests_at c && rests_at d) h in
-    let u = and_parts (rests_at a) (rests_at b) l.0 in
-    let v = and_parts (rests_at c) (rests_at d) l.1 in
-    one a (option_to_list b ++ (option_to_list c ++ option_to_list d)) u.0 (one b (option_to_list c ++ option_to_list d) u.1 (one c (option_to_list d) v.0 (last d v.1)))
-  where
-    test : TargetView → Bool
-    test t = is_fill_out t.state
-
-    quiet : (t : TargetView) → rests_at (Some t) ≡ true → is_fill_out t.state ≡ false
-    quiet t r = by (is_fill_out t.state) refl
-      where
-        by : (x : Bool) → is_fill_out t.state ≡ x → is_fill_out t.state ≡ false
-        by true is = absurd (false≢true (rw is at r))
-        by false is = is
-
-    last : (o : Option TargetView) → rests_at o ≡ true → list_any (λ (t : TargetView). is_fill_out t.state) (option_to_list o) ≡ false
-    last None r = refl
-    last (Some t) r = rw (quiet t r) refl
-
-    one : (o : Option TargetView) (rest : List TargetView) → rests_at o ≡ true → list_any (λ (t : TargetView). is_fill_out t.state) rest ≡ false → list_any (λ (t : TargetView). is_fill_out t.state) (option_to_list o ++ rest) ≡ false
-    one None rest r h' = h'
-    one (Some t) rest r h' = rw (quiet t r) h'
-
 job-free : (row : RowView) → rests row ≡ true → not (has_job_out row) ≡ true
 job-free row h =
     let parts = and_parts (not (is_sensor_out row.sensor)) ((rests_at row.targets.a && rests_at row.targets.b) && (rests_at row.targets.c && rests_at row.targets.d)) h in
-    let none = no-fill row.targets.a row.targets.b row.targets.c row.targets.d parts.1 in
+    let none = none-passes (λ (t : TargetView). is_fill_out t.state) (four_list row.targets) (all-four rests_at (λ (t : TargetView). not (is_fill_out t.state)) (λ t r. (and_parts (not (is_fill_out t.state)) (is_none t.fence) r).0) row.targets.a row.targets.b row.targets.c row.targets.d parts.1) in
     rw none (by (is_sensor_out row.sensor) parts.0)
   where
     by : (x : Bool) → not x ≡ true → not (x || false) ≡ true
@@ -64,26 +41,10 @@ jobs_free rows h = all-where rests (λ row. not (has_job_out row)) rows job-free
 made-one : (t : TargetView) → rests_at (Some t) ≡ true → has_made_fence 0 t ≡ true
 made-one t h = grind arith
 
--- what each target of a row that rests meets
-pub all_places : (p : TargetView → Bool) → ((t : TargetView) → rests_at (Some t) ≡ true → p t ≡ true) → (a b c d : Option TargetView) → ((rests_at a && rests_at b) && (rests_at c && rests_at d)) ≡ true → list_all p (option_to_list a ++ (option_to_list b ++ (option_to_list c ++ option_to_list d))) ≡ true
-all_places p each a b c d h =
-    let l = and_parts (rests_at a && rests_at b) (rests_at c && rests_at d) h in
-    let u = and_parts (rests_at a) (rests_at b) l.0 in
-    let v = and_parts (rests_at c) (rests_at d) l.1 in
-    one a (option_to_list b ++ (option_to_list c ++ option_to_list d)) u.0 (one b (option_to_list c ++ option_to_list d) u.1 (one c (option_to_list d) v.0 (last d v.1)))
-  where
-    last : (o : Option TargetView) → rests_at o ≡ true → list_all p (option_to_list o) ≡ true
-    last None r = refl
-    last (Some t) r = rw (each t r) refl
-
-    one : (o : Option TargetView) (rest : List TargetView) → rests_at o ≡ true → list_all p rest ≡ true → list_all p (option_to_list o ++ rest) ≡ true
-    one None rest r h' = h'
-    one (Some t) rest r h' = rw (each t r) h'
-
 made-row : (row : RowView) → rests row ≡ true → have_made_fences 0 row ≡ true
 made-row row h =
     let parts = and_parts (not (is_sensor_out row.sensor)) ((rests_at row.targets.a && rests_at row.targets.b) && (rests_at row.targets.c && rests_at row.targets.d)) h in
-    all_places (has_made_fence 0) made-one row.targets.a row.targets.b row.targets.c row.targets.d parts.1
+    all-four rests_at (has_made_fence 0) made-one row.targets.a row.targets.b row.targets.c row.targets.d parts.1
 
 pub fences_made : (rows : List RowView) → list_all rests rows ≡ true → list_all (have_made_fences 0) rows ≡ true
 fences_made rows h = all-where rests (have_made_fences 0) rows made-row h

@@ -17,7 +17,9 @@ ghost use Rattle.hal_device.specs.Ready.{is_of};
 ghost use Rattle.hal_device_model.specs.Calls.{delivered_rows, error_rows, exposed_rows, failed_rows, filled_rows, sent_rows, settled};
 
 use buffer_pool::{Fences, Parked};
-use cam_types::{BufferId, FaultList, Four, FrameNo, NoMemory, Part, PixelBuf, RowView, StreamIx};
+use cam_types::{
+    BufferId, FaultList, Four, FrameNo, NoMemory, PartialResult, PixelBuf, RowView, StreamIx,
+};
 use device_core::Device;
 use device_rows::ErrorEntry;
 use request_checks::Plan;
@@ -83,7 +85,7 @@ impl QuietDevice {
         }
     }
 
-    /// Whether a metadata result of the frame is ready.
+    /// Whether a partial result of the frame is ready.
     pub fn has_part(&self, frame: FrameNo) -> bool
         ensures { result ≡ is_some (next_part self.now.faults self.now.rows frame.0) }
     {
@@ -161,8 +163,8 @@ impl QuietDevice {
         Some(row.frame)
     }
 
-    /// Gives the next metadata result of a frame.
-    pub fn part(&mut self, frame: FrameNo) -> Option<(u8, Part)>
+    /// Gives the next partial result of a frame.
+    pub fn part(&mut self, frame: FrameNo) -> Option<(u8, PartialResult)>
         ensures part { result ≡ next_part self.old.faults self.old.rows frame.0 }
         ensures rows { self.new ≡ with_rows
             (sent_rows frame.0 (next_part self.old.faults self.old.rows frame.0) self.old.rows) self.old }

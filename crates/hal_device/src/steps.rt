@@ -8,7 +8,7 @@ ghost use Rattle.hal_device.specs.Kept.{IsDelivered, place_at};
 
 use crate::device::HalDevice;
 use crate::shelves::picture_length;
-use cam_types::{BufferId, FrameNo, Part, StreamIx};
+use cam_types::{BufferId, FrameNo, PartialResult, StreamIx};
 use request_checks::{Plan, PlanStream};
 
 /// A good buffer that comes back: its number, and the SHA-256 of its picture.
@@ -28,10 +28,10 @@ impl HalDevice {
         self.quiet.expose(time)
     }
 
-    /// The next metadata result of a frame, with its number from 1 to 3. None exactly where the frame isn't exposed,
+    /// The next partial result of a frame, with its number from 1 to 3. None exactly where the frame isn't exposed,
     /// its metadata has ended, it fails whole or will, or the result is the last and it shall lack it or that of an
     /// earlier frame hasn't come.
-    pub fn send_part(&mut self, frame: FrameNo) -> Option<(u8, Part)>
+    pub fn send_part(&mut self, frame: FrameNo) -> Option<(u8, PartialResult)>
         ensures part { result ≡ part_in frame.0 self.old }
         ensures state { self.new ≡ after_call (SendPart frame.0) self.old }
     {

@@ -1,8 +1,8 @@
 -- What the structs of the header say (pauvigre_device.h).
 use Rattle.std.specs.Prelude.{ℕ, ◌==◌, Bool, true, false, ◌&&◌, [], ◌∷◌, Option, Some, None, nat_lt, if◌then◌else◌}
 use Rattle.cam_types.specs.declared.item.Settings.{Settings}
-use Rattle.cam_types.specs.declared.part.Part.{Part}
-use Rattle.cam_types.specs.declared.part.Part.TheVariants.{Look, Light, Time}
+use Rattle.cam_types.specs.declared.partial_result.PartialResult.{PartialResult}
+use Rattle.cam_types.specs.declared.partial_result.PartialResult.TheVariants.{Look, Light, Time}
 use Rattle.cam_types.specs.declared.profile.Profile.{Profile}
 use Rattle.cam_types.specs.declared.script.Fault.{Fault}
 use Rattle.cam_types.specs.declared.script.Fault.TheVariants.{Request, Result, Buffer, Device}
@@ -87,7 +87,7 @@ max_buffers_record plan = record {
   of = most_of plan.streams.a ∷ most_of plan.streams.b ∷ most_of plan.streams.c ∷ most_of plan.streams.d ∷ [];
 }
 
-abbrev pub part_record : ℕ × Part → PartRecord
+abbrev pub part_record : ℕ × PartialResult → PartRecord
 part_record (number, Look pattern level) =
     record { exposure = 0; timestamp = 0; number = number; level = level; iso = 0; pattern = pattern }
 part_record (number, Light exposure iso) =

@@ -2,7 +2,7 @@
 ghost use Rattle.std.specs.Prelude.{◌≡◌};
 ghost use Rattle.hal_device_c.specs.Records.{error_record, fault_of, format_of, has_kind, max_buffers_record, most_of, part_record, profile_of, row_record, row_target, settings_of, settings_record, spec_of, target_of};
 
-use cam_types::{Fault, Format, FrameNo, Part, Profile, Settings, StreamIx, StreamSpec};
+use cam_types::{Fault, Format, FrameNo, PartialResult, Profile, Settings, StreamIx, StreamSpec};
 use device_rows::ErrorEntry;
 use hal_device::{ReadyRow, ReadyTarget};
 use hal_model::HalTarget;
@@ -218,8 +218,8 @@ pub(crate) fn max_buffers_record(plan: Plan) -> MaxBuffersRecord
     }
 }
 
-/// A metadata result and its number.
-pub(crate) fn part_record(sent: (u8, Part)) -> PartRecord
+/// A partial result and its number.
+pub(crate) fn part_record(sent: (u8, PartialResult)) -> PartRecord
     ensures { result ≡ part_record sent }
 {
     let (number, part) = sent;
@@ -232,17 +232,17 @@ pub(crate) fn part_record(sent: (u8, Part)) -> PartRecord
         pattern: 0,
     };
     match part {
-        Part::Look { pattern, level } => PartRecord {
+        PartialResult::Look { pattern, level } => PartRecord {
             pattern,
             level,
             ..empty
         },
-        Part::Light { exposure, iso } => PartRecord {
+        PartialResult::Light { exposure, iso } => PartRecord {
             exposure,
             iso,
             ..empty
         },
-        Part::Time { timestamp } => PartRecord { timestamp, ..empty },
+        PartialResult::Time { timestamp } => PartRecord { timestamp, ..empty },
     }
 }
 

@@ -30,7 +30,7 @@ pub extern "C" fn pauvigre_expose(
     step_answer(is_made)
 }
 
-/// Gives the next metadata result of a frame.
+/// Gives the next partial result of a frame.
 #[unsafe(no_mangle)]
 pub extern "C" fn pauvigre_send_part(
     alloc: Global,

@@ -1,12 +1,13 @@
 -- What is found by its key, once one thing changed, went or was added.
-use Rattle.std.proofs.Common.{◌≡◌, ℕ, ◌==◌, Bool, true, false, not, nat_lt, if◌then◌else◌, List, [], ◌∷◌, ◌++◌, map, filter, Some, None, refl, ap, ◌∙◌, inl, inr, ◌⊎◌, arith}
+use Rattle.std.proofs.Common.{◌≡◌, ℕ, ◌==◌, Bool, true, false, not, nat_lt, if◌then◌else◌, List, [], ◌∷◌, ◌++◌, map, filter, Option, Some, None, refl, sym, ap, ◌∙◌, inl, inr, ◌⊎◌, arith}
 use Rattle.std.specs.List.{find, list_all}
 use Rattle.std.specs.Option.{option_map}
-use Rattle.std.proofs.lemmas.Bool.{and_parts, cases_Bool, false≢true}
+use Rattle.std.proofs.lemmas.Bool.{and_parts, cases_Bool, eqb-true, false≢true}
 use Rattle.std.proofs.lemmas.Bool.Decides.{nat_tests}
-use Rattle.device_store.proofs.General.{find-passes}
-use Rattle.device_store.specs.Stored.{rises}
-use Rattle.basic_lemmas.proofs.Lists.{found-passes}
+use Rattle.cam_types.specs.declared.row.RowView.{RowView}
+use Rattle.device_rows.specs.Rows.{row_at, with_row}
+use Rattle.device_store.specs.Stored.{frame_number, rises}
+use Rattle.basic_lemmas.proofs.Lists.{all-found, found-changed, found-passes}
 
 other-key : (k m n : ℕ) → (k == n) ≡ true → (m == n) ≡ false → (k == m) ≡ false
 other-key k m n here other = grind (arith, nat_tests, here, other)
@@ -58,7 +59,7 @@ found_left {X} key m n (y ∷ xs) x h =
         ]
 
     left : (k : ℕ) (zs : List X) (z : X) (i : ℕ) → find (λ w. key w == i) (filter (λ w. not (key w == k)) zs) ≡ Some z → (key z == k) ≡ false
-    left k zs z i g = not-true (key z == k) (find-passes (λ w. key w == i) (λ w. not (key w == k)) (filter (λ w. not (key w == k)) zs) z (all-left k zs) g)
+    left k zs z i g = not-true (key z == k) (all-found (λ w. not (key w == k)) (λ w. key w == i) (filter (λ w. not (key w == k)) zs) z (all-left k zs) g)
 
     apart : (a b : ℕ) → (a == n) ≡ true → (b == n) ≡ false → (b == m) ≡ true → (a == m) ≡ false
     apart a b p q r = grind (arith, nat_tests, p, q, r)
@@ -98,5 +99,29 @@ found_key key p (y ∷ xs) x order h =
         let same : y ≡ x = cc in
         rw (same, self (key x)) refl
     by false above ih g =
-        let other = below-other (key y) (key x) (find-passes p (λ z. nat_lt (key y) (key z)) xs x above g) in
+        let other = below-other (key y) (key x) (all-found (λ z. nat_lt (key y) (key z)) p xs x above g) in
         rw other (ih g)
+
+-- ---- all rows
+
+-- what holds of each row
+abbrev pub Each : (ℕ → RowView → Type 0) → List RowView → Type 0
+Each P rows = (n : ℕ) (row : RowView) → row_at n rows ≡ Some row → P n row
+
+pub each_changed : (P : ℕ → RowView → Type 0) (n : ℕ) (change : RowView → RowView) (rows : List RowView) → ((row : RowView) → (change row).frame.0 ≡ row.frame.0) → ((row : RowView) → row_at n rows ≡ Some row → P n (change row)) → ((m : ℕ) (row : RowView) → (m == n) ≡ false → row_at m rows ≡ Some row → P m row) → Each P (with_row n change rows)
+each_changed P n change rows same own others m new at =
+    elim (cases_Bool (m == n)) [
+      | inl here ↦ (
+          let is : m ≡ n = eqb-true m n here in
+          let at' : row_at n (with_row n change rows) ≡ Some new = ap (λ (i : ℕ). row_at i (with_row n change rows)) (sym is) ∙ at in
+          let moved : option_map change (row_at n rows) ≡ Some new = sym (found-changed frame_number change n rows same) ∙ at' in
+          rw is (by (row_at n rows) refl moved)
+          )
+      | inr other ↦ others m new other (sym (found_beside frame_number change m n rows same other) ∙ at)
+    ]
+  where
+    by : (o : Option RowView) → row_at n rows ≡ o → option_map change o ≡ Some new → P n new
+    by (Some row) found g =
+        let is : change row ≡ new = cc in
+        rw (← is) (own row found)
+    by None found g = absurd (cc)

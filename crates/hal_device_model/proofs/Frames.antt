@@ -9,21 +9,21 @@ use Rattle.basic_lemmas.proofs.Lists.{any-where, find-mapped}
 use Rattle.cam_types.specs.Rows.{awaits_metadata}
 use Rattle.cam_types.specs.declared.item.Settings.{Settings}
 use Rattle.cam_types.specs.declared.number.StreamIx.{StreamIx}
-use Rattle.cam_types.specs.declared.part.Part.{Part}
+use Rattle.cam_types.specs.declared.partial_result.PartialResult.{PartialResult}
 use Rattle.cam_types.specs.declared.profile.Profile.{Profile}
 use Rattle.cam_types.specs.declared.row.RowView.{RowView}
 use Rattle.cam_types.specs.declared.row.TargetState.TheVariants.{Waiting}
 use Rattle.cam_types.specs.declared.row.TargetView.{TargetView}
 use Rattle.cam_types.specs.declared.script.Fault.{Fault}
-use Rattle.device_rows.specs.Ready.{is_delivery_ready, is_state, may_deliver as may_deliver_row, may_return_failed as may_return_failed_row}
+use Rattle.device_rows.specs.Ready.{is_delivery_ready, is_same_state, may_deliver as may_deliver_row, may_return_failed as may_return_failed_row}
 use Rattle.device_rows.specs.Rows.{all_stopped, delivered, exposed, fill_begun, fill_ended, returned_failed, row_at, sensor_home, target_in, with_error, with_part, with_row}
 use Rattle.device_store.proofs.Ops.{met}
 use Rattle.device_rows.specs.declared.entry.ErrorEntry.{ErrorEntry}
 use Rattle.device_rows.specs.declared.entry.ErrorEntry.TheVariants.{Request as LostRequest, Result as LostResult, Buffer as LostBuffer, Device as LostDevice}
 use Rattle.hal_device_model.proofs.Apart.{speaks}
 use Rattle.hal_device_model.proofs.Errors.{Told, told}
-use Rattle.hal_device_model.proofs.Found.{found_more}
-use Rattle.hal_device_model.proofs.Lives.{Each, RowLives, awaiting_live, each_changed, each_settled, holding_live, lives_beside, lives_ended, lives_fresh, lives_moved, lives_on}
+use Rattle.hal_device_model.proofs.Found.{Each, each_changed, found_more}
+use Rattle.hal_device_model.proofs.Lives.{RowLives, awaiting_live, each_settled, holding_live, lives_beside, lives_ended, lives_fresh, lives_moved, lives_on}
 use Rattle.hal_device_model.proofs.Steps.{delivery_good, failed_out, next_dark, next_sends, stands_below}
 use Rattle.hal_device_model.proofs.Whole.{Sound, all_sound, keeps_them, other_frame, own_frame, same_row, target_of, turned, well_formed}
 use Rattle.hal_device_model.specs.Law.{KeepsJudged, breaks_one, is_judged, kept_rules}
@@ -89,19 +89,13 @@ beside-two e f past rows silent silent' point point' l = beside e (f ∷ past) r
 
 initialize-stays : (s : HalDeviceState) (past : List HalEvent) (o : Option CallError) → Alive past s.device.rows → Stays (unless o (initialized s) s) (called InitBegin InitOk (λ error. InitError error) o) past
 initialize-stays s past None l = two (initialized s) InitOk InitBegin past (beside-two InitOk InitBegin past s.device.rows (λ n. refl) (λ n. refl) refl refl l) refl refl refl refl
-initialize-stays s past (Some InvalidArgument) l = two s (InitError (hal_error InvalidArgument)) InitBegin past (beside-two (InitError (hal_error InvalidArgument)) InitBegin past s.device.rows (λ n. refl) (λ n. refl) refl refl l) refl refl refl refl
-initialize-stays s past (Some NoDevice) l = two s (InitError (hal_error NoDevice)) InitBegin past (beside-two (InitError (hal_error NoDevice)) InitBegin past s.device.rows (λ n. refl) (λ n. refl) refl refl l) refl refl refl refl
-initialize-stays s past (Some WrongSequence) l = two s (InitError (hal_error WrongSequence)) InitBegin past (beside-two (InitError (hal_error WrongSequence)) InitBegin past s.device.rows (λ n. refl) (λ n. refl) refl refl l) refl refl refl refl
-initialize-stays s past (Some NoMemory) l = two s (InitError (hal_error NoMemory)) InitBegin past (beside-two (InitError (hal_error NoMemory)) InitBegin past s.device.rows (λ n. refl) (λ n. refl) refl refl l) refl refl refl refl
 initialize-stays s past (Some Busy) l = quiet s past l
+initialize-stays s past (Some error) l = two s (InitError (hal_error error)) InitBegin past (beside-two (InitError (hal_error error)) InitBegin past s.device.rows (λ n. refl) (λ n. refl) refl refl l) refl refl refl refl
 
 configure-stays : (s : HalDeviceState) (specs' : HalDeviceState) (b o' : HalEvent) (past : List HalEvent) (o : Option CallError) → specs'.device.rows ≡ s.device.rows → ((n : ℕ) → speaks n b ≡ false) → ((n : ℕ) → speaks n o' ≡ false) → is_point b ≡ false → is_point o' ≡ false → names_idle 3 b past ≡ false → ((f : HalEvent) → names_idle 3 o' (f ∷ past) ≡ false) → ends_again b past ≡ false → ((f : HalEvent) → ends_again o' (f ∷ past) ≡ false) → Alive past s.device.rows → Stays (unless o specs' s) (called b o' (λ error. ConfigureError error) o) past
 configure-stays s after b ok past None same q q' p p' u u' a a' l = two after ok b past (rw same (beside-two ok b past s.device.rows q' q p' p l)) (u' b) u (a' b) a
-configure-stays s after b ok past (Some InvalidArgument) same q q' p p' u u' a a' l = two s (ConfigureError (hal_error InvalidArgument)) b past (beside-two (ConfigureError (hal_error InvalidArgument)) b past s.device.rows (λ n. refl) q refl p l) refl u refl a
-configure-stays s after b ok past (Some NoDevice) same q q' p p' u u' a a' l = two s (ConfigureError (hal_error NoDevice)) b past (beside-two (ConfigureError (hal_error NoDevice)) b past s.device.rows (λ n. refl) q refl p l) refl u refl a
-configure-stays s after b ok past (Some WrongSequence) same q q' p p' u u' a a' l = two s (ConfigureError (hal_error WrongSequence)) b past (beside-two (ConfigureError (hal_error WrongSequence)) b past s.device.rows (λ n. refl) q refl p l) refl u refl a
-configure-stays s after b ok past (Some NoMemory) same q q' p p' u u' a a' l = two s (ConfigureError (hal_error NoMemory)) b past (beside-two (ConfigureError (hal_error NoMemory)) b past s.device.rows (λ n. refl) q refl p l) refl u refl a
 configure-stays s after b ok past (Some Busy) same q q' p p' u u' a a' l = quiet s past l
+configure-stays s after b ok past (Some error) same q q' p p' u u' a a' l = two s (ConfigureError (hal_error error)) b past (beside-two (ConfigureError (hal_error error)) b past s.device.rows (λ n. refl) q refl p l) refl u refl a
 
 stopped-alive : (past : List HalEvent) (rows : List RowView) → Alive past rows → Alive past (all_stopped rows)
 stopped-alive past rows l n row at = by (row_at n rows) refl (sym (find-mapped (λ row'. row'.frame.0 == n) (marked Stopped) rows) ∙ at)
@@ -114,11 +108,8 @@ stopped-alive past rows l n row at = by (row_at n rows) refl (sym (find-mapped (
 
 flush-stays : (s : HalDeviceState) (past : List HalEvent) (o : Option CallError) → Alive past s.device.rows → Stays (unless o (flush_begun s) s) (flush_begin_of o) past
 flush-stays s past None l = one (flush_begun s) FlushBegin past (beside FlushBegin past (all_stopped s.device.rows) (λ n. refl) refl (stopped-alive past s.device.rows l)) refl refl
-flush-stays s past (Some InvalidArgument) l = two s (FlushError (hal_error InvalidArgument)) FlushBegin past (beside-two (FlushError (hal_error InvalidArgument)) FlushBegin past s.device.rows (λ n. refl) (λ n. refl) refl refl l) refl refl refl refl
-flush-stays s past (Some NoDevice) l = two s (FlushError (hal_error NoDevice)) FlushBegin past (beside-two (FlushError (hal_error NoDevice)) FlushBegin past s.device.rows (λ n. refl) (λ n. refl) refl refl l) refl refl refl refl
-flush-stays s past (Some WrongSequence) l = two s (FlushError (hal_error WrongSequence)) FlushBegin past (beside-two (FlushError (hal_error WrongSequence)) FlushBegin past s.device.rows (λ n. refl) (λ n. refl) refl refl l) refl refl refl refl
-flush-stays s past (Some NoMemory) l = two s (FlushError (hal_error NoMemory)) FlushBegin past (beside-two (FlushError (hal_error NoMemory)) FlushBegin past s.device.rows (λ n. refl) (λ n. refl) refl refl l) refl refl refl refl
 flush-stays s past (Some Busy) l = quiet s past l
+flush-stays s past (Some error) l = two s (FlushError (hal_error error)) FlushBegin past (beside-two (FlushError (hal_error error)) FlushBegin past s.device.rows (λ n. refl) (λ n. refl) refl refl l) refl refl refl refl
 
 -- a flush ends where no row stands
 none-left : (flushing none : Bool) → (if not flushing then Some WrongSequence else (if not none then Some Busy else None)) ≡ None → none ≡ true
@@ -205,11 +196,8 @@ request-stays s n settings targets past k l None at num =
     by : (x : Option Settings) → nat_lt n s.next ≡ false → are_bad_settings x ≡ false → Stays (requested_with n x targets s) (RequestOk n ∷ RequestBegin n (is_no_settings settings) targets false false ∷ []) past
     by (Some x) new set = accepted-stays s n (is_no_settings settings) x targets past k new l
     by None new set = absurd (false≢true (sym set))
-request-stays s n settings targets past k l (Some InvalidArgument) at num = refused-stays s n (hal_error InvalidArgument) (is_no_settings settings) targets past (begin-new n (is_no_settings settings) targets past num) l
-request-stays s n settings targets past k l (Some NoDevice) at num = refused-stays s n (hal_error NoDevice) (is_no_settings settings) targets past (begin-new n (is_no_settings settings) targets past num) l
-request-stays s n settings targets past k l (Some WrongSequence) at num = refused-stays s n (hal_error WrongSequence) (is_no_settings settings) targets past (begin-new n (is_no_settings settings) targets past num) l
-request-stays s n settings targets past k l (Some NoMemory) at num = refused-stays s n (hal_error NoMemory) (is_no_settings settings) targets past (begin-new n (is_no_settings settings) targets past num) l
 request-stays s n settings targets past k l (Some Busy) at num = quiet s past l
+request-stays s n settings targets past k l (Some error) at num = refused-stays s n (hal_error error) (is_no_settings settings) targets past (begin-new n (is_no_settings settings) targets past num) l
 
 -- ---- steps
 
@@ -236,7 +224,7 @@ not-last n k p is few = grind (arith, nat_tests, is, few)
 no-more : (few a : Bool) → few ≡ false → (few && a) ≡ false
 no-more few a h = rw h refl
 
-part-stays : (s : HalDeviceState) (n : ℕ) (past : List HalEvent) → Sound s past → Alive past s.device.rows → (o : Option (ℕ × Part)) → part_in n s ≡ o → Stays (record s { device = record s.device { rows = sent_rows n o s.device.rows } }) (part_of n o) past
+part-stays : (s : HalDeviceState) (n : ℕ) (past : List HalEvent) → Sound s past → Alive past s.device.rows → (o : Option (ℕ × PartialResult)) → part_in n s ≡ o → Stays (record s { device = record s.device { rows = sent_rows n o s.device.rows } }) (part_of n o) past
 part-stays s n past k l None at = quiet s past l
 part-stays s n past k l (Some sent) at =
     let d = next_sends s.device.faults s.device.rows n sent at in
@@ -290,7 +278,7 @@ failed-stays s n t past k l true at =
     let (row, target, m) = met may_return_failed_row t.0 (row_at n s.device.rows) at in
     let f = k.rows.fits n row m.at in
     let own = l n row m.at in
-    let e = gives_back n t.0 target.buffer.0 Faulty (if is_state target.state Waiting then acquire_fence_of n target.buffer.0 past else NoFence) in
+    let e = gives_back n t.0 target.buffer.0 Faulty (if is_same_state target.state Waiting then acquire_fence_of n target.buffer.0 past else NoFence) in
     let moved : Alive (e ∷ past) (with_row n (returned_failed t) s.device.rows) = each_changed (λ i r. RowLives i (e ∷ past) r) n (returned_failed t) s.device.rows (λ r. refl)
     (λ r is. lives_on n e past r (returned_failed t r) (record { begins = refl; refuses = refl; point = refl; last = refl; result = refl; request = refl }) (λ x. x) (l n r is).dark (l n r is))
     (λ i r other is. lives_beside i e past r (turned i n other) refl (l i r is)) in
@@ -389,6 +377,11 @@ both profile faults (call ∷ calls) num =
 
 -- ---- the log is one session, and all of it is heard
 
+none-called : (p : HalEvent → Bool) (begins ok : HalEvent) (refused : HalError → HalEvent) (o : Option CallError) → p begins ≡ false → p ok ≡ false → ((error : HalError) → p (refused error) ≡ false) → list_any p (called begins ok refused o) ≡ false
+none-called p begins ok refused None first last errors = rw (last, first) refl
+none-called p begins ok refused (Some Busy) first last errors = refl
+none-called p begins ok refused (Some error) first last errors = rw (errors (hal_error error), first) refl
+
 no-open : (call : HalCall) (s : HalDeviceState) (past : List HalEvent) → list_any is_open_ok (events_of call s past) ≡ false
 no-open Initialize s past = by (initialize_error s)
   where
@@ -424,7 +417,7 @@ no-open (Expose time) s past = by (exposure_in s)
     by (Some row) = refl
 no-open (SendPart n) s past = by (part_in n s)
   where
-    by : (o : Option (ℕ × Part)) → list_any is_open_ok (part_of n o) ≡ false
+    by : (o : Option (ℕ × PartialResult)) → list_any is_open_ok (part_of n o) ≡ false
     by None = refl
     by (Some sent) = refl
 no-open (Fill n t) s past = refl

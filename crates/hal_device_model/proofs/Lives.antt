@@ -1,14 +1,13 @@
 -- A request whose row stands is live, where the framework keeps frame numbers.
 use Rattle.std.proofs.Common.{◌≡◌, ℕ, ◌==◌, Bool, true, false, ◌&&◌, ◌||◌, not, if◌then◌else◌, List, [], ◌∷◌, Option, Some, None, is_some, refl, sym, ap, ◌∙◌, inl, inr}
 use Rattle.std.specs.List.{list_all, list_any}
-use Rattle.std.specs.Option.{option_map}
 use Rattle.std.proofs.lemmas.Bool.{and_parts, cases_Bool, eqb-true, false≢true}
 use Rattle.cam_types.specs.Rows.{awaits_metadata}
 use Rattle.cam_types.specs.declared.row.RowView.{RowView}
-use Rattle.device_rows.specs.Rows.{row_at, with_row, without}
+use Rattle.device_rows.specs.Rows.{without}
 use Rattle.hal_device_model.proofs.Apart.{no_begin, no_refusal, no_request_error, no_result_error, speaks}
 use Rattle.hal_device_model.proofs.Fits.{is_target}
-use Rattle.hal_device_model.proofs.Found.{found_beside, found_left}
+use Rattle.hal_device_model.proofs.Found.{Each, found_left}
 use Rattle.hal_device_model.specs.Calls.{settled}
 use Rattle.device_rows.specs.Ready.{is_retire_ready}
 use Rattle.device_store.specs.Stored.{frame_number}
@@ -18,7 +17,6 @@ use Rattle.hal_model.specs.declared.event.HalEvent.TheVariants.{RequestBegin, Re
 use Rattle.hal_model.specs.declared.event.HalTarget.{HalTarget}
 use Rattle.hal_model.specs.declared.event.Pack.TheVariants.{Entries, Empty, Absent}
 use Rattle.basic_lemmas.proofs.Tests.{own-number, or-right}
-use Rattle.basic_lemmas.proofs.Lists.{found-changed}
 
 pub record RowLives (n : ℕ) (past : List HalEvent) (row : RowView) : Type 0 where
   pub begun : is_begun n past ≡ true
@@ -27,10 +25,6 @@ pub record RowLives (n : ℕ) (past : List HalEvent) (row : RowView) : Type 0 wh
   pub going : is_passed 3 n past ≡ false
   pub awaits : awaits_metadata row ≡ true → is_metadata_ended 3 n past ≡ false
   pub dark : is_some row.shutter ≡ false → row.request_error ≡ false → awaits_metadata row ≡ true
-
--- what holds of each row
-abbrev pub Each : (ℕ → RowView → Type 0) → List RowView → Type 0
-Each P rows = (n : ℕ) (row : RowView) → row_at n rows ≡ Some row → P n row
 
 -- ---- what is live
 
@@ -155,24 +149,6 @@ lives_fresh n same targets past row awaits = record {
 }
 
 -- ---- all rows
-
-pub each_changed : (P : ℕ → RowView → Type 0) (n : ℕ) (change : RowView → RowView) (rows : List RowView) → ((row : RowView) → (change row).frame.0 ≡ row.frame.0) → ((row : RowView) → row_at n rows ≡ Some row → P n (change row)) → ((m : ℕ) (row : RowView) → (m == n) ≡ false → row_at m rows ≡ Some row → P m row) → Each P (with_row n change rows)
-each_changed P n change rows same own others m new at =
-    elim (cases_Bool (m == n)) [
-      | inl here ↦ (
-          let is : m ≡ n = eqb-true m n here in
-          let at' : row_at n (with_row n change rows) ≡ Some new = ap (λ (i : ℕ). row_at i (with_row n change rows)) (sym is) ∙ at in
-          let moved : option_map change (row_at n rows) ≡ Some new = sym (found-changed frame_number change n rows same) ∙ at' in
-          rw is (by (row_at n rows) refl moved)
-          )
-      | inr other ↦ others m new other (sym (found_beside frame_number change m n rows same other) ∙ at)
-    ]
-  where
-    by : (o : Option RowView) → row_at n rows ≡ o → option_map change o ≡ Some new → P n new
-    by (Some row) found g =
-        let is : change row ≡ new = cc in
-        rw (← is) (own row found)
-    by None found g = absurd (cc)
 
 pub each_settled : (P : ℕ → RowView → Type 0) (n : ℕ) (rows : List RowView) → Each P rows → Each P (settled n rows)
 each_settled P n rows h = by (is_retire_ready rows n)

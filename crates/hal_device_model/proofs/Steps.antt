@@ -4,23 +4,23 @@ use Rattle.std.specs.List.{list_all}
 use Rattle.std.specs.Option.{option_map}
 use Rattle.std.proofs.lemmas.Bool.{and_parts, cases_Bool, eqb-true, false≢true}
 use Rattle.std.proofs.lemmas.Bool.Decides.{nat_tests}
-use Rattle.basic_lemmas.proofs.Lists.{all-agree, all-append, all-filtered, all-mapped, all-where, find-mapped, found-passes, found-changed}
+use Rattle.basic_lemmas.proofs.Lists.{all-agree, all-append, all-filtered, all-mapped, all-where, find-mapped, found-passes}
 use Rattle.cam_types.specs.Rows.{awaits_metadata, is_returned}
-use Rattle.cam_types.specs.declared.part.Part.{Part}
+use Rattle.cam_types.specs.declared.partial_result.PartialResult.{PartialResult}
 use Rattle.cam_types.specs.declared.row.RowView.{RowView}
 use Rattle.cam_types.specs.declared.row.TargetState.{TargetState}
-use Rattle.cam_types.specs.declared.row.TargetState.TheVariants.{Waiting, Out, Filled, ReturnedEarly, EarlyFilled, ReturnedOk, ReturnedFailed}
+use Rattle.cam_types.specs.declared.row.TargetState.TheVariants.{Waiting, Out, Filled}
 use Rattle.cam_types.specs.declared.row.TargetView.{TargetView}
 use Rattle.cam_types.specs.declared.script.Fault.{Fault}
 use Rattle.device_rows.specs.Faults.{fault_of_buffer, fault_of_request}
-use Rattle.device_rows.specs.Ready.{if_exposed, is_home, is_passed, is_retire_ready, is_sensor_out, is_sound, is_state, may_be_last, may_expose, may_fill as may_fill_row, may_return_failed as may_return_failed_row, may_send_part, next_exposure, next_part, part_of, part_with, shutter_row}
+use Rattle.device_rows.specs.Ready.{if_exposed, is_home, is_passed, is_retire_ready, is_sensor_out, is_sound, is_same_state, may_be_last, may_expose, may_fill as may_fill_row, may_return_failed as may_return_failed_row, may_send_part, next_exposure, next_part, partial_of, part_with, shutter_row}
 use Rattle.device_rows.specs.Rows.{all_stopped, row_at, with_row, without}
 use Rattle.device_store.proofs.General.{rises-filtered, rises-mapped, rises-push}
 use Rattle.device_store.specs.Stored.{are_before, frame_number, rises}
 use Rattle.hal_device_model.specs.Calls.{settled}
 use Rattle.hal_device_model.proofs.Apart.{speaks}
 use Rattle.hal_device_model.proofs.Fits.{Fits, RowFits, fits_beside}
-use Rattle.hal_device_model.proofs.Found.{found_beside, found_key, found_left, found_more}
+use Rattle.hal_device_model.proofs.Found.{each_changed, found_key, found_left, found_more}
 use Rattle.hal_model.specs.declared.event.HalEvent.{HalEvent}
 use Rattle.device_rows.specs.Marks.{marked}
 use Rattle.device_rows.specs.declared.mark.Mark.TheVariants.{Stopped}
@@ -50,22 +50,7 @@ before-changed next n change rows same h =
     ∙ (all-agree (λ row. nat_lt (if row.frame.0 == n then change row else row).frame.0 next) (λ row. nat_lt row.frame.0 next) rows (λ row. ap (λ k. nat_lt k next) (kept-key n change same row)) ∙ h)
 
 fits-changed : (n : ℕ) (change : RowView → RowView) (rows : List RowView) (after : List HalEvent) → ((row : RowView) → (change row).frame.0 ≡ row.frame.0) → ((row : RowView) → row_at n rows ≡ Some row → RowFits n after (change row)) → ((m : ℕ) (row : RowView) → (m == n) ≡ false → row_at m rows ≡ Some row → RowFits m after row) → Fits after (with_row n change rows)
-fits-changed n change rows after same own others m new at =
-    elim (cases_Bool (m == n)) [
-      | inl here ↦ (
-          let is : m ≡ n = eqb-true m n here in
-          let at' : row_at n (with_row n change rows) ≡ Some new = ap (λ (i : ℕ). row_at i (with_row n change rows)) (sym is) ∙ at in
-          let moved : option_map change (row_at n rows) ≡ Some new = sym (found-changed frame_number change n rows same) ∙ at' in
-          rw is (by (row_at n rows) refl moved)
-          )
-      | inr other ↦ others m new other (sym (found_beside frame_number change m n rows same other) ∙ at)
-    ]
-  where
-    by : (o : Option RowView) → row_at n rows ≡ o → option_map change o ≡ Some new → RowFits n after new
-    by (Some row) found g =
-        let is : change row ≡ new = cc in
-        rw (← is) (own row found)
-    by None found g = absurd (cc)
+fits-changed n change rows after same own others = each_changed (λ m row. RowFits m after row) n change rows same own others
 
 -- and an event of that frame is told
 pub rows_told : (next n : ℕ) (change : RowView → RowView) (e : HalEvent) (past : List HalEvent) (rows : List RowView) → ((row : RowView) → (change row).frame.0 ≡ row.frame.0) → ((m : ℕ) → (m == n) ≡ false → speaks m e ≡ false) → ((row : RowView) → row_at n rows ≡ Some row → RowFits n past row → RowFits n (e ∷ past) (change row)) → Rows next past rows → Rows next (e ∷ past) (with_row n change rows)
@@ -198,10 +183,10 @@ pub record Sends (n k : ℕ) (rows : List RowView) : Type 0 where
   pub awaits : awaits_metadata row ≡ true
   pub lit : is_some row.shutter ≡ true
 
-pub next_sends : (faults : List Fault) (rows : List RowView) (n : ℕ) (sent : ℕ × Part) → next_part faults rows n ≡ Some sent → Sends n sent.0 rows
+pub next_sends : (faults : List Fault) (rows : List RowView) (n : ℕ) (sent : ℕ × PartialResult) → next_part faults rows n ≡ Some sent → Sends n sent.0 rows
 next_sends faults rows n sent h = by (row_at n rows) refl h
   where
-    by-may : (row : RowView) (time : ℕ) (part : Part) (b : Bool) → row_at n rows ≡ Some row → row.shutter ≡ Some time → may_send_part faults rows row ≡ b → (if b then Some (row.parts + 1, part) else None) ≡ Some sent → Sends n sent.0 rows
+    by-may : (row : RowView) (time : ℕ) (part : PartialResult) (b : Bool) → row_at n rows ≡ Some row → row.shutter ≡ Some time → may_send_part faults rows row ≡ b → (if b then Some (row.parts + 1, part) else None) ≡ Some sent → Sends n sent.0 rows
     by-may row time part true found shutter may g =
         let first = (and_parts (awaits_metadata row && not (fault_of_request faults row.frame.0)) (not (row.parts == 2) || may_be_last faults rows row) may).0 in
         let awaits = (and_parts (awaits_metadata row) (not (fault_of_request faults row.frame.0)) first).0 in
@@ -210,7 +195,7 @@ next_sends faults rows n sent h = by (row_at n rows) refl h
         record {
           row = row;
           found = found;
-          number = sym (ap (λ (x : ℕ × Part). x.0) is);
+          number = sym (ap (λ (x : ℕ × PartialResult). x.0) is);
           few = two.0;
           awaits = awaits;
           lit = rw shutter refl;
@@ -222,41 +207,35 @@ next_sends faults rows n sent h = by (row_at n rows) refl h
     by-time row (Some time) found shutter g = by-may row time _ (may_send_part faults rows row) found shutter refl g
     by-time row None found shutter g = absurd (cc)
 
-    by : (o : Option RowView) → row_at n rows ≡ o → part_of faults rows o ≡ Some sent → Sends n sent.0 rows
+    by : (o : Option RowView) → row_at n rows ≡ o → partial_of faults rows o ≡ Some sent → Sends n sent.0 rows
     by (Some row) found g = by-time row row.shutter found refl g
     by None found g = absurd (cc)
 
-pub waiting_out : (st : TargetState) → is_state st Waiting ≡ true → is_returned st ≡ false
+pub waiting_out : (st : TargetState) → is_same_state st Waiting ≡ true → is_returned st ≡ false
 waiting_out Waiting h = refl
 waiting_out Out h = refl
 waiting_out Filled h = refl
-waiting_out ReturnedEarly h = absurd (false≢true h)
-waiting_out EarlyFilled h = absurd (false≢true h)
-waiting_out ReturnedOk h = absurd (false≢true h)
-waiting_out ReturnedFailed h = absurd (false≢true h)
+waiting_out _ h = absurd (false≢true h)
 
-pub filled_out : (st : TargetState) → is_state st Filled ≡ true → is_returned st ≡ false
+pub filled_out : (st : TargetState) → is_same_state st Filled ≡ true → is_returned st ≡ false
 filled_out Waiting h = refl
 filled_out Out h = refl
 filled_out Filled h = refl
-filled_out ReturnedEarly h = absurd (false≢true h)
-filled_out EarlyFilled h = absurd (false≢true h)
-filled_out ReturnedOk h = absurd (false≢true h)
-filled_out ReturnedFailed h = absurd (false≢true h)
+filled_out _ h = absurd (false≢true h)
 
 pub fill_waits : (faults : List Fault) (signalled : ℕ → Bool) (row : RowView) (t : TargetView) → may_fill_row faults signalled row t ≡ true → is_returned t.state ≡ false
 fill_waits faults signalled row t h =
-    let a = and_parts (is_sound faults row t && is_state t.state Waiting) (is_home row.sensor && is_passed signalled t.fence) h in
-    waiting_out t.state (and_parts (is_sound faults row t) (is_state t.state Waiting) a.0).1
+    let a = and_parts (is_sound faults row t && is_same_state t.state Waiting) (is_home row.sensor && is_passed signalled t.fence) h in
+    waiting_out t.state (and_parts (is_sound faults row t) (is_same_state t.state Waiting) a.0).1
 
 pub record Good (row : RowView) (t : TargetView) : Type 0 where
   pub out : is_returned t.state ≡ false
   pub sound : row.request_error ≡ false
   pub untold : t.announced ≡ false
 
-pub delivery_good : (faults : List Fault) (rows : List RowView) (row : RowView) (t : TargetView) (below : Bool) → (is_state t.state Filled && ((is_sound faults row t && is_some row.shutter) && below)) ≡ true → Good row t
+pub delivery_good : (faults : List Fault) (rows : List RowView) (row : RowView) (t : TargetView) (below : Bool) → (is_same_state t.state Filled && ((is_sound faults row t && is_some row.shutter) && below)) ≡ true → Good row t
 delivery_good faults rows row t below h =
-    let a = and_parts (is_state t.state Filled) ((is_sound faults row t && is_some row.shutter) && below) h in
+    let a = and_parts (is_same_state t.state Filled) ((is_sound faults row t && is_some row.shutter) && below) h in
     let b = and_parts (is_sound faults row t && is_some row.shutter) below a.1 in
     let c = and_parts (is_sound faults row t) (is_some row.shutter) b.0 in
     let d = and_parts (not (fault_of_request faults row.frame.0) && not (fault_of_buffer faults row.frame.0 t.stream.0)) (not row.request_error && not t.announced) c.0 in
@@ -265,10 +244,10 @@ delivery_good faults rows row t below h =
 
 pub failed_out : (row : RowView) (t : TargetView) → may_return_failed_row row t ≡ true → is_returned t.state ≡ false
 failed_out row t h =
-    let a = and_parts (row.request_error || t.announced) (not (is_sensor_out row.sensor) && (is_state t.state Waiting || is_state t.state Filled)) h in
-    let b = and_parts (not (is_sensor_out row.sensor)) (is_state t.state Waiting || is_state t.state Filled) a.1 in
-    by (is_state t.state Waiting) refl b.1
+    let a = and_parts (row.request_error || t.announced) (not (is_sensor_out row.sensor) && (is_same_state t.state Waiting || is_same_state t.state Filled)) h in
+    let b = and_parts (not (is_sensor_out row.sensor)) (is_same_state t.state Waiting || is_same_state t.state Filled) a.1 in
+    by (is_same_state t.state Waiting) refl b.1
   where
-    by : (x : Bool) → is_state t.state Waiting ≡ x → (x || is_state t.state Filled) ≡ true → is_returned t.state ≡ false
+    by : (x : Bool) → is_same_state t.state Waiting ≡ x → (x || is_same_state t.state Filled) ≡ true → is_returned t.state ≡ false
     by true is g = waiting_out t.state is
     by false is g = filled_out t.state g

@@ -6,7 +6,7 @@ use Rattle.std.proofs.lemmas.Bool.{and_parts, cases_Bool, eqb-true, false≢true
 use Rattle.std.proofs.lemmas.Bool.Decides.{nat_tests}
 use Rattle.cam_types.specs.declared.item.Settings.{Settings}
 use Rattle.cam_types.specs.declared.number.StreamIx.{StreamIx}
-use Rattle.cam_types.specs.declared.part.Part.{Part}
+use Rattle.cam_types.specs.declared.partial_result.PartialResult.{PartialResult}
 use Rattle.cam_types.specs.declared.profile.Profile.{Profile}
 use Rattle.cam_types.specs.declared.row.RowView.{RowView}
 use Rattle.cam_types.specs.declared.row.SensorPlace.TheVariants.{Home}
@@ -14,7 +14,7 @@ use Rattle.cam_types.specs.declared.row.TargetState.TheVariants.{Waiting, Return
 use Rattle.cam_types.specs.declared.row.TargetView.{TargetView}
 use Rattle.cam_types.specs.declared.script.Fault.{Fault}
 use Rattle.cam_types.specs.Rows.{is_returned}
-use Rattle.device_rows.specs.Ready.{is_delivery_ready, is_state, may_deliver as may_deliver_row, may_fill as may_fill_row, may_return_failed as may_return_failed_row}
+use Rattle.device_rows.specs.Ready.{is_delivery_ready, is_same_state, may_deliver as may_deliver_row, may_fill as may_fill_row, may_return_failed as may_return_failed_row}
 use Rattle.device_rows.specs.Marks.{marked}
 use Rattle.device_rows.specs.declared.mark.Mark.TheVariants.{Announced, RequestError as MarkRequest, ResultError as MarkResult}
 use Rattle.device_rows.specs.Order.{each_below, holds_back}
@@ -35,7 +35,7 @@ use Rattle.hal_device_model.specs.Calls.{after_delivery, after_error, after_fail
 use Rattle.hal_device_model.specs.Log.{HalCall, Initialize, Configure, Request, Expose, SendPart, Fill, Deliver, TellError, ReturnFailed, BeginFlush, EndFlush, BeginClose, acquire_fence_of, after_call, called, events_of, failed_of, flush_begin_of, flush_end_of, good_of, error_event, error_of, hal_error, is_no_settings, log_of, part_of, shutter_of, state_after, unless}
 use Rattle.hal_device_model.specs.State.{HalDeviceState, opened, streams_in}
 use Rattle.hal_device_model.specs.declared.error.CallError.{CallError}
-use Rattle.hal_device_model.specs.declared.error.CallError.TheVariants.{InvalidArgument, NoDevice, WrongSequence, NoMemory, Busy}
+use Rattle.hal_device_model.specs.declared.error.CallError.TheVariants.{InvalidArgument, NoDevice, WrongSequence, Busy}
 use Rattle.hal_model.specs.Rules.{keeps_with}
 use Rattle.hal_model.specs.Words.{ends_close, is_part, stands}
 use Rattle.hal_model.specs.declared.event.HalError.{HalError}
@@ -83,36 +83,24 @@ silent-two next e f past rows quiet quiet' r =
 
 initialize-step : (s : HalDeviceState) (past : List HalEvent) (o : Option CallError) → Sound s past → Step (unless o (initialized s) s) (called InitBegin InitOk (λ error. InitError error) o) past
 initialize-step s past None k = two (initialized s) InitOk InitBegin past (silent-two s.next InitOk InitBegin past s.device.rows (λ n. refl) (λ n. refl) k.rows) refl refl k.going refl refl
-initialize-step s past (Some InvalidArgument) k = two s (InitError (hal_error InvalidArgument)) InitBegin past (silent-two s.next (InitError (hal_error InvalidArgument)) InitBegin past s.device.rows (λ n. refl) (λ n. refl) k.rows) refl refl k.going refl refl
-initialize-step s past (Some NoDevice) k = two s (InitError (hal_error NoDevice)) InitBegin past (silent-two s.next (InitError (hal_error NoDevice)) InitBegin past s.device.rows (λ n. refl) (λ n. refl) k.rows) refl refl k.going refl refl
-initialize-step s past (Some WrongSequence) k = two s (InitError (hal_error WrongSequence)) InitBegin past (silent-two s.next (InitError (hal_error WrongSequence)) InitBegin past s.device.rows (λ n. refl) (λ n. refl) k.rows) refl refl k.going refl refl
-initialize-step s past (Some NoMemory) k = two s (InitError (hal_error NoMemory)) InitBegin past (silent-two s.next (InitError (hal_error NoMemory)) InitBegin past s.device.rows (λ n. refl) (λ n. refl) k.rows) refl refl k.going refl refl
 initialize-step s past (Some Busy) k = nothing s past k
+initialize-step s past (Some error) k = two s (InitError (hal_error error)) InitBegin past (silent-two s.next (InitError (hal_error error)) InitBegin past s.device.rows (λ n. refl) (λ n. refl) k.rows) refl refl k.going refl refl
 
 -- the same of a configuration, whose end has the error or the streams
 configure-step : (s after : HalDeviceState) (begins ok : HalEvent) (past : List HalEvent) (o : Option CallError) → Rows after.next past after.device.rows → Sound s past → ((n : ℕ) → speaks n begins ≡ false) → ((n : ℕ) → speaks n ok ≡ false) → ends_close begins ≡ false → ends_close ok ≡ false → breaks_one begins past ≡ false → ((f : HalEvent) → breaks_one ok (f ∷ past) ≡ false) → Step (unless o after s) (called begins ok (λ error. ConfigureError error) o) past
 configure-step s after begins ok past None r k quiet quiet' shut shut' harmless harmless' =
     two after ok begins past (silent-two after.next ok begins past after.device.rows quiet' quiet r) shut' shut k.going (harmless' begins) harmless
-configure-step s after begins ok past (Some InvalidArgument) r k quiet quiet' shut shut' harmless harmless' =
-    two s (ConfigureError (hal_error InvalidArgument)) begins past (silent-two s.next (ConfigureError (hal_error InvalidArgument)) begins past s.device.rows (λ n. refl) quiet k.rows) refl shut k.going refl harmless
-configure-step s after begins ok past (Some NoDevice) r k quiet quiet' shut shut' harmless harmless' =
-    two s (ConfigureError (hal_error NoDevice)) begins past (silent-two s.next (ConfigureError (hal_error NoDevice)) begins past s.device.rows (λ n. refl) quiet k.rows) refl shut k.going refl harmless
-configure-step s after begins ok past (Some WrongSequence) r k quiet quiet' shut shut' harmless harmless' =
-    two s (ConfigureError (hal_error WrongSequence)) begins past (silent-two s.next (ConfigureError (hal_error WrongSequence)) begins past s.device.rows (λ n. refl) quiet k.rows) refl shut k.going refl harmless
-configure-step s after begins ok past (Some NoMemory) r k quiet quiet' shut shut' harmless harmless' =
-    two s (ConfigureError (hal_error NoMemory)) begins past (silent-two s.next (ConfigureError (hal_error NoMemory)) begins past s.device.rows (λ n. refl) quiet k.rows) refl shut k.going refl harmless
 configure-step s after begins ok past (Some Busy) r k quiet quiet' shut shut' harmless harmless' = nothing s past k
+configure-step s after begins ok past (Some error) r k quiet quiet' shut shut' harmless harmless' =
+    two s (ConfigureError (hal_error error)) begins past (silent-two s.next (ConfigureError (hal_error error)) begins past s.device.rows (λ n. refl) quiet k.rows) refl shut k.going refl harmless
 
 stopped-rows : (s : HalDeviceState) (past : List HalEvent) → Sound s past → Rows s.next past (flush_begun s).device.rows
 stopped-rows s past k = rows_stopped s.next past s.device.rows (λ n row f. fits_stopped n past row f) k.rows
 
 flush-step : (s : HalDeviceState) (past : List HalEvent) (o : Option CallError) → Sound s past → Step (unless o (flush_begun s) s) (flush_begin_of o) past
 flush-step s past None k = one (flush_begun s) FlushBegin past (rows_beside s.next FlushBegin past (flush_begun s).device.rows (λ n row at. refl) (stopped-rows s past k)) refl k.going refl
-flush-step s past (Some InvalidArgument) k = two s (FlushError (hal_error InvalidArgument)) FlushBegin past (silent-two s.next (FlushError (hal_error InvalidArgument)) FlushBegin past s.device.rows (λ n. refl) (λ n. refl) k.rows) refl refl k.going refl refl
-flush-step s past (Some NoDevice) k = two s (FlushError (hal_error NoDevice)) FlushBegin past (silent-two s.next (FlushError (hal_error NoDevice)) FlushBegin past s.device.rows (λ n. refl) (λ n. refl) k.rows) refl refl k.going refl refl
-flush-step s past (Some WrongSequence) k = two s (FlushError (hal_error WrongSequence)) FlushBegin past (silent-two s.next (FlushError (hal_error WrongSequence)) FlushBegin past s.device.rows (λ n. refl) (λ n. refl) k.rows) refl refl k.going refl refl
-flush-step s past (Some NoMemory) k = two s (FlushError (hal_error NoMemory)) FlushBegin past (silent-two s.next (FlushError (hal_error NoMemory)) FlushBegin past s.device.rows (λ n. refl) (λ n. refl) k.rows) refl refl k.going refl refl
 flush-step s past (Some Busy) k = nothing s past k
+flush-step s past (Some error) k = two s (FlushError (hal_error error)) FlushBegin past (silent-two s.next (FlushError (hal_error error)) FlushBegin past s.device.rows (λ n. refl) (λ n. refl) k.rows) refl refl k.going refl refl
 
 flush-end-step : (s : HalDeviceState) (past : List HalEvent) (o : Option CallError) → Sound s past → Step (unless o (ended s) s) (flush_end_of o) past
 flush-end-step s past None k = one (ended s) FlushOk past (rows_beside s.next FlushOk past s.device.rows (λ n row at. refl) k.rows) refl k.going refl
@@ -179,11 +167,8 @@ request-step s n settings targets past k None at =
     by : (x : Option Settings) → nat_lt n s.next ≡ false → names_twice targets ≡ false → are_bad_settings x ≡ false → Step (requested_with n x targets s) (RequestOk n ∷ RequestBegin n (is_no_settings settings) targets false false ∷ []) past
     by (Some x) new once set = accepted-step s n (is_no_settings settings) x targets past new once k
     by None new once set = absurd (false≢true (sym set))
-request-step s n settings targets past k (Some InvalidArgument) at = refused-step s n (hal_error InvalidArgument) (is_no_settings settings) targets past k
-request-step s n settings targets past k (Some NoDevice) at = refused-step s n (hal_error NoDevice) (is_no_settings settings) targets past k
-request-step s n settings targets past k (Some WrongSequence) at = refused-step s n (hal_error WrongSequence) (is_no_settings settings) targets past k
-request-step s n settings targets past k (Some NoMemory) at = refused-step s n (hal_error NoMemory) (is_no_settings settings) targets past k
 request-step s n settings targets past k (Some Busy) at = nothing s past k
+request-step s n settings targets past k (Some error) at = refused-step s n (hal_error error) (is_no_settings settings) targets past k
 
 -- ---- steps of a frame
 
@@ -211,7 +196,7 @@ expose-step s time past k (Some row) at =
 part-number : (k p : ℕ) → k ≡ p + 1 → nat_lt p 3 ≡ true → (nat_lt 0 k && nat_le k 3) ≡ true
 part-number k p is few = grind (arith, nat_tests, is, few)
 
-part-step : (s : HalDeviceState) (n : ℕ) (past : List HalEvent) → Sound s past → (o : Option (ℕ × Part)) → part_in n s ≡ o → Step (record s { device = record s.device { rows = sent_rows n o s.device.rows } }) (part_of n o) past
+part-step : (s : HalDeviceState) (n : ℕ) (past : List HalEvent) → Sound s past → (o : Option (ℕ × PartialResult)) → part_in n s ≡ o → Step (record s { device = record s.device { rows = sent_rows n o s.device.rows } }) (part_of n o) past
 part-step s n past k None at = nothing s past k
 part-step s n past k (Some sent) at =
     let d = next_sends s.device.faults s.device.rows n sent at in
@@ -268,7 +253,7 @@ failed-step s n t past k false at = nothing s past k
 failed-step s n t past k true at =
     let (row, target, m) = met may_return_failed_row t.0 (row_at n s.device.rows) at in
     let f = k.rows.fits n row m.at in
-    let waits = is_state target.state Waiting in
+    let waits = is_same_state target.state Waiting in
     let fence = (if waits then acquire_fence_of n target.buffer.0 past else NoFence) in
     let e = gives_back n t.0 target.buffer.0 Faulty fence in
     let own : (r : RowView) → row_at n s.device.rows ≡ Some r → RowFits n past r → RowFits n (e ∷ past) (returned_failed t r) = λ r found h. (let is = same_row n s.device.rows row r m.at found in rw is (fits_back n t Faulty fence ReturnedFailed target past row refl m.found f)) in

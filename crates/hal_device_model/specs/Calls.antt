@@ -9,7 +9,7 @@ use Rattle.cam_types.specs.Refusals.{specs_refusal}
 use Rattle.cam_types.specs.declared.four.Four.{Four}
 use Rattle.cam_types.specs.declared.item.Settings.{Settings}
 use Rattle.cam_types.specs.declared.number.StreamIx.{StreamIx}
-use Rattle.cam_types.specs.declared.part.Part.{Part}
+use Rattle.cam_types.specs.declared.partial_result.PartialResult.{PartialResult}
 use Rattle.cam_types.specs.declared.profile.Profile.{Profile}
 use Rattle.cam_types.specs.declared.row.RowView.{RowView}
 use Rattle.cam_types.specs.declared.row.SensorPlace.TheVariants.{NotYet}
@@ -207,10 +207,10 @@ exposed_rows time None rows = rows
 abbrev pub after_exposure : ℕ → HalDeviceState → HalDeviceState
 after_exposure time state = in_rows (exposed_rows time (exposure_in state) state.device.rows) state
 
-abbrev pub part_in : ℕ → HalDeviceState → Option (ℕ × Part)
+abbrev pub part_in : ℕ → HalDeviceState → Option (ℕ × PartialResult)
 part_in n state = next_part state.device.faults state.device.rows n
 
-abbrev pub sent_rows : ℕ → Option (ℕ × Part) → List RowView → List RowView
+abbrev pub sent_rows : ℕ → Option (ℕ × PartialResult) → List RowView → List RowView
 sent_rows n (Some sent) rows = settled n (with_row n (with_part sent.0) rows)
 sent_rows n None rows = rows
 

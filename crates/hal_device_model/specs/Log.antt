@@ -3,12 +3,12 @@
 use Rattle.std.specs.Prelude.{ℕ, ◌==◌, Bool, true, false, List, [], ◌∷◌, ◌++◌, Option, Some, None, find, if◌then◌else◌}
 use Rattle.cam_types.specs.declared.item.Settings.{Settings}
 use Rattle.cam_types.specs.declared.number.StreamIx.{StreamIx}
-use Rattle.cam_types.specs.declared.part.Part.{Part}
+use Rattle.cam_types.specs.declared.partial_result.PartialResult.{PartialResult}
 use Rattle.cam_types.specs.declared.row.RowView.{RowView}
 use Rattle.cam_types.specs.declared.row.TargetView.{TargetView}
 use Rattle.cam_types.specs.declared.row.TargetState.TheVariants.{Waiting}
 use Rattle.cam_types.specs.declared.stream.StreamSpec.{StreamSpec}
-use Rattle.device_rows.specs.Ready.{is_state}
+use Rattle.device_rows.specs.Ready.{is_same_state}
 use Rattle.device_rows.specs.Rows.{target_in}
 use Rattle.device_rows.specs.declared.entry.ErrorEntry.{ErrorEntry}
 use Rattle.device_rows.specs.declared.entry.ErrorEntry.TheVariants.{Request as LostRequest, Result as LostResult, Buffer as LostBuffer, Device as LostDevice}
@@ -117,7 +117,7 @@ abbrev pub shutter_of : Option RowView → ℕ → List HalEvent
 shutter_of (Some row) time = Shutter row.frame.0 time ∷ []
 shutter_of None time = []
 
-abbrev pub part_of : ℕ → Option (ℕ × Part) → List HalEvent
+abbrev pub part_of : ℕ → Option (ℕ × PartialResult) → List HalEvent
 part_of n (Some sent) = Results n sent.0 Entries [] false ∷ []
 part_of n None = []
 
@@ -152,7 +152,7 @@ acquire_fence_of n b past = fence_in (find (λ t. t.buffer == b) (targets_of n p
 abbrev pub failed_of : ℕ → ℕ → Option TargetView → List HalEvent → List HalEvent
 failed_of n s (Some target) past =
     gives_back n s target.buffer.0 Faulty
-    (if is_state target.state Waiting then acquire_fence_of n target.buffer.0 past else NoFence) ∷ []
+    (if is_same_state target.state Waiting then acquire_fence_of n target.buffer.0 past else NoFence) ∷ []
 failed_of n s None past = []
 
 abbrev pub events_of : HalCall → HalDeviceState → List HalEvent → List HalEvent

@@ -2,13 +2,14 @@
 ghost use Rattle.std.specs.Prelude.{◌≡◌, ◌==◌, ◌&&◌, ◌∷◌, [], ◌++◌, None, Some, filter, map, not, option_copied, IfOk, OnOk, if◌then◌else◌, ℕ};
 ghost use Rattle.std.specs.Map.Iter.{ShowsInOrder, deref_pair};
 ghost use Rattle.hal_rows.specs.declared.row.Row.{Row as ARow};
-ghost use Rattle.hal_model.specs.Rules.{at, at_buffers, at_frames, at_stream, at_targets, frame_in, plain};
+ghost use Rattle.hal_model.specs.Rules.{at, at_buffers, at_frames, at_stream, at_targets, plain};
 ghost use Rattle.hal_model.specs.Callbacks.{has_acquire, is_unclear};
 ghost use Rattle.hal_model.specs.Device.{is_idle_most, is_unnamed};
 ghost use Rattle.hal_model.specs.Framework.{is_twice_stream};
-ghost use Rattle.hal_rows.specs.Judged.{at_rows, at_target_rows, is_held_target_at, is_row_disorderly, is_row_in_flight, is_row_left_by_flush, is_row_overtaken, is_row_silent, is_row_unlit, is_row_wrongly_fenced, is_row_wrongly_filled, is_target_unknown_in, is_too_many_at, is_unknown_in, row_astray, row_silences};
-ghost use Rattle.hal_rows.specs.Row.{is_row_outstanding, is_row_unannounced_at};
-ghost use Rattle.hal_judge.specs.Meant.{frame_of, is_meant, silence_of};
+ghost use Rattle.hal_rows.specs.Judged.{at_rows, at_target_rows, is_held_target_at, is_row_disorderly, is_row_overtaken, is_row_silent, is_row_wrongly_fenced, is_row_wrongly_filled, is_target_unknown_in, is_too_many_at, is_unknown_in, row_astray, row_silences};
+ghost use Rattle.hal_rows.specs.Row.{is_row_unannounced_at};
+ghost use Rattle.hal_calls.specs.Meant.{is_meant};
+ghost use Rattle.hal_judge.specs.Meant.{frame_of, silence_of};
 ghost use Rattle.hal_table.specs.State.{state_of};
 
 use cam_types::NoMemory;
@@ -16,13 +17,13 @@ use hal_callbacks::back::{
     has_acquire, is_astray, is_disorderly, is_overtaken, is_unclear, is_wrongly_fenced,
     is_wrongly_filled,
 };
-use hal_calls::framework::{is_held_target, is_in_flight, is_too_many};
-use hal_calls::left::{is_left_by_flush, is_silent, is_unlit};
+use hal_calls::framework::{is_held_target, is_too_many};
+use hal_calls::meant::{Which, is_meant, is_silent};
 use hal_calls::stream::{
     is_idle_most, is_target_unknown_in, is_twice_stream, is_unknown_in, is_unnamed,
 };
 use hal_model::{Fault, HalEvent, HalStream, HalTarget, Returned, StreamMax};
-use hal_row::row::{is_outstanding, is_unannounced_at};
+use hal_row::row::is_unannounced_at;
 use hal_rows::{Row, TargetRow};
 use hal_table::HalTable;
 use lru::Iter;
@@ -59,23 +60,6 @@ fn at_stream(stream: u32) -> Fault
     }
 }
 
-/// The request that the event names, or none.
-pub(crate) fn frame_in(event: &HalEvent) -> Option<u32>
-    ensures { result ≡ frame_in event.now }
-{
-    match event {
-        HalEvent::RequestBegin { frame, .. } => Some(*frame),
-        HalEvent::RequestOk { frame } => Some(*frame),
-        HalEvent::RequestError { frame, .. } => Some(*frame),
-        HalEvent::Shutter { frame, .. } => Some(*frame),
-        HalEvent::ErrorRequest { frame } => Some(*frame),
-        HalEvent::ErrorResult { frame } => Some(*frame),
-        HalEvent::ErrorBuffer { frame, .. } => Some(*frame),
-        HalEvent::Results { frame, .. } => Some(*frame),
-        _ => None,
-    }
-}
-
 /// That one alone.
 pub(crate) fn one(alloc: Global, fault: Fault) -> Result<Vec<Fault>, NoMemory>
     ensures { IfOk result (λ faults. faults.items ≡ fault ∷ []) }
@@ -86,26 +70,6 @@ pub(crate) fn one(alloc: Global, fault: Fault) -> Result<Vec<Fault>, NoMemory>
 }
 
 // ---- rows
-
-/// Which requests are meant.
-#[derive(Clone, Copy, Debug, PartialEq, Eq)]
-pub(crate) enum Which {
-    InFlight,
-    Outstanding,
-    Left,
-    Unlit,
-}
-
-fn is_meant(which: Which, event: &HalEvent, row: &Row) -> bool
-    ensures { result ≡ is_meant which event.now row.now }
-{
-    match which {
-        Which::InFlight => is_in_flight(row),
-        Which::Outstanding => is_outstanding(row),
-        Which::Left => is_left_by_flush(row),
-        Which::Unlit => is_unlit(event, row),
-    }
-}
 
 fn frames_of(
     alloc: Global,

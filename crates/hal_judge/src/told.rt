@@ -6,17 +6,18 @@ ghost use Rattle.hal_rows.specs.Judged.{all_breaches_at, at_target_rows, breach_
 ghost use Rattle.hal_table.specs.State.{state_of};
 
 use crate::fault::{
-    Which, at, buffers_astray, buffers_disorderly, buffers_overtaken, buffers_unclear,
-    buffers_with_acquire, buffers_wrongly_fenced, buffers_wrongly_filled, frame_in, one, plain,
-    rows_meant, rows_silent, streams_wrong, target_rows_unknown, targets_held, targets_too_many,
-    targets_twice, targets_unknown,
+    at, buffers_astray, buffers_disorderly, buffers_overtaken, buffers_unclear,
+    buffers_with_acquire, buffers_wrongly_fenced, buffers_wrongly_filled, one, plain, rows_meant,
+    rows_silent, streams_wrong, target_rows_unknown, targets_held, targets_too_many, targets_twice,
+    targets_unknown,
 };
 use crate::order::ordered;
 use crate::rule::breaks;
 use cam_types::NoMemory;
+use hal_calls::meant::Which;
 use hal_model::{Breach, Fault, HalEvent, HalStream, Returned, Rule};
 use hal_rows::Row;
-use hal_table::HalTable;
+use hal_table::{HalTable, frame_in};
 use std::alloc::Global;
 
 /// What is at fault where nothing else is said: the request that the event names.

@@ -7,7 +7,7 @@ use Rattle.basic_lemmas.proofs.Lists.{any-behind, any-never, any-or, any-where}
 use Rattle.basic_lemmas.proofs.Tests.{and-false, passed-where, or-neither, not-so}
 use Rattle.cam_types.specs.declared.number.FrameNo.{FrameNo}
 use Rattle.cam_types.specs.declared.number.StreamIx.{StreamIx}
-use Rattle.cam_types.specs.declared.part.Part.{Part}
+use Rattle.cam_types.specs.declared.partial_result.PartialResult.{PartialResult}
 use Rattle.cam_types.specs.declared.script.Script.{Script}
 use Rattle.trace_model.specs.declared.entry.Entry.{Entry}
 use Rattle.trace_model.specs.declared.entry.Entry.TheVariants.{Begin, Call, Send, Shutter, Partial, Filled, Failed, ErrorRequest, ErrorResult, ErrorBuffer, Early}
@@ -25,8 +25,8 @@ use Rattle.trace_laws.proofs.MetadataOrder.{result-below}
 use Rattle.trace_laws.proofs.Parts.{part-first, part-is}
 use Rattle.trace_laws.proofs.Shutters.{exposed, no-request, shutter-sent}
 use Rattle.hal_model.specs.declared.event.HalEvent.TheVariants.{ErrorResult as HalErrorResult, ErrorBuffer as HalErrorBuffer, Results}
-use Rattle.hal_model.specs.declared.rule.Rule.TheVariants.{ShutterTwice, ShutterAfterRequestError, EmptyResult, PartialNumber, PartialTwice, MetadataAfterRequestError, MetadataOrder, AcquireFence, ErrorBesideRequestError, RequestErrorLate}
-use Rattle.hal_model.specs.Callbacks.{acquire_fence, empty_result, has_sound_part, is_end_error, is_sound_part_in, error_beside_request_error, metadata_after_request_error, metadata_order, partial_number, partial_twice, request_error_late, shutter_after_request_error, shutter_twice}
+use Rattle.hal_model.specs.declared.rule.Rule.TheVariants.{ShutterTwice, ShutterAfterRequestError, PartialNumber, PartialTwice, MetadataAfterRequestError, MetadataOrder, ErrorBesideRequestError, RequestErrorLate}
+use Rattle.hal_model.specs.Callbacks.{has_sound_part, is_end_error, is_sound_part_in, error_beside_request_error, metadata_after_request_error, metadata_order, partial_number, partial_twice, request_error_late, shutter_after_request_error, shutter_twice}
 use Rattle.hal_model.specs.Rules.{keeps_in_session}
 use Rattle.trace_laws.proofs.BufferSends.{send-number}
 use Rattle.trace_laws.proofs.Sends.{sent-below as number-below}
@@ -58,13 +58,6 @@ shutter_failed_kept script past legal = kept (shutter_after_request_error 3) scr
     rule _ = refl
 
 -- ---- results
-
-pub empty_result_kept : (script : Script) (past : List Entry) → IsLegal script past → keeps_in_session 3 (hal script past) EmptyResult ≡ true
-empty_result_kept script past legal = kept empty_result script rule past legal
-  where
-    rule : ForbidsNone empty_result script
-    rule (CalledBack past (Filled n s b f d) legal may) = refl
-    rule _ = refl
 
 pub partial_number_kept : (script : Script) (past : List Entry) → IsLegal script past → keeps_in_session 3 (hal script past) PartialNumber ≡ true
 partial_number_kept script past legal = kept (partial_number 3) script rule past legal
@@ -138,7 +131,7 @@ part_ends m past h = any-where (is_part m 3) (ends_result_of m) past each h
     each (Partial j k part) h = rw h refl
     each _ h = absurd (false≢true h)
 
-not_overtaken : (script : Script) (past : List Entry) (n : FrameNo) (k : ℕ) (part : Part) (m : ℕ) → IsLegal script past → IsAllowed script past (Partial n k part) → (k == 3) ≡ true → is_later_with (has_sound_part 3) n.0 (hal script past) m ≡ false
+not_overtaken : (script : Script) (past : List Entry) (n : FrameNo) (k : ℕ) (part : PartialResult) (m : ℕ) → IsLegal script past → IsAllowed script past (Partial n k part) → (k == 3) ≡ true → is_later_with (has_sound_part 3) n.0 (hal script past) m ≡ false
 not_overtaken script past n k part m legal may last =
     not-so (is_later_with (has_sound_part 3) n.0 (hal script past) m)
     (λ over.
@@ -160,13 +153,6 @@ metadata_order_kept script past legal = kept (metadata_order 3) script rule past
           | inl last ↦ dead-end (is_live 3 n.0 (hal script past) && ((k == 3) && not (stands n.0 (is_end_error n.0) (hal script past)))) (or-neither (list_any (is_later_with (has_sound_part 3) n.0 (hal script past)) (hal_frames (hal script past))) (had_later (has_sound_part 3) n.0 (hal script past)) (any-never (is_later_with (has_sound_part 3) n.0 (hal script past)) (hal_frames (hal script past)) (λ m. not_overtaken script past n k part m legal may last)) (never-again (has_sound_part 3) n.0 script past legal))
           | inr no' ↦ rw (no', and-false (is_live 3 n.0 (hal script past))) refl
         ]
-    rule _ = refl
-
-pub acquire_fence_kept : (script : Script) (past : List Entry) → IsLegal script past → keeps_in_session 3 (hal script past) AcquireFence ≡ true
-acquire_fence_kept script past legal = kept acquire_fence script rule past legal
-  where
-    rule : ForbidsNone acquire_fence script
-    rule (CalledBack past (Filled n s b f d) legal may) = refl
     rule _ = refl
 
 -- ---- errors

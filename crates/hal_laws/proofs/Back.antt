@@ -35,19 +35,21 @@ use Rattle.hal_model.specs.declared.event.HalEvent.{HalEvent}
 use Rattle.hal_model.specs.declared.event.HalFence.{HalFence}
 use Rattle.hal_model.specs.declared.event.HalFence.TheVariants.{Absent as NoFence, Number}
 use Rattle.hal_model.specs.declared.event.HalTarget.{HalTarget}
-use Rattle.hal_model.specs.declared.rule.Rule.TheVariants.{BufferOrder, BufferStatus, ErrorForGoodBuffer, ErrorTwice, ErrorUnknownStream, GoodAfterError, NotAtDevice, ReleaseFence, UnknownFrame}
-use Rattle.hal_model.specs.Callbacks.{buffer_order, buffer_status, error_for_good_buffer, error_twice, error_unknown_stream, good_after_error, has_own_fence, is_at_device, is_back_filled, is_back_good, is_fence_of, is_of, is_overtaken_for, is_own_or_unknown, names_idle, not_at_device, release_fence, unknown_frame}
+use Rattle.hal_model.specs.declared.event.Returned.{Returned}
+use Rattle.hal_model.specs.declared.rule.Rule.TheVariants.{BufferOrder, ErrorForGoodBuffer, ErrorTwice, ErrorUnknownStream, GoodAfterError, NotAtDevice, ReleaseFence, UnknownFrame}
+use Rattle.hal_model.specs.Callbacks.{buffer_order, error_for_good_buffer, error_twice, error_unknown_stream, good_after_error, has_own_fence, is_at_device, is_back_filled, is_fence_of, is_of, is_overtaken_for, is_own_or_unknown, names_idle, not_at_device, release_fence, unknown_frame}
 use Rattle.hal_model.specs.Rules.{keeps_in_session, keeps_with}
 use Rattle.hal_model.specs.declared.event.Status.{Status}
 use Rattle.hal_model.specs.declared.event.Status.TheVariants.{Filled as Okay, Failed as Faulty}
 use Rattle.hal_model.specs.Words.{begins, gives, had_later, is_back, is_filled, is_good, is_later, is_later_with, is_live, is_number, is_refused, stands, frames as hal_frames, targets_of as hal_targets_of, is_error_device as hal_error_device}
 use Rattle.hal_model.specs.Hal.{callback, client_fence, device_fence, hal, left_fence, target}
 use Rattle.hal_laws.proofs.Alone.{buffer-fails, dead-end, later-above, request-bare}
-use Rattle.hal_laws.proofs.Homes.{Sees, back-among, found-all, home, targets-never}
+use Rattle.hal_laws.proofs.Homes.{Sees, back-among, home, targets-never}
 use Rattle.hal_laws.proofs.Over.{back-returned, told-live}
 use Rattle.hal_laws.proofs.Readings.{IsCallbackTest, any-reads, buffer-error-reads, by_callback, never-again, request-error-reads, result-error-reads, targets-read}
 use Rattle.state_facts.proofs.Errors.{target-stream}
 use Rattle.hal_laws.proofs.Comes.{CalledBack, ForbidsNone, kept, passes_now}
+use Rattle.basic_lemmas.proofs.Shared.{found-also}
 
 -- ---- frames that are named are live
 
@@ -83,7 +85,7 @@ unknown_frame_kept script past legal = weaker (hal script past) (none-idle scrip
 -- a test that a target of the frame passes is passed by one of the log's
 pub any-target : (script : Script) (past : List Entry) (n s : ℕ) (t : Sent) (q : HalTarget → Bool) → target_of n s past ≡ Some t → q (target t) ≡ true → list_any q (hal_targets_of n (hal script past)) ≡ true
 any-target script past n s t q found passes =
-    rw (targets-read script n past, any-mapped q target (targets_of n past)) (found-all (λ u. u.stream.0 == s) (λ u. q (target u)) (targets_of n past) t found passes)
+    rw (targets-read script n past, any-mapped q target (targets_of n past)) (found-also (λ u. u.stream.0 == s) (λ u. q (target u)) (targets_of n past) t found passes)
 
 not_back : (script : Script) (past : List Entry) (n s b : ℕ) → IsLegal script past → ComesBack past n s b → is_back n b (hal script past) ≡ false
 not_back script past n s b legal back =
@@ -108,13 +110,6 @@ not_at_device_kept script past legal = kept (not_at_device 3) script rule past l
     rule (CalledBack past (Partial n k part) legal may) = and-false (is_live 3 n.0 (hal script past))
     rule _ = refl
 
-pub buffer_status_kept : (script : Script) (past : List Entry) → IsLegal script past → keeps_in_session 3 (hal script past) BufferStatus ≡ true
-buffer_status_kept script past legal = kept buffer_status script rule past legal
-  where
-    rule : ForbidsNone buffer_status script
-    rule (CalledBack past (Filled n s b f d) legal may) = refl
-    rule _ = refl
-
 -- ---- good buffers in order
 
 sound-parts : (script : Script) (past : List Entry) (n s : ℕ) → ComesFilled script past n s → (has_error_request n past ≡ false) × (has_error_buffer n s past ≡ false)
@@ -130,18 +125,18 @@ sees-filled n s (Early m t c d) h = h
 sees-filled n s (Failed m t c f) h = absurd (false≢true (sym (and-false (m.0 == n)) ∙ h))
 sees-filled n s _ h = absurd (false≢true h)
 
-none_filled : (script : Script) (past : List Entry) (m s : ℕ) → IsLegal script past → was_filled m s past ≡ false → is_back_filled s m (hal script past) ≡ false
-none_filled script past m s legal none =
-    targets-never script past m (λ t. (t.stream == s) && stands m (gives is_filled m t.buffer) (hal script past)) each
+-- no buffer for a stream is back of the kind where none of the entry's kind came for it
+none_back : (q : Returned → Bool) (r : ℕ → ℕ → Entry → Bool) → Sees q r → (script : Script) (past : List Entry) (n s : ℕ) → IsLegal script past → list_any (r n s) past ≡ false → list_any (λ t. (t.stream == s) && stands n (gives q n t.buffer) (hal script past)) (hal_targets_of n (hal script past)) ≡ false
+none_back q r sees script past n s legal none =
+    targets-never script past n (λ t. (t.stream == s) && stands n (gives q n t.buffer) (hal script past)) each
   where
-    each : (t : Sent) → list_any (is_with t.stream.0 t.buffer.0) (targets_of m past) ≡ true → ((t.stream.0 == s) && stands m (gives is_filled m t.buffer.0) (hal script past)) ≡ false
+    each : (t : Sent) → list_any (is_with t.stream.0 t.buffer.0) (targets_of n past) ≡ true → ((t.stream.0 == s) && stands n (gives q n t.buffer.0) (hal script past)) ≡ false
     each t among =
-        not-so ((t.stream.0 == s) && stands m (gives is_filled m t.buffer.0) (hal script past))
+        not-so ((t.stream.0 == s) && stands n (gives q n t.buffer.0) (hal script past))
         (λ both.
-        let parts = and_parts (t.stream.0 == s) (stands m (gives is_filled m t.buffer.0) (hal script past)) both in
-        let filled : was_filled m t.stream.0 past ≡ true = home is_filled fills sees-filled script past m t.stream.0 t.buffer.0 legal among parts.1 in
-        let filled' = rw (eqb-true t.stream.0 s parts.0) at filled in
-        both_ways (was_filled m s past) none filled')
+        let parts = and_parts (t.stream.0 == s) (stands n (gives q n t.buffer.0) (hal script past)) both in
+        let back = rw (eqb-true t.stream.0 s parts.0) at (home q r sees script past n t.stream.0 t.buffer.0 legal among parts.1) in
+        both_ways (list_any (r n s) past) none back)
 
 not_overtaken : (script : Script) (past : List Entry) (n s b m : ℕ) → IsLegal script past → ComesBack past n s b → ComesFilled script past n s → (is_later n m (hal script past) && is_back_filled s m (hal script past)) ≡ false
 not_overtaken script past n s b m legal back well =
@@ -156,7 +151,7 @@ not_overtaken script past n s b m legal back well =
           let sound = sound-parts script past n s well in
           let passes' = rw (has, out-not-returned script past n s b legal back.out, sound.0, sound.1) at passes in
           false≢true passes')
-      | inr none ↦ rw (none_filled script past m s legal none) (and-false (is_later n m (hal script past)))
+      | inr none ↦ rw (none_back is_filled fills sees-filled script past m s legal none) (and-false (is_later n m (hal script past)))
     ]
 
 in_order : (script : Script) (past : List Entry) (n s b : ℕ) → IsLegal script past → ComesBack past n s b → ComesFilled script past n s → is_overtaken_for n (hal script past) (Some s) ≡ false
@@ -231,24 +226,11 @@ sees-good n s (Early m t c d) h = absurd (false≢true (sym (and-false (m.0 == n
 sees-good n s (Failed m t c f) h = absurd (false≢true (sym (and-false (m.0 == n)) ∙ h))
 sees-good n s _ h = absurd (false≢true h)
 
-not_good : (script : Script) (past : List Entry) (n s : ℕ) → IsLegal script past → is_returned n s past ≡ false → is_back_good n (hal script past) (Some s) ≡ false
-not_good script past n s legal out =
-    targets-never script past n (λ t. (t.stream == s) && stands n (gives is_good n t.buffer) (hal script past)) each
-  where
-    each : (t : Sent) → list_any (is_with t.stream.0 t.buffer.0) (targets_of n past) ≡ true → ((t.stream.0 == s) && stands n (gives is_good n t.buffer.0) (hal script past)) ≡ false
-    each t among =
-        not-so ((t.stream.0 == s) && stands n (gives is_good n t.buffer.0) (hal script past))
-        (λ both.
-        let parts = and_parts (t.stream.0 == s) (stands n (gives is_good n t.buffer.0) (hal script past)) both in
-        let returned : is_returned n t.stream.0 past ≡ true = home is_good returns_target sees-good script past n t.stream.0 t.buffer.0 legal among parts.1 in
-        let returned' = rw (eqb-true t.stream.0 s parts.0) at returned in
-        both_ways (is_returned n s past) out returned')
-
 pub error_for_good_kept : (script : Script) (past : List Entry) → IsLegal script past → keeps_in_session 3 (hal script past) ErrorForGoodBuffer ≡ true
 error_for_good_kept script past legal = kept (error_for_good_buffer 3) script rule past legal
   where
     rule : ForbidsNone (error_for_good_buffer 3) script
-    rule (CalledBack past (ErrorBuffer n s) legal may) = dead-end (is_live 3 n.0 (hal script past)) (not_good script past n.0 s.0 legal (buffer-fails script past n s may).out)
+    rule (CalledBack past (ErrorBuffer n s) legal may) = dead-end (is_live 3 n.0 (hal script past)) (none_back is_good returns_target sees-good script past n.0 s.0 legal (buffer-fails script past n s may).out)
     rule _ = refl
 
 pub error_unknown_kept : (script : Script) (past : List Entry) → IsLegal script past → keeps_in_session 3 (hal script past) ErrorUnknownStream ≡ true

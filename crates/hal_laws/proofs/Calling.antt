@@ -33,9 +33,9 @@ use Rattle.trace_laws.proofs.Out.{not-returned-out}
 use Rattle.trace_laws.proofs.Streams.{one-stream}
 use Rattle.trace_laws.proofs.Sends.{sent-below as number-below}
 use Rattle.hal_model.specs.declared.event.HalEvent.TheVariants.{RequestOk, FlushOk, CloseBegin, CloseEnd}
-use Rattle.hal_model.specs.declared.rule.Rule.TheVariants.{AcceptedNoSettings, AcceptedUnknownStream, CloseLeft, ConfigureInFlight, FlushLeft, FrameNumber, HeldBuffer, InitOrder, InitTwice, NoSettings, RefusedAfterCallback, RefusedRequest, RepeatedStream, UnknownStream}
-use Rattle.hal_model.specs.Device.{accepted_no_settings, accepted_unknown_stream, close_left, flush_left, is_left_by_flush, refused_after_callback, refused_request}
-use Rattle.hal_model.specs.Framework.{configure_in_flight, frame_number, held_buffer, init_order, init_twice, is_awaited, is_flushed_in, is_in_flight, is_twice_buffer, is_unknown_to, no_settings, repeated_stream, unknown_stream}
+use Rattle.hal_model.specs.declared.rule.Rule.TheVariants.{AcceptedNoSettings, AcceptedUnknownStream, CloseLeft, ConfigureInFlight, FlushLeft, FrameNumber, HeldBuffer, InitOrder, NoSettings, RepeatedStream, UnknownStream}
+use Rattle.hal_model.specs.Device.{accepted_no_settings, accepted_unknown_stream, close_left, flush_left, is_left_by_flush}
+use Rattle.hal_model.specs.Framework.{configure_in_flight, frame_number, held_buffer, init_order, is_awaited, is_flushed_in, is_in_flight, is_twice_buffer, is_unknown_to, no_settings, repeated_stream, unknown_stream}
 use Rattle.hal_model.specs.Rules.{keeps_in_session}
 use Rattle.hal_model.specs.declared.event.HalTarget.{HalTarget}
 use Rattle.hal_model.specs.Words.{accepts_from, begins_flush, has_stream, is_accepted_before, is_back, is_dead, is_held, is_in_call, is_live, is_out, is_outstanding, since, frames as hal_frames, streams as hal_streams, targets_of as hal_targets_of}
@@ -321,27 +321,6 @@ init_order_kept script past legal = kept init_order script rule past legal
     rule (FlushBegun past w legal yes') = rw (initialized-always script past) refl
     rule (RequestBegun past n r i same targets legal) = rw (initialized-always script past) refl
     rule (ConfigureBegun past specs legal is) = rw (initialized-always script past) refl
-    rule (CalledBack past (Shutter n time) legal may) = refl
-    rule _ = refl
-
-pub init_twice_kept : (script : Script) (past : List Entry) → IsLegal script past → keeps_in_session 3 (hal script past) InitTwice ≡ true
-init_twice_kept script past legal = kept init_twice script rule past legal
-  where
-    rule : ForbidsNone init_twice script
-    rule (CalledBack past (Shutter n time) legal may) = refl
-    rule _ = refl
-
-pub refused_request_kept : (script : Script) (past : List Entry) → IsLegal script past → keeps_in_session 3 (hal script past) RefusedRequest ≡ true
-refused_request_kept script past legal = kept (refused_request 3) script rule past legal
-  where
-    rule : ForbidsNone (refused_request 3) script
-    rule (CalledBack past (Shutter n time) legal may) = refl
-    rule _ = refl
-
-pub refused_after_kept : (script : Script) (past : List Entry) → IsLegal script past → keeps_in_session 3 (hal script past) RefusedAfterCallback ≡ true
-refused_after_kept script past legal = kept refused_after_callback script rule past legal
-  where
-    rule : ForbidsNone refused_after_callback script
     rule (CalledBack past (Shutter n time) legal may) = refl
     rule _ = refl
 

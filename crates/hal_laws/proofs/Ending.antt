@@ -1,40 +1,35 @@
 -- Rules of calls: the device's state, configurations, and what is missing where a call returns.
-use Rattle.std.proofs.Common.{◌≡◌, ℕ, ◌==◌, ◌+◌, Bool, true, false, ◌&&◌, ◌||◌, not, List, [], ◌∷◌, Option, Some, None, refl, sym, ◌∙◌, inl, inr, map, nat_lt, length, count_by}
+use Rattle.std.proofs.Common.{◌≡◌, ℕ, ◌==◌, ◌+◌, Bool, true, false, ◌&&◌, ◌||◌, not, List, [], ◌∷◌, Some, None, refl, sym, ◌∙◌, inl, inr, map, nat_lt, length, count_by}
 use Rattle.std.specs.List.{list_any, list_all}
 use Rattle.std.proofs.lemmas.Bool.{and_parts, both_ways, cases_Bool, eq-eqb, eqb-true, false≢true, not-true, or_parts}
 use Rattle.basic_lemmas.proofs.Lists.{any-never}
-use Rattle.basic_lemmas.proofs.Tests.{and-false, passed-where, not-false, not-so}
+use Rattle.basic_lemmas.proofs.Tests.{and-false, not-false, not-so}
 use Rattle.cam_types.specs.Four.{four_list}
 use Rattle.cam_types.specs.Refusals.{refused, specs_refusal, where_true}
 use Rattle.cam_types.specs.declared.four.Four.{Four}
 use Rattle.cam_types.specs.declared.number.FrameNo.{FrameNo}
 use Rattle.cam_types.specs.declared.number.RequestId.{RequestId}
-use Rattle.cam_types.specs.declared.reply.Reply.{Reply}
-use Rattle.cam_types.specs.declared.reply.Reply.TheVariants.{Configured}
 use Rattle.cam_types.specs.declared.script.Script.{Script}
 use Rattle.cam_types.specs.declared.script.Word.{Word}
 use Rattle.cam_types.specs.declared.stream.StreamSpec.{StreamSpec}
 use Rattle.trace_model.specs.declared.entry.Entry.{Entry}
-use Rattle.trace_model.specs.declared.entry.Entry.TheVariants.{Call, Send, Failed, Filled, Early, Shutter}
+use Rattle.trace_model.specs.declared.entry.Entry.TheVariants.{Send, Failed, Filled, Early, Shutter}
 use Rattle.trace_model.specs.declared.entry.Sent.{Sent}
 use Rattle.trace_model.specs.Calls.{begun}
-use Rattle.trace_model.specs.Configuration.{buffers_of, is_configured, made}
+use Rattle.trace_model.specs.Configuration.{buffers_of, is_configured}
 use Rattle.trace_model.specs.Entry.{is_error_buffer, is_error_request}
-use Rattle.trace_model.specs.Errors.{failed_of, fence_left}
 use Rattle.trace_laws.proofs.BufferSends.{is_with}
 use Rattle.trace_model.specs.Frames.{has_error_request, has_shutter, target_of, targets_of}
 use Rattle.trace_model.specs.Legal.{IsLegal}
 use Rattle.trace_model.specs.Open.{has_error_buffer, has_error_result, has_part, is_metadata_ended}
-use Rattle.trace_model.specs.Place.{is_at_device_by}
 use Rattle.trace_model.specs.Send.{takes_from_pool}
 use Rattle.trace_model.proofs.LawLemmas.{sends-from-pool}
-use Rattle.state_facts.proofs.Served.{or-none}
 use Rattle.state_facts.proofs.Targets.{has_some, sent-targets}
 use Rattle.trace_laws.proofs.Exposed.{part-shutter, result-shutter}
 use Rattle.hal_model.specs.declared.event.HalEvent.{HalEvent}
 use Rattle.hal_model.specs.declared.event.HalEvent.TheVariants.{FlushOk, CloseBegin, CloseEnd}
-use Rattle.hal_model.specs.declared.rule.Rule.TheVariants.{AcceptedBeforeInit, AcceptedDead, AcceptedInitTwice, AcceptedNoOutput, AcceptedTwoInputs, FailedWithoutNotice, NoConfiguration, NoOutput, NoShutter, OverlappingCalls, TwoInputs}
-use Rattle.hal_model.specs.Device.{accepted_before_init, accepted_dead, accepted_init_twice, accepted_no_output, accepted_two_inputs}
+use Rattle.hal_model.specs.declared.rule.Rule.TheVariants.{AcceptedBeforeInit, AcceptedDead, AcceptedNoOutput, AcceptedTwoInputs, FailedWithoutNotice, NoConfiguration, NoOutput, NoShutter, OverlappingCalls, TwoInputs}
+use Rattle.hal_model.specs.Device.{accepted_before_init, accepted_dead, accepted_no_output, accepted_two_inputs}
 use Rattle.hal_model.specs.Framework.{is_empty, no_configuration, no_output, overlapping_calls, puts_out, takes_in, two_inputs}
 use Rattle.hal_model.specs.Points.{failed_without_notice, is_dark, is_newly_complete, is_silent, is_unlit, no_shutter}
 use Rattle.hal_model.specs.Callbacks.{ends_again}
@@ -48,7 +43,10 @@ use Rattle.hal_laws.proofs.Over.{complete-over}
 use Rattle.hal_laws.proofs.Resting.{not-requesting}
 use Rattle.hal_laws.proofs.Readings.{buffer-error-reads, request-error-reads, shutter-reads}
 use Rattle.hal_laws.proofs.Standing.{closing, dead-before, configured-reads, configuring, dead-reads, flushes-sound, flushing-reads, initialized-always, initialized-before, initing, not-in-call, opening, templating}
-use Rattle.hal_laws.proofs.Comes.{CalledBack, CloseBegun, CloseBegunAfter, CloseEnded, CloseEndedAfter, ConfigureBegun, ConfigureEnded, FlushEnded, ForbidsNone, RequestBegun, RequestEnded, kept}
+use Rattle.hal_laws.proofs.Comes.{CalledBack, CloseBegun, CloseBegunAfter, CloseEnded, CloseEndedAfter, ConfigureBegun, ConfigureEnded, FlushEnded, ForbidsNone, RequestBegun, RequestEnded, kept, Comes, before_it, event, passes_now}
+use Rattle.cam_types.proofs.RefusalLemmas.{or-none, where-none}
+use Rattle.state_facts.proofs.Caused.{failed_cause}
+use Rattle.state_facts.proofs.Made.{no-made}
 
 -- ---- calls don't overlap
 
@@ -70,13 +68,6 @@ overlapping_calls_kept script past legal = kept overlapping_calls script rule pa
     rule _ = refl
 
 -- ---- the device works
-
-pub accepted_init_twice_kept : (script : Script) (past : List Entry) → IsLegal script past → keeps_in_session 3 (hal script past) AcceptedInitTwice ≡ true
-accepted_init_twice_kept script past legal = kept accepted_init_twice script rule past legal
-  where
-    rule : ForbidsNone accepted_init_twice script
-    rule (CalledBack past (Shutter n time) legal may) = refl
-    rule _ = refl
 
 pub accepted_before_init_kept : (script : Script) (past : List Entry) → IsLegal script past → keeps_in_session 3 (hal script past) AcceptedBeforeInit ≡ true
 accepted_before_init_kept script past legal = kept accepted_before_init script rule past legal
@@ -114,17 +105,13 @@ none_in k (spec ∷ specs) h =
     let parts = or_parts spec.input (list_any (λ s. s.input) specs) h in
     rw parts.0 (none_in (k + 1) specs parts.1)
 
-where_none : (b : Bool) (r : Reply) → where_true b r ≡ None → b ≡ false
-where_none true r h = absurd (cc)
-where_none false r h = refl
-
 -- an accepted configuration has an output and no input
 pub outputs : (specs : List StreamSpec) → specs_refusal specs ≡ None → (list_any (λ s. not s.input) specs ≡ true) × (list_any (λ s. s.input) specs ≡ false)
 outputs specs h =
     let first = or-none (where_true (not (list_any (λ s. not s.input) specs)) (refused 21)) _ h in
     let second = or-none (where_true (nat_lt 4 (length specs)) (refused 22)) _ first.1 in
     let third = or-none (where_true (list_any (λ s. s.input) specs) (refused 23)) _ second.1 in
-    (not-false (list_any (λ s. not s.input) specs) (where_none _ _ first.0), where_none _ _ third.0)
+    (not-false (list_any (λ s. not s.input) specs) (where-none _ _ first.0), where-none _ _ third.0)
 
 some_mapped : (ts : List Sent) → has_some ts ≡ true → is_empty (map target ts) ≡ false
 some_mapped [] h = absurd (false≢true h)
@@ -136,52 +123,39 @@ send-some script past n r i same targets legal =
     let some = sent-targets script (Send n r i same targets ∷ past) n.0 legal (rw number refl) in
     rw number at some
 
+-- what is asked for has an output, and no input
+record AsksOutputs (script : Script) (c : Comes script) : Type 0 where
+  output : passes_now no_output (event c) (before_it c) ≡ false
+  accepted_output : passes_now accepted_no_output (event c) (before_it c) ≡ false
+  inputs : passes_now two_inputs (event c) (before_it c) ≡ false
+  accepted_inputs : passes_now accepted_two_inputs (event c) (before_it c) ≡ false
+
+asks_outputs : (script : Script) (c : Comes script) → AsksOutputs script c
+asks_outputs script (RequestBegun past n r i same targets legal) = record { output = some_mapped (four_list targets) (send-some script past n r i same targets legal); accepted_output = refl; inputs = refl; accepted_inputs = refl }
+asks_outputs script (RequestEnded past n r i same targets legal) = record { output = refl; accepted_output = rw (eq-eqb n.0 n.0 refl) (some_mapped (four_list targets) (send-some script past n r i same targets legal)); inputs = refl; accepted_inputs = refl }
+asks_outputs script (ConfigureBegun past specs legal is) = let has = outputs specs is.accepted in record { output = rw (any_out 0 specs has.0) refl; accepted_output = refl; inputs = rw (none_in 0 specs has.1) refl; accepted_inputs = refl }
+asks_outputs script (ConfigureEnded past specs legal is) = let has = outputs specs is.accepted in record { output = refl; accepted_output = rw (any_out 0 specs has.0) refl; inputs = refl; accepted_inputs = rw (none_in 0 specs has.1) refl }
+asks_outputs script (CalledBack past (Shutter n time) legal may) = record { output = refl; accepted_output = refl; inputs = refl; accepted_inputs = refl }
+asks_outputs script _ = record { output = refl; accepted_output = refl; inputs = refl; accepted_inputs = refl }
+
 pub accepted_no_output_kept : (script : Script) (past : List Entry) → IsLegal script past → keeps_in_session 3 (hal script past) AcceptedNoOutput ≡ true
-accepted_no_output_kept script past legal = kept accepted_no_output script rule past legal
-  where
-    rule : ForbidsNone accepted_no_output script
-    rule (RequestEnded past n r i same targets legal) = rw (eq-eqb n.0 n.0 refl) (some_mapped (four_list targets) (send-some script past n r i same targets legal))
-    rule (ConfigureEnded past specs legal is) = rw (any_out 0 specs (outputs specs is.accepted).0) refl
-    rule (CalledBack past (Shutter n time) legal may) = refl
-    rule _ = refl
+accepted_no_output_kept script past legal = kept accepted_no_output script (λ c. (asks_outputs script c).accepted_output) past legal
 
 pub no_output_kept : (script : Script) (past : List Entry) → IsLegal script past → keeps_in_session 3 (hal script past) NoOutput ≡ true
-no_output_kept script past legal = kept no_output script rule past legal
-  where
-    rule : ForbidsNone no_output script
-    rule (RequestBegun past n r i same targets legal) = some_mapped (four_list targets) (send-some script past n r i same targets legal)
-    rule (ConfigureBegun past specs legal is) = rw (any_out 0 specs (outputs specs is.accepted).0) refl
-    rule (CalledBack past (Shutter n time) legal may) = refl
-    rule _ = refl
+no_output_kept script past legal = kept no_output script (λ c. (asks_outputs script c).output) past legal
 
 pub two_inputs_kept : (script : Script) (past : List Entry) → IsLegal script past → keeps_in_session 3 (hal script past) TwoInputs ≡ true
-two_inputs_kept script past legal = kept two_inputs script rule past legal
-  where
-    rule : ForbidsNone two_inputs script
-    rule (ConfigureBegun past specs legal is) = rw (none_in 0 specs (outputs specs is.accepted).1) refl
-    rule (CalledBack past (Shutter n time) legal may) = refl
-    rule _ = refl
+two_inputs_kept script past legal = kept two_inputs script (λ c. (asks_outputs script c).inputs) past legal
 
 pub accepted_two_inputs_kept : (script : Script) (past : List Entry) → IsLegal script past → keeps_in_session 3 (hal script past) AcceptedTwoInputs ≡ true
-accepted_two_inputs_kept script past legal = kept accepted_two_inputs script rule past legal
-  where
-    rule : ForbidsNone accepted_two_inputs script
-    rule (ConfigureEnded past specs legal is) = rw (none_in 0 specs (outputs specs is.accepted).1) refl
-    rule (CalledBack past (Shutter n time) legal may) = refl
-    rule _ = refl
+accepted_two_inputs_kept script past legal = kept accepted_two_inputs script (λ c. (asks_outputs script c).accepted_inputs) past legal
 
 -- where a stream has buffers a configuration stands
-made_configured : (past : List Entry) → is_configured past ≡ false → made past ≡ []
-made_configured [] h = refl
-made_configured (Call i w (Configured each) ∷ past) h = absurd (false≢true (sym h))
-made_configured (Call i w r ∷ past) h = made_configured past h
-made_configured (e ∷ past) h = made_configured past h
-
 configured_by_buffers : (past : List Entry) (s b : ℕ) → list_any (λ c. c == b) (buffers_of past s) ≡ true → is_configured past ≡ true
 configured_by_buffers past s b own =
     elim (cases_Bool (is_configured past)) [
       | inl here ↦ here
-      | inr no' ↦ (let own' = rw (made_configured past no') at own in absurd (false≢true own'))
+      | inr no' ↦ (let own' = rw (no-made past no') at own in absurd (false≢true own'))
     ]
 
 send_configured : (past : List Entry) (ts : List Sent) → has_some ts ≡ true → list_all (takes_from_pool past) ts ≡ true → is_configured past ≡ true
@@ -203,11 +177,6 @@ abbrev pub is_failed_return : ℕ → ℕ → Entry → Bool
 is_failed_return n s (Failed m t _ _) = (m.0 == n) && (t.0 == s)
 is_failed_return n s _ = false
 
-failed_noticed : (past : List Entry) (m u : ℕ) (o : Option Sent) (e : Entry) → failed_of past m u o ≡ Some e → (has_error_request m past || has_error_buffer m u past) ≡ true
-failed_noticed past m u None e h = absurd (cc)
-failed_noticed past m u (Some t) e h =
-    (and_parts (is_at_device_by m u t.buffer.0 past) (has_error_request m past || has_error_buffer m u past) (passed-where (is_at_device_by m u t.buffer.0 past && (has_error_request m past || has_error_buffer m u past)) (Failed (record { 0 = m }) (record { 0 = u }) t.buffer (fence_left t.fence past)) e h)).1
-
 abbrev pub is_noticed : ℕ → ℕ → List Entry → Bool
 is_noticed n s past = has_error_request n past || has_error_buffer n s past
 
@@ -228,7 +197,7 @@ failed-noticed script (Failed m t b f ∷ past) n s legal h =
     (elim (cases_Bool ((m.0 == n) && (t.0 == s))) [
       | inl own ↦ (
           let parts = and_parts (m.0 == n) (t.0 == s) own in
-          let noticed = failed_noticed past m.0 t.0 (target_of m.0 t.0 past) (Failed m t b f) legal.0 in
+          let noticed = failed_cause past m.0 t.0 (target_of m.0 t.0 past) (Failed m t b f) legal.0 in
           rw (eqb-true m.0 n parts.0, eqb-true t.0 s parts.1) at noticed
           )
       | inr other ↦ (let h' = rw other at h in failed-noticed script past n s legal.1 h')

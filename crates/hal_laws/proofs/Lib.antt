@@ -3,6 +3,7 @@ pub mod Readings
 pub mod Homes
 pub mod Cases
 pub mod Comes
+pub mod Plain
 pub mod Alone
 pub mod Over
 pub mod Back

@@ -145,12 +145,39 @@ reads_on f on script (Call i w r ∷ past) = call_reads f (f initialized) (accep
 reads_on f on script (Send n r i same targets ∷ past) = on (RequestCalled n.0 same (map target (four_list targets))) (hal script past) ∙ reads_on f on script past
 reads_on f on script (e ∷ past) = on (CalledBack e) (hal script past) ∙ reads_on f on script past
 
-pub initialized-always : (script : Script) (past : List Entry) → is_initialized (hal script past) ≡ true
-initialized-always = reads_on is_initialized on
+-- whether the device is initialized, and which of the calls before that is out
+record FirstCalls : Type 0 where
+  initialized : Bool
+  opening : Bool
+  initing : Bool
+  templating : Bool
+
+abbrev first_calls : List HalEvent → FirstCalls
+first_calls p = record {
+  initialized = is_initialized p;
+  opening = is_within opens opened p;
+  initing = is_within inits inited p;
+  templating = is_within templates templated p;
+}
+
+first_calls_stay : (script : Script) (past : List Entry) → first_calls (hal script past) ≡ first_calls initialized
+first_calls_stay = reads_on first_calls on
   where
-    on : ReadsOn is_initialized
+    on : ReadsOn first_calls
     on (CalledBack (Shutter n t)) q = refl
     on _ q = refl
+
+pub initialized-always : (script : Script) (past : List Entry) → is_initialized (hal script past) ≡ true
+initialized-always script past = ap (λ (c : FirstCalls). c.initialized) (first_calls_stay script past)
+
+pub opening : (script : Script) (past : List Entry) → is_within opens opened (hal script past) ≡ false
+opening script past = ap (λ (c : FirstCalls). c.opening) (first_calls_stay script past)
+
+pub initing : (script : Script) (past : List Entry) → is_within inits inited (hal script past) ≡ false
+initing script past = ap (λ (c : FirstCalls). c.initing) (first_calls_stay script past)
+
+pub templating : (script : Script) (past : List Entry) → is_within templates templated (hal script past) ≡ false
+templating script past = ap (λ (c : FirstCalls). c.templating) (first_calls_stay script past)
 
 pub flushes-kept : (o : Option Word) (p q : List Entry) → is_closed p ≡ is_closed q → has_failed p ≡ has_failed q → is_configured p ≡ is_configured q → flushes_by o p ≡ flushes_by o q
 flushes-kept None p q a b c = refl
@@ -192,30 +219,6 @@ flushing-reads script (ErrorDevice ∷ past) legal =
 flushing-reads script (e ∷ past) legal = flushing-reads script past legal.1 ∙ flushes-kept (begun past) past (e ∷ past) refl refl refl
 
 -- ---- no other call is out
-
-within_initialized : (b e : HalEvent → Bool) → is_within b e initialized ≡ false → ReadsOn (is_within b e) → (script : Script) (past : List Entry) → is_within b e (hal script past) ≡ false
-within_initialized b e init on script past = reads_on (is_within b e) on script past ∙ init
-
-pub opening : (script : Script) (past : List Entry) → is_within opens opened (hal script past) ≡ false
-opening = within_initialized opens opened refl on
-  where
-    on : ReadsOn (is_within opens opened)
-    on (CalledBack (Shutter n t)) q = refl
-    on _ q = refl
-
-pub initing : (script : Script) (past : List Entry) → is_within inits inited (hal script past) ≡ false
-initing = within_initialized inits inited refl on
-  where
-    on : ReadsOn (is_within inits inited)
-    on (CalledBack (Shutter n t)) q = refl
-    on _ q = refl
-
-pub templating : (script : Script) (past : List Entry) → is_within templates templated (hal script past) ≡ false
-templating = within_initialized templates templated refl on
-  where
-    on : ReadsOn (is_within templates templated)
-    on (CalledBack (Shutter n t)) q = refl
-    on _ q = refl
 
 pub configuring : (script : Script) (past : List Entry) → is_within begins_configure ends_configure (hal script past) ≡ false
 configuring script [] = refl

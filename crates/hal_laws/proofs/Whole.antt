@@ -20,14 +20,15 @@ use Rattle.trace_model.specs.declared.entry.Entry.TheVariants.{Begin, Call, Send
 use Rattle.hal_model.specs.Hal.{callback, called, events, flush_begun, hal, whole_log}
 use Rattle.hal_laws.proofs.Keep.{begun-other, callback_back, called-other, is_other, none_passes}
 use Rattle.hal_laws.specs.Keeping.{KeepsHeader, KeepsStrictly, KeepsTheRest, LeavesNothing, ReportsNothing, is_of_failure, is_unkept}
-use Rattle.hal_laws.proofs.Alone.{acquire_fence_kept, empty_result_kept, error_beside_kept, metadata_failed_kept, metadata_order_kept, partial_number_kept, partial_twice_kept, request_error_kept, shutter_failed_kept, shutter_twice_kept}
+use Rattle.hal_laws.proofs.Alone.{error_beside_kept, metadata_failed_kept, metadata_order_kept, partial_number_kept, partial_twice_kept, request_error_kept, shutter_failed_kept, shutter_twice_kept}
 use Rattle.hal_laws.proofs.Asked.{no_max_buffers_kept}
-use Rattle.hal_laws.proofs.Back.{buffer_order_kept, buffer_status_kept, error_for_good_kept, error_twice_kept, error_unknown_kept, good_after_error_kept, none-idle, not_at_device_kept, release_fence_kept, unknown_frame_kept}
-use Rattle.hal_laws.proofs.Calling.{accepted_no_settings_kept, accepted_unknown_stream_kept, close_left_kept, configure_in_flight_kept, flush_left_kept, frame_number_kept, held_buffer_kept, init_order_kept, init_twice_kept, no_settings_kept, refused_after_kept, refused_request_kept, repeated_stream_kept, unknown_stream_kept}
+use Rattle.hal_laws.proofs.Back.{buffer_order_kept, error_for_good_kept, error_twice_kept, error_unknown_kept, good_after_error_kept, none-idle, not_at_device_kept, release_fence_kept, unknown_frame_kept}
+use Rattle.hal_laws.proofs.Calling.{accepted_no_settings_kept, accepted_unknown_stream_kept, close_left_kept, configure_in_flight_kept, flush_left_kept, frame_number_kept, held_buffer_kept, init_order_kept, no_settings_kept, repeated_stream_kept, unknown_stream_kept}
 use Rattle.hal_laws.proofs.Closing.{call_after_close_kept, callback_after_close_kept, callback_after_failure_kept, failed_with_frames_kept}
 use Rattle.hal_laws.proofs.Crowding.{too_many_buffers_kept}
-use Rattle.hal_laws.proofs.Ending.{accepted_before_init_kept, accepted_dead_kept, accepted_init_twice_kept, accepted_no_output_kept, accepted_two_inputs_kept, failed_without_notice_kept, no_configuration_kept, no_output_kept, no_shutter_kept, overlapping_calls_kept, two_inputs_kept, ends-once}
+use Rattle.hal_laws.proofs.Ending.{accepted_before_init_kept, accepted_dead_kept, accepted_no_output_kept, accepted_two_inputs_kept, failed_without_notice_kept, no_configuration_kept, no_output_kept, no_shutter_kept, overlapping_calls_kept, two_inputs_kept, ends-once}
 use Rattle.hal_laws.proofs.Resting.{none-outstanding}
+use Rattle.hal_laws.proofs.Plain.{accepted_init_twice_kept, acquire_fence_kept, buffer_status_kept, empty_result_kept, init_twice_kept, refused_after_kept, refused_request_kept}
 
 each_in_session : (script : Script) (past : List Entry) → is_valid script ≡ true → IsLegal script past → (rule : Rule) → is_unkept rule ≡ false → (is_of_failure rule ≡ true → has_failed past ≡ false) → keeps_in_session 3 (hal script past) rule ≡ true
 each_in_session script past valid legal InitOrder plain sound = init_order_kept script past legal

@@ -6,7 +6,7 @@ use Rattle.std.proofs.lemmas.Bool.{and_parts, and_from, leb-true, le-ltb, ltb-tr
 use Rattle.std.proofs.lemmas.List.{append-nil, length-map}
 use Rattle.std.proofs.lemmas.List.Folds.{list_all-append}
 use Rattle.hal_model.specs.declared.event.HalEvent.{HalEvent}
-use Rattle.hal_model.specs.declared.event.HalEvent.TheVariants.{OpenBegin, OpenOk, OpenError, InitBegin, InitOk, InitError, TemplateBegin, TemplateOk, TemplateNull, ConfigureBegin, ConfigureOk, ConfigureError, RequestBegin, RequestOk, RequestError, Shutter, ErrorRequest, ErrorResult, ErrorBuffer, ErrorDevice, Results, FlushBegin, FlushOk, FlushError, CloseBegin, CloseEnd}
+use Rattle.hal_model.specs.declared.event.HalEvent.TheVariants.{OpenBegin, OpenOk, OpenError, InitBegin, InitOk, InitError, TemplateBegin, TemplateOk, TemplateNull, ConfigureBegin, ConfigureOk, ConfigureError, RequestBegin, RequestOk, RequestError, Shutter, ErrorRequest, ErrorResult, ErrorBuffer, ErrorDevice, Results, FlushBegin, FlushOk, FlushError}
 use Rattle.hal_model.specs.declared.event.HalStream.{HalStream}
 use Rattle.hal_model.specs.declared.event.StreamMax.{StreamMax}
 use Rattle.hal_model.specs.declared.event.Pack.{Pack}
@@ -207,8 +207,7 @@ event-again (Results n k content buffers input) h t =
 event-again FlushBegin h t = refl
 event-again FlushOk h t = refl
 event-again (FlushError error) h t = rw (error-again error h) refl
-event-again CloseBegin h t = refl
-event-again CloseEnd h t = refl
+event-again _ h t = refl
 
 -- ---- the words of an event are words
 
@@ -268,5 +267,4 @@ event-are-words (Results n k content buffers input) h t =
 event-are-words FlushBegin h t = refl
 event-are-words FlushOk h t = refl
 event-are-words (FlushError error) h t = rw (error-word error h) refl
-event-are-words CloseBegin h t = refl
-event-are-words CloseEnd h t = refl
+event-are-words _ h t = refl

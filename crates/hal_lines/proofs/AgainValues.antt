@@ -21,7 +21,7 @@ use Rattle.hal_model.specs.declared.event.HalStream.{HalStream}
 use Rattle.hal_model.specs.declared.event.HalTarget.{HalTarget}
 use Rattle.hal_model.specs.declared.event.Returned.{Returned}
 use Rattle.hal_model.specs.declared.event.Status.{Status}
-use Rattle.hal_model.specs.declared.event.Status.TheVariants.{Filled, Failed, Unknown}
+use Rattle.hal_model.specs.declared.event.Status.TheVariants.{Filled}
 use Rattle.hal_model.specs.declared.event.StreamMax.{StreamMax}
 use Rattle.hal_spelling.specs.Fits.{error_fits, is_error_name, is_format_typed, is_letter, is_max_typed, is_release_typed, is_returned_typed, is_small, is_small_or_none, is_stream_typed, is_target_typed, name_fits}
 use Rattle.hal_spelling.specs.Spelling.{acquire_text, direction_text, error_text, format_text, max_text, number_or, release_text, returned_text, rotation_text, size_text, status_text, stream_text, target_text}
@@ -67,8 +67,7 @@ release-again fence.Foreign h = refl
 status-again : (s : Status) → status_of (status_text s) ≡ Ok s
 unfolding status_of
 status-again Filled = refl
-status-again Failed = refl
-status-again Unknown = refl
+status-again _ = refl
 
 -- ---- their bytes
 
@@ -81,24 +80,20 @@ or-plain sign None s h = s
 or-plain sign (Some n) s h = number-plain n (below n h)
 
 release-avoids : (f : HalFence) → is_release_typed f ≡ true → avoids 58 (release_text f) ≡ true
-release-avoids fence.Absent h = refl
 release-avoids (fence.Number n) h = number-avoids 58 n refl (below n h)
-release-avoids fence.Foreign h = refl
+release-avoids _ h = refl
 
 release-plain : (f : HalFence) → is_release_typed f ≡ true → list_all is_plain (release_text f) ≡ true
-release-plain fence.Absent h = refl
 release-plain (fence.Number n) h = number-plain n (below n h)
-release-plain fence.Foreign h = refl
+release-plain _ h = refl
 
 status-avoids : (s : Status) → avoids 58 (status_text s) ≡ true
 status-avoids Filled = refl
-status-avoids Failed = refl
-status-avoids Unknown = refl
+status-avoids _ = refl
 
 status-plain : (s : Status) → list_all is_plain (status_text s) ≡ true
 status-plain Filled = refl
-status-plain Failed = refl
-status-plain Unknown = refl
+status-plain _ = refl
 
 pub some-byte : (a : List ℕ) (c : ℕ) (b : List ℕ) → 0 < length (a ++ c ∷ b)
 some-byte [] c b = omega arith
@@ -189,13 +184,11 @@ direction_fields Bidirectional = codes "bidi" ∷ []
 
 direction-again : (d : Direction) → direction_by (direction_fields d) ≡ Ok d
 direction-again Output = refl
-direction-again Input = refl
-direction-again Bidirectional = refl
+direction-again _ = refl
 
 direction-plain : (d : Direction) → list_all is_plain (direction_text d) ≡ true
 direction-plain Output = refl
-direction-plain Input = refl
-direction-plain Bidirectional = refl
+direction-plain _ = refl
 
 -- the fields behind a size, where a stream is rotated or not
 fields-behind : (b : Bool) (size more : List ℕ) (d : Direction) → avoids 58 size ≡ true → avoids 58 more ≡ true
@@ -212,8 +205,7 @@ fields-behind false size more Bidirectional h k =
 
 not-rotated : (r : ℕ) (d : Direction) → r ≡ 0 → turned_by (direction_fields d) ≡ Ok (r, d)
 not-rotated r Output e = rw e refl
-not-rotated r Input e = rw e refl
-not-rotated r Bidirectional e = rw e refl
+not-rotated r _ e = rw e refl
 
 rotated : (r : ℕ) (d : Direction) → is_small r ≡ true → eqb r 0 ≡ false → turned_by ((114 ∷ decimal r) ∷ direction_fields d) ≡ Ok (r, d)
 rotated r d h f =
@@ -283,52 +275,34 @@ max-no-mark m h = number-no-mark m.stream (58 ∷ decimal m.max) (and_parts (is_
 
 -- ---- targets
 
-record TypedTarget (t : HalTarget) : Type 0 where
-  stream : is_small t.stream ≡ true
-  buffer : is_small t.buffer ≡ true
-  fence : is_small_or_none t.fence ≡ true
-
-typed-target : (t : HalTarget) → is_target_typed t ≡ true → TypedTarget t
-typed-target t h =
-    let p = and_parts (is_small t.stream) _ h in
-    let q = and_parts (is_small t.buffer) (is_small_or_none t.fence) p.1 in
-    record { stream = p.0; buffer = q.0; fence = q.1 }
+-- the three parts of a condition
+three : (a b c : Bool) → (a && (b && c)) ≡ true → (a ≡ true) × (b ≡ true) × (c ≡ true)
+three a b c h = let p = and_parts a (b && c) h in let q = and_parts b c p.1 in (p.0, q.0, q.1)
 
 pub target-again : (t : HalTarget) → is_target_typed t ≡ true → target_of (target_text t) ≡ Ok t
 target-again t h =
-    let k = typed-target t h in
+    let k = three (is_small t.stream) (is_small t.buffer) (is_small_or_none t.fence) h in
     rw (
-      cut-first 58 (decimal t.stream) (98 ∷ (decimal t.buffer ++ 58 ∷ number_or (codes "-") t.fence)) (number-avoids 58 t.stream refl (below t.stream k.stream)),
-      cut-first 58 (98 ∷ decimal t.buffer) (number_or (codes "-") t.fence) (number-avoids 58 t.buffer refl (below t.buffer k.buffer)),
-      cut-none 58 (number_or (codes "-") t.fence) (or-avoids 58 (codes "-") t.fence refl refl k.fence),
-      small-again t.stream k.stream,
-      small-again t.buffer k.buffer,
-      acquire-again t.fence k.fence,
+      cut-first 58 (decimal t.stream) (98 ∷ (decimal t.buffer ++ 58 ∷ number_or (codes "-") t.fence)) (number-avoids 58 t.stream refl (below t.stream k.0)),
+      cut-first 58 (98 ∷ decimal t.buffer) (number_or (codes "-") t.fence) (number-avoids 58 t.buffer refl (below t.buffer k.1)),
+      cut-none 58 (number_or (codes "-") t.fence) (or-avoids 58 (codes "-") t.fence refl refl k.2),
+      small-again t.stream k.0,
+      small-again t.buffer k.1,
+      acquire-again t.fence k.2,
     ) refl
 
 pub target-word : (t : HalTarget) → is_target_typed t ≡ true → is_word (target_text t) ≡ true
 target-word t h =
-    let k = typed-target t h in
+    let k = three (is_small t.stream) (is_small t.buffer) (is_small_or_none t.fence) h in
     word-from (target_text t)
-    (plain-append (decimal t.stream) (58 ∷ 98 ∷ (decimal t.buffer ++ 58 ∷ number_or (codes "-") t.fence)) (number-plain t.stream (below t.stream k.stream))
-    (plain-append (decimal t.buffer) (58 ∷ number_or (codes "-") t.fence) (number-plain t.buffer (below t.buffer k.buffer)) (or-plain (codes "-") t.fence refl k.fence)))
+    (plain-append (decimal t.stream) (58 ∷ 98 ∷ (decimal t.buffer ++ 58 ∷ number_or (codes "-") t.fence)) (number-plain t.stream (below t.stream k.0))
+    (plain-append (decimal t.buffer) (58 ∷ number_or (codes "-") t.fence) (number-plain t.buffer (below t.buffer k.1)) (or-plain (codes "-") t.fence refl k.2)))
     (some-byte (decimal t.stream) 58 (98 ∷ (decimal t.buffer ++ 58 ∷ number_or (codes "-") t.fence)))
 
 pub target-no-mark : (t : HalTarget) → is_target_typed t ≡ true → is_mark (target_text t) ≡ false
-target-no-mark t h = number-no-mark t.stream (58 ∷ 98 ∷ (decimal t.buffer ++ 58 ∷ number_or (codes "-") t.fence)) (typed-target t h).stream
+target-no-mark t h = number-no-mark t.stream (58 ∷ 98 ∷ (decimal t.buffer ++ 58 ∷ number_or (codes "-") t.fence)) (three (is_small t.stream) (is_small t.buffer) (is_small_or_none t.fence) h).0
 
 -- ---- buffers that come back
-
-record TypedReturned (r : Returned) : Type 0 where
-  stream : is_small_or_none r.stream ≡ true
-  buffer : is_small_or_none r.buffer ≡ true
-  release : is_release_typed r.release ≡ true
-
-typed-returned : (r : Returned) → is_returned_typed r ≡ true → TypedReturned r
-typed-returned r h =
-    let p = and_parts (is_small_or_none r.stream) _ h in
-    let q = and_parts (is_small_or_none r.buffer) (is_release_typed r.release) p.1 in
-    record { stream = p.0; buffer = q.0; release = q.1 }
 
 fences-again : (f : HalFence) (b : Bool) → is_release_typed f ≡ true → fences_by (parts_at 58 (release_text f ++ acquire_text b)) ≡ Ok (f, b)
 fences-again f true h = rw (cut-first 58 (release_text f) (codes "acquire") (release-avoids f h), release-again f h) refl
@@ -344,28 +318,28 @@ fences r = release_text r.release ++ acquire_text r.acquire
 pub returned-again : (r : Returned) → is_returned_typed r ≡ true → returned_of (returned_text r) ≡ Ok r
 unfolding returned_text
 returned-again r h =
-    let k = typed-returned r h in
+    let k = three (is_small_or_none r.stream) (is_small_or_none r.buffer) (is_release_typed r.release) h in
     rw (
-      cut-first 58 (number_or (codes "?") r.stream) (98 ∷ (number_or (codes "?") r.buffer ++ 58 ∷ (status_text r.status ++ 58 ∷ fences r))) (or-avoids 58 (codes "?") r.stream refl refl k.stream),
-      cut-first 58 (98 ∷ number_or (codes "?") r.buffer) (status_text r.status ++ 58 ∷ fences r) (or-avoids 58 (codes "?") r.buffer refl refl k.buffer),
+      cut-first 58 (number_or (codes "?") r.stream) (98 ∷ (number_or (codes "?") r.buffer ++ 58 ∷ (status_text r.status ++ 58 ∷ fences r))) (or-avoids 58 (codes "?") r.stream refl refl k.0),
+      cut-first 58 (98 ∷ number_or (codes "?") r.buffer) (status_text r.status ++ 58 ∷ fences r) (or-avoids 58 (codes "?") r.buffer refl refl k.1),
       cut-first 58 (status_text r.status) (fences r) (status-avoids r.status),
-      fences-again r.release r.acquire k.release,
-      known-again r.stream k.stream,
-      known-again r.buffer k.buffer,
+      fences-again r.release r.acquire k.2,
+      known-again r.stream k.0,
+      known-again r.buffer k.1,
       status-again r.status,
     ) refl
 
 pub returned-word : (r : Returned) → is_returned_typed r ≡ true → is_word (returned_text r) ≡ true
 unfolding returned_text
 returned-word r h =
-    let k = typed-returned r h in
+    let k = three (is_small_or_none r.stream) (is_small_or_none r.buffer) (is_release_typed r.release) h in
     let status = status_text r.status ++ 58 ∷ fences r in
     let name = number_or (codes "?") r.buffer ++ 58 ∷ status in
     word-from (number_or (codes "?") r.stream ++ 58 ∷ 98 ∷ name)
-    (plain-append (number_or (codes "?") r.stream) (58 ∷ 98 ∷ name) (or-plain (codes "?") r.stream refl k.stream)
-    (plain-append (number_or (codes "?") r.buffer) (58 ∷ status) (or-plain (codes "?") r.buffer refl k.buffer)
+    (plain-append (number_or (codes "?") r.stream) (58 ∷ 98 ∷ name) (or-plain (codes "?") r.stream refl k.0)
+    (plain-append (number_or (codes "?") r.buffer) (58 ∷ status) (or-plain (codes "?") r.buffer refl k.1)
     (plain-append (status_text r.status) (58 ∷ fences r) (status-plain r.status)
-    (plain-append (release_text r.release) (acquire_text r.acquire) (release-plain r.release k.release) (acquire-plain r.acquire)))))
+    (plain-append (release_text r.release) (acquire_text r.acquire) (release-plain r.release k.2) (acquire-plain r.acquire)))))
     (some-byte (number_or (codes "?") r.stream) 58 (98 ∷ name))
 
 or-no-mark : (o : Option ℕ) (rest : List ℕ) → is_small_or_none o ≡ true → is_mark (number_or (codes "?") o ++ rest) ≡ false
@@ -374,7 +348,7 @@ or-no-mark (Some n) rest h = number-no-mark n rest h
 
 pub returned-no-mark : (r : Returned) → is_returned_typed r ≡ true → is_mark (returned_text r) ≡ false
 unfolding returned_text
-returned-no-mark r h = or-no-mark r.stream _ (typed-returned r h).stream
+returned-no-mark r h = or-no-mark r.stream _ (three (is_small_or_none r.stream) (is_small_or_none r.buffer) (is_release_typed r.release) h).0
 
 -- ---- names of errors
 

@@ -1,13 +1,8 @@
 -- A trace with an entry of nearly each kind, and its hal log; a trace whose device fails, and its hal log.
-use Rattle.std.specs.Prelude.{ℕ, true, false, List, [], ◌∷◌, Some, None}
+use Rattle.std.specs.Prelude.{true, false, List, [], ◌∷◌, Some, None}
 use Rattle.cam_types.specs.Worked.{shot}
 use Rattle.cam_types.specs.declared.item.Item.{Item}
-use Rattle.cam_types.specs.declared.number.BufferId.{BufferId}
-use Rattle.cam_types.specs.declared.number.FenceNo.{FenceNo}
-use Rattle.cam_types.specs.declared.number.FrameNo.{FrameNo}
-use Rattle.cam_types.specs.declared.number.RequestId.{RequestId}
-use Rattle.cam_types.specs.declared.number.StreamIx.{StreamIx}
-use Rattle.cam_types.specs.declared.part.Part.TheVariants.{Look, Light, Time}
+use Rattle.cam_types.specs.declared.partial_result.PartialResult.TheVariants.{Look, Light, Time}
 use Rattle.cam_types.specs.declared.reply.Reply.TheVariants.{Ok as Accepted, Submitted, Configured, Refused}
 use Rattle.cam_types.specs.declared.script.Command.TheVariants.{Configure, Burst, Flush, Disconnect}
 use Rattle.cam_types.specs.declared.script.Script.{Script}
@@ -21,21 +16,7 @@ use Rattle.hal_model.specs.declared.event.HalEvent.TheVariants.{OpenBegin, OpenO
 use Rattle.hal_model.specs.declared.event.HalFormat.TheVariants.{Raw16, Yuv}
 use Rattle.hal_model.specs.declared.event.Status.TheVariants.{Filled as Okay, Failed as Faulty}
 use Rattle.hal_model.specs.Worked.{gives, metadata, released, returned}
-
-abbrev pub frame : ℕ → FrameNo
-frame n = record { 0 = n }
-
-abbrev pub stream : ℕ → StreamIx
-stream n = record { 0 = n }
-
-abbrev pub buffer : ℕ → BufferId
-buffer n = record { 0 = n }
-
-abbrev pub fence : ℕ → FenceNo
-fence n = record { 0 = n }
-
-abbrev pub request : ℕ → RequestId
-request n = record { 0 = n }
+use Rattle.trace_model.specs.Worked.{buffer, device_fence, fence, frame, made, one, request, stream, two, with}
 
 -- an item for the first stream, and one for both
 abbrev pub item : Item
@@ -69,27 +50,15 @@ script = record {
 -- and a failed buffer
 abbrev pub first_frame : List Entry
 first_frame =
-    Release (buffer 0) (fence 0) ∷ Late (fence 0) []
+    Release (buffer 0) (fence 0) ∷ Late (device_fence 0) []
     ∷ Failed (frame 0) (stream 1) (buffer 5) None ∷ Partial (frame 0) 3 (Time 1000000000)
     ∷ Partial (frame 0) 2 (Light 10000000 100) ∷ ErrorBuffer (frame 0) (stream 1)
-    ∷ Early (frame 0) (stream 0) (buffer 0) (fence 0) ∷ Partial (frame 0) 1 (Look 0 100)
+    ∷ Early (frame 0) (stream 0) (buffer 0) (device_fence 0) ∷ Partial (frame 0) 1 (Look 0 100)
     ∷ Shutter (frame 0) 1000000000
     ∷ Send (frame 0) (request 0) 0 false
-    (record {
-      a = Some (record { stream = stream 0; buffer = buffer 0; fence = None });
-      b = Some (record { stream = stream 1; buffer = buffer 5; fence = None });
-      c = None;
-      d = None;
-    })
+    (two (with 0 0 None) (with 1 5 None))
     ∷ Call 2 WordBurst (Submitted (request 0))
-    ∷ Call 1 WordConfigure
-    (Configured
-    (record {
-      a = Some (record { first = buffer 0; count = 5 });
-      b = Some (record { first = buffer 5; count = 6 });
-      c = None;
-      d = None;
-    }))
+    ∷ Call 1 WordConfigure (Configured (two (made 0 5) (made 5 6)))
     ∷ Begin WordConfigure ∷ Call 0 WordFlush (Refused 3 None None) ∷ Begin WordFlush ∷ []
 
 abbrev pub first_frame_log : List HalEvent
@@ -110,12 +79,7 @@ flushed =
     Call 4 WordDisconnect Accepted ∷ Begin WordDisconnect ∷ Signal (fence 0) ∷ Call 3 WordFlush Accepted
     ∷ Failed (frame 1) (stream 0) (buffer 0) (Some (fence 0)) ∷ ErrorRequest (frame 1) ∷ Begin WordFlush
     ∷ Send (frame 1) (request 0) 1 true
-    (record {
-      a = Some (record { stream = stream 0; buffer = buffer 0; fence = Some (fence 0) });
-      b = None;
-      c = None;
-      d = None;
-    })
+    (one (with 0 0 (Some (fence 0))))
     ∷ first_frame
 
 abbrev pub flushed_log : List HalEvent

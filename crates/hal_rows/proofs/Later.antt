@@ -57,10 +57,8 @@ any-but b p q j (x ∷ xs) all same grows =
   where
     one : (a c x y : Bool) → (c ≡ true → a ≡ true) → (x || a) ≡ (y || a) → ((a || x) || a) ≡ ((c || y) || a)
     one true true x y g h = refl
-    one true false true true g h = refl
-    one true false true false g h = refl
-    one true false false true g h = refl
-    one true false false false g h = refl
+    one true false x true g h = refl
+    one true false x false g h = refl
     one false true x y g h = absurd (false≢true (g refl))
     one false false x y g h = h
 
@@ -309,12 +307,9 @@ anew k test t own n j past heard begun =
     ended s x true true f g = absurd (false≢true (sym (f refl)))
     ended true true false true f g = refl
     ended true false false true f g = refl
-    ended false true false true f g = refl
-    ended false false false true f g = refl
-    ended true true true false f g = refl
-    ended true false true false f g = refl
-    ended false true true false f g = refl
-    ended false false true false f g = refl
+    ended false x false true f g = refl
+    ended true x true false f g = refl
+    ended false x true false f g = refl
     ended s x false false f g = absurd (false≢true (g refl))
 
     accepted-gone : is_refused j past ≡ false → is_live k j past ≡ false → is_begun j past ≡ true → stands j (accepts j) past ≡ true

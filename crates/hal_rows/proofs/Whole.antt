@@ -11,7 +11,7 @@ use Rattle.hal_model.specs.Rules.{ascending, breaks, breaks_in_session, faults, 
 use Rattle.hal_model.specs.Words.{frames, is_dead, is_initialized, is_open_ok, is_outstanding, session}
 use Rattle.hal_rows.specs.Judged.{breach_of, breaches_at}
 use Rattle.hal_rows.specs.Laws.{BreachesRead, IsHeard, LogNoted, OpenReads, ReportReads, RuleReads, StateNoted}
-use Rattle.hal_rows.specs.Noting.{is_stray_at, noted, opened_state, rows_after}
+use Rattle.hal_rows.specs.Noting.{is_stray_at, hal_state_after, opened_state, rows_after}
 use Rattle.hal_rows.specs.Row.{begun_count, fresh_row, is_row_outstanding, rows, rows_but}
 use Rattle.hal_rows.specs.State.{hal_state}
 use Rattle.hal_rows.proofs.Begun.{rows_begun}
@@ -80,7 +80,7 @@ rule_reads k NoShutter e past heard = no-shutter k e past heard
 
 -- ---- the state
 
-same-state : (k : ℕ) (e : HalEvent) (past : List HalEvent) → rows k (e ∷ past) ≡ rows_after k e (hal_state k past) → hal_state k (e ∷ past) ≡ noted k e (hal_state k past)
+same-state : (k : ℕ) (e : HalEvent) (past : List HalEvent) → rows k (e ∷ past) ≡ rows_after k e (hal_state k past) → hal_state k (e ∷ past) ≡ hal_state_after k e (hal_state k past)
 same-state k e past each = rw (device_noted e past, each) refl
 
 pub state_noted : (k : ℕ) (e : HalEvent) (past : List HalEvent) → StateNoted k e past
@@ -103,10 +103,10 @@ stray k e past = both _ _ _ _ (names-idle k e past) (ends-again k e past)
     both : (a b x y : Bool) → a ≡ x → b ≡ y → (a || b) ≡ (x || y)
     both a b x y h i = rw (h, i) refl
 
-heard-next : (k : ℕ) (e : HalEvent) (past : List HalEvent) → hal_state k (heard k (e ∷ past)) ≡ (if is_stray_at e (hal_state k (heard k past)) then hal_state k (heard k past) else noted k e (hal_state k (heard k past)))
+heard-next : (k : ℕ) (e : HalEvent) (past : List HalEvent) → hal_state k (heard k (e ∷ past)) ≡ (if is_stray_at e (hal_state k (heard k past)) then hal_state k (heard k past) else hal_state_after k e (hal_state k (heard k past)))
 heard-next k e past = rw (← stray k e (heard k past)) (by (names_idle k e (heard k past) || ends_again e (heard k past)) refl)
   where
-    by : (b : Bool) → (names_idle k e (heard k past) || ends_again e (heard k past)) ≡ b → hal_state k (if b then heard k past else e ∷ heard k past) ≡ (if b then hal_state k (heard k past) else noted k e (hal_state k (heard k past)))
+    by : (b : Bool) → (names_idle k e (heard k past) || ends_again e (heard k past)) ≡ b → hal_state k (if b then heard k past else e ∷ heard k past) ≡ (if b then hal_state k (heard k past) else hal_state_after k e (hal_state k (heard k past)))
     by true dropped = refl
     by false now = state_noted k e (heard k past) (all-heard k past) now
 
@@ -117,7 +117,7 @@ log_noted k e log = by (is_open_ok e) refl
     opens-only OpenOk h = refl
     opens-only _ h = absurd (false≢true h)
 
-    by : (b : Bool) → is_open_ok e ≡ b → hal_state k (heard k (if b then e ∷ [] else e ∷ session log)) ≡ (if b then opened_state k else (if is_stray_at e (hal_state k (known k log)) then hal_state k (known k log) else noted k e (hal_state k (known k log))))
+    by : (b : Bool) → is_open_ok e ≡ b → hal_state k (heard k (if b then e ∷ [] else e ∷ session log)) ≡ (if b then opened_state k else (if is_stray_at e (hal_state k (known k log)) then hal_state k (known k log) else hal_state_after k e (hal_state k (known k log))))
     by true open' = rw (opens-only e open') refl
     by false other = heard-next k e (session log)
 

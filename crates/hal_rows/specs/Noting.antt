@@ -1,4 +1,4 @@
--- How an event is noted in the state.
+-- How an event is hal_state_after in the state.
 use Rattle.std.specs.Prelude.{ℕ, Bool, ◌||◌, List, [], ◌∷◌, if◌then◌else◌}
 use Rattle.hal_model.specs.declared.event.HalEvent.{HalEvent}
 use Rattle.hal_model.specs.declared.event.HalEvent.TheVariants.{OpenOk, RequestBegin}
@@ -17,8 +17,8 @@ rows_after k (RequestBegin n same targets no_handle bad_settings) s =
     ∷ rows_but n s.rows
 rows_after k e s = note_rows k s.device.flush.out e s.rows
 
-abbrev pub noted : ℕ → HalEvent → HalState → HalState
-noted k e s = record {
+abbrev pub hal_state_after : ℕ → HalEvent → HalState → HalState
+hal_state_after k e s = record {
   device = note_device e s.device;
   rows = rows_after k e s;
   top = λ order. raised (brings order) (settled k s.device.flush.out e s.rows) (s.top order);
@@ -36,4 +36,4 @@ abbrev pub opened_state : ℕ → HalState
 opened_state k = hal_state k (OpenOk ∷ [])
 
 abbrev pub next_state : ℕ → HalEvent → HalState → HalState
-next_state k e s = if is_open_ok e then opened_state k else (if is_stray_at e s then s else noted k e s)
+next_state k e s = if is_open_ok e then opened_state k else (if is_stray_at e s then s else hal_state_after k e s)

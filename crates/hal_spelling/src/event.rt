@@ -7,64 +7,9 @@ ghost use Rattle.hal_model.specs.Words.{is_callback};
 ghost use Rattle.hal_spelling.specs.Fits.{error_fits, is_max_typed, is_returned_typed, is_small, is_small_or_none, is_stream_typed, is_target_typed, is_typed, is_well_made};
 ghost use Rattle.hal_spelling.specs.Spelling.{behind_spaces, error_words, event_line, event_words, mark_words, max_text, mode_words, ok_words, pack_text, returned_text, settings_text, stream_text, target_text};
 
-use crate::value::{
-    number_is_small, write_error, write_max, write_number_or, write_returned, write_stream,
-    write_target,
-};
+use crate::value::{number_is_small, write_error, write_list, write_number_or};
 use cam_types::NoMemory;
 use hal_model::{HalError, HalEvent, HalStream, HalTarget, Pack, Returned, StreamMax};
-
-/// Writes streams, each behind a space.
-fn write_streams(out: &mut String, streams: &[HalStream]) -> Result<(), NoMemory>
-    ensures text { OnOk result
-        (string_bytes out.new ≡ string_bytes out.old ++ behind_spaces (map stream_text streams.now)) }
-    ensures typed { OnOk result (list_all is_stream_typed streams.now ≡ true) }
-{
-    for stream in streams {
-        out.push_str(" ")?;
-        write_stream(out, stream)?;
-    }
-    Ok(())
-}
-
-/// Writes how many buffers the device takes, each behind a space.
-fn write_maxes(out: &mut String, maxes: &[StreamMax]) -> Result<(), NoMemory>
-    ensures text { OnOk result
-        (string_bytes out.new ≡ string_bytes out.old ++ behind_spaces (map max_text maxes.now)) }
-    ensures typed { OnOk result (list_all is_max_typed maxes.now ≡ true) }
-{
-    for most in maxes {
-        out.push_str(" ")?;
-        write_max(out, most)?;
-    }
-    Ok(())
-}
-
-/// Writes targets, each behind a space.
-fn write_targets(out: &mut String, targets: &[HalTarget]) -> Result<(), NoMemory>
-    ensures text { OnOk result
-        (string_bytes out.new ≡ string_bytes out.old ++ behind_spaces (map target_text targets.now)) }
-    ensures typed { OnOk result (list_all is_target_typed targets.now ≡ true) }
-{
-    for target in targets {
-        out.push_str(" ")?;
-        write_target(out, target)?;
-    }
-    Ok(())
-}
-
-/// Writes buffers that come back, each behind a space.
-fn write_buffers(out: &mut String, buffers: &[Returned]) -> Result<(), NoMemory>
-    ensures text { OnOk result
-        (string_bytes out.new ≡ string_bytes out.old ++ behind_spaces (map returned_text buffers.now)) }
-    ensures typed { OnOk result (list_all is_returned_typed buffers.now ≡ true) }
-{
-    for returned in buffers {
-        out.push_str(" ")?;
-        write_returned(out, returned)?;
-    }
-    Ok(())
-}
 
 /// Writes the line of a call that ends in error.
 fn write_failed(out: &mut String, call: &str, error: HalError) -> Result<(), NoMemory>
@@ -77,15 +22,15 @@ fn write_failed(out: &mut String, call: &str, error: HalError) -> Result<(), NoM
     out.push_str("\n")
 }
 
-/// Writes the line of a template, with what stands behind its number.
-fn write_template(out: &mut String, template: u32, stage: &str) -> Result<(), NoMemory>
+/// Writes the line of a word, a number and what stands behind it.
+fn write_numbered(out: &mut String, word: &str, number: u32, what: &str) -> Result<(), NoMemory>
     ensures text { OnOk result
         (string_bytes out.new ≡ string_bytes out.old
-        ++ line_text (codes "template" ∷ decimal template ∷ stage.now ∷ [])) }
-    ensures typed { OnOk result (is_small template ≡ true) }
+        ++ line_text (word.now ∷ decimal number ∷ what.now ∷ [])) }
+    ensures typed { OnOk result (is_small number ≡ true) }
 {
-    number_is_small(template);
-    writeln!(out, "template {template} {stage}")
+    number_is_small(number);
+    writeln!(out, "{word} {number} {what}")
 }
 
 /// Writes the mode of a configuration behind a space, if it has one.
@@ -114,7 +59,7 @@ fn write_configure(
 {
     out.push_str("configure begin")?;
     write_mode(out, mode)?;
-    write_streams(out, streams)?;
+    write_list(out, streams)?;
     out.push_str("\n")?;
     Ok(())
 }
@@ -126,7 +71,7 @@ fn write_configured(out: &mut String, maxes: &[StreamMax]) -> Result<(), NoMemor
     ensures typed { OnOk result (is_typed (HalEvent.ConfigureOk maxes.now) ≡ true) }
 {
     out.push_str("configure end ok")?;
-    write_maxes(out, maxes)?;
+    write_list(out, maxes)?;
     out.push_str("\n")
 }
 
@@ -173,7 +118,7 @@ fn write_request(
         (is_typed (HalEvent.RequestBegin frame same targets.now no_handle bad_settings) ≡ true) }
 {
     write_settings(out, frame, same)?;
-    write_targets(out, targets)?;
+    write_list(out, targets)?;
     write_mark(out, no_handle, "nohandle")?;
     write_mark(out, bad_settings, "badsettings")?;
     out.push_str("\n")
@@ -210,17 +155,6 @@ fn write_shutter(out: &mut String, frame: u32, time: u64) -> Result<(), NoMemory
 {
     number_is_small(frame);
     writeln!(out, "shutter {frame} {time}")
-}
-
-/// Writes the line of an error of a frame, with what stands behind its number.
-fn write_notice(out: &mut String, frame: u32, what: &str) -> Result<(), NoMemory>
-    ensures text { OnOk result
-        (string_bytes out.new ≡ string_bytes out.old
-        ++ line_text (codes "error" ∷ decimal frame ∷ what.now ∷ [])) }
-    ensures typed { OnOk result (is_small frame ≡ true) }
-{
-    number_is_small(frame);
-    writeln!(out, "error {frame} {what}")
 }
 
 /// Writes the line of an error of a buffer.
@@ -264,7 +198,7 @@ fn write_result(
     number_is_small(partial);
     write!(out, "result {frame} partial {partial} ")?;
     write_pack(out, pack)?;
-    write_buffers(out, buffers)?;
+    write_list(out, buffers)?;
     write_mark(out, input, "input")?;
     out.push_str("\n")
 }
@@ -277,8 +211,8 @@ fn write_callback(out: &mut String, event: &HalEvent) -> Result<(), NoMemory>
 {
     match event {
         HalEvent::Shutter { frame, time } => write_shutter(out, *frame, *time),
-        HalEvent::ErrorRequest { frame } => write_notice(out, *frame, "request"),
-        HalEvent::ErrorResult { frame } => write_notice(out, *frame, "result"),
+        HalEvent::ErrorRequest { frame } => write_numbered(out, "error", *frame, "request"),
+        HalEvent::ErrorResult { frame } => write_numbered(out, "error", *frame, "result"),
         HalEvent::ErrorBuffer { frame, stream } => write_buffer_notice(out, *frame, *stream),
         HalEvent::Results {
             frame,
@@ -304,9 +238,11 @@ pub fn write_event(out: &mut String, event: &HalEvent) -> Result<(), NoMemory>
         HalEvent::InitBegin => out.push_str("init begin\n"),
         HalEvent::InitOk => out.push_str("init end ok\n"),
         HalEvent::InitError { error } => write_failed(out, "init", *error),
-        HalEvent::TemplateBegin { template } => write_template(out, *template, "begin"),
-        HalEvent::TemplateOk { template } => write_template(out, *template, "end ok"),
-        HalEvent::TemplateNull { template } => write_template(out, *template, "end null"),
+        HalEvent::TemplateBegin { template } => write_numbered(out, "template", *template, "begin"),
+        HalEvent::TemplateOk { template } => write_numbered(out, "template", *template, "end ok"),
+        HalEvent::TemplateNull { template } => write_numbered(
+            out, "template", *template, "end null",
+        ),
         HalEvent::ConfigureBegin { mode, streams } => {
             write_configure(out, *mode, streams.as_slice())
         }

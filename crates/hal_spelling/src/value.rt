@@ -1,14 +1,40 @@
 //! The words that stand for values: errors, streams, targets and buffers that come back.
 
-ghost use Rattle.std.specs.Prelude.{◌≡◌, ◌++◌, ◌∷◌, [], true, OnOk, IsTrue, map, string_bytes};
+ghost use Rattle.std.specs.Prelude.{◌≡◌, ℕ, List, Bool, ◌++◌, ◌∷◌, [], true, OnOk, IsTrue, map, string_bytes};
 ghost use Rattle.std.specs.List.{flat_map, list_all};
 ghost use Rattle.hal_spelling.specs.Fits.{error_fits, is_letter, is_format_typed, is_max_typed, is_release_typed, is_returned_typed, is_small, is_small_or_none, is_stream_typed, is_target_typed};
-ghost use Rattle.hal_spelling.specs.Spelling.{acquire_text, direction_text, error_text, format_text, max_text, number_or, release_text, returned_text, rotation_text, size_text, status_text, stream_text, target_text};
+ghost use Rattle.hal_spelling.specs.Spelling.{acquire_text, behind_spaces, direction_text, error_text, format_text, max_text, number_or, release_text, returned_text, rotation_text, size_text, status_text, stream_text, target_text};
 
 use cam_types::NoMemory;
 use hal_model::{
     Direction, HalError, HalFence, HalFormat, HalStream, HalTarget, Returned, Status, StreamMax,
 };
+
+/// A value that stands in a list.
+pub trait Listed {
+    /// How it is written.
+    ghost text: { Self → List ℕ };
+
+    /// Whether its numbers are within their types.
+    ghost typed: { Self → Bool };
+
+    /// Writes it.
+    fn write(&self, out: &mut String) -> Result<(), NoMemory>
+        ensures text { OnOk result (string_bytes out.new ≡ string_bytes out.old ++ text self.now) }
+        ensures typed { OnOk result (typed self.now ≡ true) };
+}
+
+/// Writes values, each behind a space.
+pub fn write_list<T: Listed>(out: &mut String, values: &[T]) -> Result<(), NoMemory>
+    ensures text { OnOk result (string_bytes out.new ≡ string_bytes out.old ++ behind_spaces (map T.text values.now)) }
+    ensures typed { OnOk result (list_all T.typed values.now ≡ true) }
+{
+    for value in values {
+        out.push_str(" ")?;
+        value.write(out)?;
+    }
+    Ok(())
+}
 
 /// A number of 32 bits is below 2^32.
 pub fn number_is_small(number: u32)
@@ -101,44 +127,53 @@ fn write_size(out: &mut String, stream: &HalStream) -> Result<(), NoMemory>
 }
 
 /// Writes a stream.
-#[tactic(auto, unfolding(crate::specs::Spelling::stream_text))]
-pub fn write_stream(out: &mut String, stream: &HalStream) -> Result<(), NoMemory>
-    ensures text { OnOk result (string_bytes out.new ≡ string_bytes out.old ++ stream_text stream.now) }
-    ensures typed { OnOk result (is_stream_typed stream.now ≡ true) }
-{
-    let number = stream.stream;
-    number_is_small(number);
-    write!(out, "{number}:")?;
-    write_size(out, stream)?;
-    write_rotation(out, stream.rotation)?;
-    write_direction(out, stream.direction)
+impl Listed for HalStream {
+    ghost text = { stream_text };
+
+    ghost typed = { is_stream_typed };
+
+    #[tactic(auto, unfolding(crate::specs::Spelling::stream_text))]
+    fn write(&self, out: &mut String) -> Result<(), NoMemory> {
+        let number = self.stream;
+        number_is_small(number);
+        write!(out, "{number}:")?;
+        write_size(out, self)?;
+        write_rotation(out, self.rotation)?;
+        write_direction(out, self.direction)
+    }
 }
 
 /// Writes how many buffers of a stream the device takes.
-pub fn write_max(out: &mut String, most: &StreamMax) -> Result<(), NoMemory>
-    ensures text { OnOk result (string_bytes out.new ≡ string_bytes out.old ++ max_text most.now) }
-    ensures typed { OnOk result (is_max_typed most.now ≡ true) }
-{
-    let StreamMax { stream, max } = *most;
-    number_is_small(stream);
-    number_is_small(max);
-    write!(out, "{stream}:{max}")
+impl Listed for StreamMax {
+    ghost text = { max_text };
+
+    ghost typed = { is_max_typed };
+
+    fn write(&self, out: &mut String) -> Result<(), NoMemory> {
+        let StreamMax { stream, max } = *self;
+        number_is_small(stream);
+        number_is_small(max);
+        write!(out, "{stream}:{max}")
+    }
 }
 
 /// Writes a target.
-pub fn write_target(out: &mut String, target: &HalTarget) -> Result<(), NoMemory>
-    ensures text { OnOk result (string_bytes out.new ≡ string_bytes out.old ++ target_text target.now) }
-    ensures typed { OnOk result (is_target_typed target.now ≡ true) }
-{
-    let HalTarget {
-        stream,
-        buffer,
-        fence,
-    } = *target;
-    number_is_small(stream);
-    number_is_small(buffer);
-    write!(out, "{stream}:b{buffer}:")?;
-    write_number_or(out, "-", fence)
+impl Listed for HalTarget {
+    ghost text = { target_text };
+
+    ghost typed = { is_target_typed };
+
+    fn write(&self, out: &mut String) -> Result<(), NoMemory> {
+        let HalTarget {
+            stream,
+            buffer,
+            fence,
+        } = *self;
+        number_is_small(stream);
+        number_is_small(buffer);
+        write!(out, "{stream}:b{buffer}:")?;
+        write_number_or(out, "-", fence)
+    }
 }
 
 /// Writes a status between two colons.
@@ -179,17 +214,20 @@ fn write_acquire(out: &mut String, acquire: bool) -> Result<(), NoMemory>
 }
 
 /// Writes a buffer that comes back.
-#[tactic(auto, unfolding(crate::specs::Spelling::returned_text))]
-pub fn write_returned(out: &mut String, returned: &Returned) -> Result<(), NoMemory>
-    ensures text { OnOk result (string_bytes out.new ≡ string_bytes out.old ++ returned_text returned.now) }
-    ensures typed { OnOk result (is_returned_typed returned.now ≡ true) }
-{
-    write_number_or(out, "?", returned.stream)?;
-    out.push_str(":b")?;
-    write_number_or(out, "?", returned.buffer)?;
-    write_status(out, returned.status)?;
-    write_release(out, returned.release)?;
-    write_acquire(out, returned.acquire)
+impl Listed for Returned {
+    ghost text = { returned_text };
+
+    ghost typed = { is_returned_typed };
+
+    #[tactic(auto, unfolding(crate::specs::Spelling::returned_text))]
+    fn write(&self, out: &mut String) -> Result<(), NoMemory> {
+        write_number_or(out, "?", self.stream)?;
+        out.push_str(":b")?;
+        write_number_or(out, "?", self.buffer)?;
+        write_status(out, self.status)?;
+        write_release(out, self.release)?;
+        write_acquire(out, self.acquire)
+    }
 }
 
 /// Writes the letters of a name.

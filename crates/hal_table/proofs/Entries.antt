@@ -55,35 +55,29 @@ noted_none p f n (e ∷ es) keyed live none =
       | inr miss ↦ (let none' = rw miss at none in rw (key_reads e.1.frame e.0 n parts.0, miss, lives.0, noted_none p f n es parts.1 lives.1 none') refl)
     ]
 
--- it stays
-pub noted_stays : (p : Row → Bool) (f : Row → Row) (n : ℕ) (es : List (ℕ × Row)) (r : Row) → are_keyed es ≡ true → list_all p (values_of es) ≡ true → IsDistinct nat_eq (keys_of es) → lookup (nat_eq n) es ≡ Some r → p (f r) ≡ true → values_of (set_value (nat_eq n) es (f r)) ≡ filter p (map (at_row n f) (values_of es))
-noted_stays p f n [] r keyed live apart some stays = absurd (cc)
-noted_stays p f n (e ∷ es) r keyed live apart some stays =
+if-behind : (b : Bool) (r : Row) (xs ys : List Row) → (if b then r ∷ xs else r ∷ ys) ≡ r ∷ (if b then xs else ys)
+if-behind true r xs ys = refl
+if-behind false r xs ys = refl
+
+-- it is there: it stays, or goes
+noted_found : (p : Row → Bool) (f : Row → Row) (n : ℕ) (es : List (ℕ × Row)) (r : Row) → are_keyed es ≡ true → list_all p (values_of es) ≡ true → IsDistinct nat_eq (keys_of es) → lookup (nat_eq n) es ≡ Some r → (if p (f r) then values_of (set_value (nat_eq n) es (f r)) else values_of (remove_entry (nat_eq n) es)) ≡ filter p (map (at_row n f) (values_of es))
+noted_found p f n [] r keyed live apart some = absurd (cc)
+noted_found p f n (e ∷ es) r keyed live apart some =
     let parts = and_parts (e.1.frame == e.0) (are_keyed es) keyed in
     let lives = and_parts (p e.1) (list_all p (values_of es)) live in
     elim (cases_Bool (nat_eq n e.0)) [
       | inl hit ↦ (let some' = rw hit at some in
           let is : e.1 ≡ r = cc in
-          let stays' : p (f e.1) ≡ true = rw is stays in
-          rw (key_reads e.1.frame e.0 n parts.0, hit, stays', noted_none p f n es parts.1 lives.1 (none_behind n e es apart hit), is) refl)
+          rw (key_reads e.1.frame e.0 n parts.0, hit, noted_none p f n es parts.1 lives.1 (none_behind n e es apart hit), is) refl)
       | inr miss ↦ (let some' = rw miss at some in
-          rw (key_reads e.1.frame e.0 n parts.0, miss, lives.0, noted_stays p f n es r parts.1 lives.1 (apart_behind e es apart) some' stays) refl)
+          rw (key_reads e.1.frame e.0 n parts.0, miss, lives.0) (if-behind (p (f r)) e.1 _ _ ∙ ap (λ (z : List Row). e.1 ∷ z) (noted_found p f n es r parts.1 lives.1 (apart_behind e es apart) some')))
     ]
 
--- it goes
+pub noted_stays : (p : Row → Bool) (f : Row → Row) (n : ℕ) (es : List (ℕ × Row)) (r : Row) → are_keyed es ≡ true → list_all p (values_of es) ≡ true → IsDistinct nat_eq (keys_of es) → lookup (nat_eq n) es ≡ Some r → p (f r) ≡ true → values_of (set_value (nat_eq n) es (f r)) ≡ filter p (map (at_row n f) (values_of es))
+noted_stays p f n es r keyed live apart some stays = rw stays at (noted_found p f n es r keyed live apart some)
+
 pub noted_goes : (p : Row → Bool) (f : Row → Row) (n : ℕ) (es : List (ℕ × Row)) (r : Row) → are_keyed es ≡ true → list_all p (values_of es) ≡ true → IsDistinct nat_eq (keys_of es) → lookup (nat_eq n) es ≡ Some r → p (f r) ≡ false → values_of (remove_entry (nat_eq n) es) ≡ filter p (map (at_row n f) (values_of es))
-noted_goes p f n [] r keyed live apart some goes = absurd (cc)
-noted_goes p f n (e ∷ es) r keyed live apart some goes =
-    let parts = and_parts (e.1.frame == e.0) (are_keyed es) keyed in
-    let lives = and_parts (p e.1) (list_all p (values_of es)) live in
-    elim (cases_Bool (nat_eq n e.0)) [
-      | inl hit ↦ (let some' = rw hit at some in
-          let is : e.1 ≡ r = cc in
-          let goes' : p (f e.1) ≡ false = rw is goes in
-          rw (key_reads e.1.frame e.0 n parts.0, hit, goes', noted_none p f n es parts.1 lives.1 (none_behind n e es apart hit)) refl)
-      | inr miss ↦ (let some' = rw miss at some in
-          rw (key_reads e.1.frame e.0 n parts.0, miss, lives.0, noted_goes p f n es r parts.1 lives.1 (apart_behind e es apart) some' goes) refl)
-    ]
+noted_goes p f n es r keyed live apart some goes = rw goes at (noted_found p f n es r keyed live apart some)
 
 pub removed_set : (n : ℕ) (es : List (ℕ × Row)) (w : Row) → remove_entry (nat_eq n) (set_value (nat_eq n) es w) ≡ remove_entry (nat_eq n) es
 removed_set n [] w = refl

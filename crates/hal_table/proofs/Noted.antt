@@ -10,7 +10,7 @@ use Rattle.hal_rows.specs.declared.order.Order.{Order}
 use Rattle.hal_rows.specs.Row.{note_rows}
 use Rattle.hal_rows.specs.declared.device.Device.{Device}
 use Rattle.hal_rows.specs.Device.{device_of, note_device}
-use Rattle.hal_rows.specs.Noting.{first_state, noted, rows_after}
+use Rattle.hal_rows.specs.Noting.{first_state, hal_state_after, rows_after}
 use Rattle.hal_rows.specs.State.{HalState, brings, raised, settled}
 use Rattle.hal_row.specs.declared.order.Tops.{Tops}
 use Rattle.hal_row.specs.Settled.{IsTopped}
@@ -20,7 +20,7 @@ use std.Path.{fun_ext}
 same-top : (k : ℕ) (e : HalEvent) (d : Device) (each : List Row) (old new : Tops) → IsTopped (settled k d.flush.out e each) old new → (λ order. raised (brings order) (settled k d.flush.out e each) (top_in old order)) ≡ top_in new
 same-top k e d each old new topped = fun_ext (λ order. sym (topped order))
 
-pub state_heard : (k : ℕ) (e : HalEvent) (d d' : Device) (each each' : List Row) (old new : Tops) → d' ≡ note_device e d → each' ≡ rows_after k e (record { device = d; rows = each; top = top_in old }) → IsTopped (settled k d.flush.out e each) old new → record { device = d'; rows = each'; top = top_in new } ≡ noted k e (record { device = d; rows = each; top = top_in old })
+pub state_heard : (k : ℕ) (e : HalEvent) (d d' : Device) (each each' : List Row) (old new : Tops) → d' ≡ note_device e d → each' ≡ rows_after k e (record { device = d; rows = each; top = top_in old }) → IsTopped (settled k d.flush.out e each) old new → record { device = d'; rows = each'; top = top_in new } ≡ hal_state_after k e (record { device = d; rows = each; top = top_in old })
 state_heard k e d d' each each' old new device rows topped = rw (device, rows, ← same-top k e d each old new topped) refl
 
 pub begins-none : (e : HalEvent) → ((n : ℕ) (same : Bool) (ts : List HalTarget) (a b : Bool) → e ≡ RequestBegin n same ts a b → ⊥) → begins_request e ≡ false

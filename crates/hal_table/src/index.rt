@@ -416,7 +416,7 @@ fn note_rest(
 // ---- each event
 
 /// The request that the event names, or none.
-fn frame_in(event: &HalEvent) -> Option<u32>
+pub fn frame_in(event: &HalEvent) -> Option<u32>
     ensures { result ≡ frame_in event.now }
 {
     match event {

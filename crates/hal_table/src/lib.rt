@@ -8,5 +8,6 @@ mod index;
 mod rows;
 mod table;
 
+pub use index::frame_in;
 pub use rows::LiveRows;
 pub use table::HalTable;

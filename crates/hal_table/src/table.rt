@@ -5,7 +5,7 @@ ghost use Rattle.std.specs.Map.{values_of};
 ghost use Rattle.std.specs.Map.Iter.{ShowsInOrder, deref_pair};
 ghost use Rattle.hal_rows.specs.declared.row.Row.{Row as ARow};
 ghost use Rattle.hal_rows.specs.Judged.{ends_again_at, excused_at, held_count_at, is_held_at, is_requesting_at, is_row, is_row_called_from, names_idle_at, of_called, of_live};
-ghost use Rattle.hal_rows.specs.Noting.{first_state, is_stray_at, next_state, noted};
+ghost use Rattle.hal_rows.specs.Noting.{first_state, is_stray_at, next_state, hal_state_after};
 ghost use Rattle.hal_rows.specs.Row.{fresh_row, row_for, rows_but};
 ghost use Rattle.hal_row.specs.Settled.{IsTopped};
 ghost use Rattle.hal_table.specs.State.{state_of};
@@ -174,7 +174,7 @@ impl HalTable {
     /// Notes an event that is heard.
     fn note_heard(&mut self, parts: u32, event: &HalEvent, excused: bool) -> Result<(), NoMemory>
         requires { excused ≡ excused_at event.now (state_of self.old) }
-        ensures { OnOk result (state_of self.new ≡ noted parts event.now (state_of self.old)) }
+        ensures { OnOk result (state_of self.new ≡ hal_state_after parts event.now (state_of self.old)) }
     {
         match event {
             HalEvent::RequestBegin {

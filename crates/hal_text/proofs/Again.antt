@@ -5,7 +5,7 @@ use Rattle.std.proofs.lemmas.Bool.{and_parts, leb-true, le-ltb}
 use Rattle.std.proofs.lemmas.Bool.Decides.{nat_tests}
 use Rattle.std.proofs.lemmas.List.{append-nil}
 use Rattle.hal_model.specs.declared.event.HalEvent.{HalEvent}
-use Rattle.hal_model.specs.declared.event.HalEvent.TheVariants.{OpenBegin, OpenOk, OpenError, InitBegin, InitOk, InitError, TemplateBegin, TemplateOk, TemplateNull, ConfigureBegin, ConfigureOk, ConfigureError, RequestBegin, RequestOk, RequestError, Shutter, ErrorRequest, ErrorResult, ErrorBuffer, ErrorDevice, Results, FlushBegin, FlushOk, FlushError, CloseBegin, CloseEnd}
+use Rattle.hal_model.specs.declared.event.HalEvent.TheVariants.{OpenBegin}
 use Rattle.hal_spelling.specs.Fits.{fits, has_begin, have_begins, is_count, is_typed, is_valid, is_well_made}
 use Rattle.hal_spelling.specs.Spelling.{event_line, event_words, first_words, text_of}
 use Rattle.hal_text.specs.declared.log.HalLog.{HalLog}
@@ -34,60 +34,12 @@ line-read before next n (w ∷ ws) rest h s a =
 
 some-words : (e : HalEvent) → 0 < length (event_words e)
 some-words OpenBegin = omega arith
-some-words OpenOk = omega arith
-some-words (OpenError _) = omega arith
-some-words InitBegin = omega arith
-some-words InitOk = omega arith
-some-words (InitError _) = omega arith
-some-words (TemplateBegin _) = omega arith
-some-words (TemplateOk _) = omega arith
-some-words (TemplateNull _) = omega arith
-some-words (ConfigureBegin _ _) = omega arith
-some-words (ConfigureOk _) = omega arith
-some-words (ConfigureError _) = omega arith
-some-words (RequestBegin _ _ _ _ _) = omega arith
-some-words (RequestOk _) = omega arith
-some-words (RequestError _ _) = omega arith
-some-words (Shutter _ _) = omega arith
-some-words (ErrorRequest _) = omega arith
-some-words (ErrorResult _) = omega arith
-some-words (ErrorBuffer _ _) = omega arith
-some-words ErrorDevice = omega arith
-some-words (Results _ _ _ _ _) = omega arith
-some-words FlushBegin = omega arith
-some-words FlushOk = omega arith
-some-words (FlushError _) = omega arith
-some-words CloseBegin = omega arith
-some-words CloseEnd = omega arith
+some-words _ = omega arith
 
 after-words : (n : ℕ) (log : HalLog) (e : HalEvent) → after_line n (Some log) (event_words e) ≡ (event_by_words (event_words e) >>= added n log)
 unfolding after_words
 after-words n log OpenBegin = refl
-after-words n log OpenOk = refl
-after-words n log (OpenError _) = refl
-after-words n log InitBegin = refl
-after-words n log InitOk = refl
-after-words n log (InitError _) = refl
-after-words n log (TemplateBegin _) = refl
-after-words n log (TemplateOk _) = refl
-after-words n log (TemplateNull _) = refl
-after-words n log (ConfigureBegin _ _) = refl
-after-words n log (ConfigureOk _) = refl
-after-words n log (ConfigureError _) = refl
-after-words n log (RequestBegin _ _ _ _ _) = refl
-after-words n log (RequestOk _) = refl
-after-words n log (RequestError _ _) = refl
-after-words n log (Shutter _ _) = refl
-after-words n log (ErrorRequest _) = refl
-after-words n log (ErrorResult _) = refl
-after-words n log (ErrorBuffer _ _) = refl
-after-words n log ErrorDevice = refl
-after-words n log (Results _ _ _ _ _) = refl
-after-words n log FlushBegin = refl
-after-words n log FlushOk = refl
-after-words n log (FlushError _) = refl
-after-words n log CloseBegin = refl
-after-words n log CloseEnd = refl
+after-words n log _ = refl
 
 abbrev longer : ℕ → HalLog → HalEvent → HalLog
 longer n log e = record log { events = log.events ++ e ∷ []; lines = log.lines ++ n ∷ [] }

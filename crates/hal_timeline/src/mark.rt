@@ -9,6 +9,7 @@ use crate::calls::{Asked, ended_by};
 use crate::rows::{Rows, lane_of};
 use crate::walk::Walk;
 use hal_model::{HalEvent, Pack};
+use hal_table::frame_in;
 use timeline_model::{HalCall, Lane, Look, Piece, Seat};
 
 /// What a result looks like: without metadata it has its buffers alone.
@@ -71,23 +72,6 @@ fn failed(call: HalCall) -> Look
     ensures { result ≡ Look.CallError call }
 {
     Look::CallError { call }
-}
-
-/// The frame that an event speaks of.
-fn frame_in(event: &HalEvent) -> Option<u32>
-    ensures { result ≡ frame_in event.now }
-{
-    match event {
-        HalEvent::RequestBegin { frame, .. } => Some(*frame),
-        HalEvent::RequestOk { frame } => Some(*frame),
-        HalEvent::RequestError { frame, .. } => Some(*frame),
-        HalEvent::Shutter { frame, .. } => Some(*frame),
-        HalEvent::ErrorRequest { frame } => Some(*frame),
-        HalEvent::ErrorResult { frame } => Some(*frame),
-        HalEvent::ErrorBuffer { frame, .. } => Some(*frame),
-        HalEvent::Results { frame, .. } => Some(*frame),
-        _ => None,
-    }
 }
 
 /// Where the request began, where it is the one in call.

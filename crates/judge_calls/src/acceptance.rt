@@ -11,25 +11,8 @@ ghost use Rattle.judge_calls.specs.Made.{made_at, after};
 use cam_types::{
     Command, Format, Four, Made, Profile, Reply, SPARE_BUFFERS, Script, SpecList, StreamSpec,
 };
-use judge_entries::number::request_count;
+use judge_entries::number::{made_in, request_count};
 use trace_model::Entry;
-
-fn count_of(made: Option<Made>) -> u64
-    ensures value { result ≡ sum_by (λ (m : SomeMade). m.count) (option_to_list made) }
-    ensures few { result < 2 ^ 32 }
-{
-    match made {
-        Some(made) => made.count as u64,
-        None => 0,
-    }
-}
-
-fn count_of_each(each: &Four<Made>) -> u64
-    ensures value { result ≡ sum_by (λ (m : SomeMade). m.count) (four_list each.now) }
-    ensures few { result < 2 ^ 34 }
-{
-    count_of(each.a) + (count_of(each.b) + (count_of(each.c) + count_of(each.d)))
-}
 
 /// How many buffers the entry's configuration makes.
 fn made_by(entry: &Entry) -> u64
@@ -40,7 +23,7 @@ fn made_by(entry: &Entry) -> u64
         Entry::Call {
             reply: Reply::Configured(each),
             ..
-        } => count_of_each(each),
+        } => made_in(each),
         _ => 0,
     }
 }

@@ -1,6 +1,6 @@
 //! The mark of a send: whether the device keeps the settings of the frame before.
 ghost use Rattle.std.specs.Prelude.{◌≡◌, reverse};
-ghost use Rattle.trace_model.specs.Send.{are_last, are_same, last_settings, mark_of};
+ghost use Rattle.trace_model.specs.Send.{are_last, are_same, is_same_bool, last_settings, mark_of};
 ghost use Rattle.judge_calls.specs.Steps.{settings_after};
 
 use cam_types::{Reply, Script, Settings};
@@ -48,7 +48,8 @@ fn are_same(one: Settings, other: Settings) -> bool
         && (one.level == other.level && (one.exposure == other.exposure && one.iso == other.iso))
 }
 
-fn are_last(last: Option<Settings>, settings: Settings) -> bool
+/// Whether the settings are those that were sent last, if any were.
+pub fn are_last(last: Option<Settings>, settings: Settings) -> bool
     ensures { result ≡ are_last last settings }
 {
     match last {
@@ -62,4 +63,11 @@ pub fn mark_of(script: &Script, entries: &[Entry], settings: Settings) -> bool
     ensures { result ≡ mark_of script.now (reverse entries.now) settings }
 {
     are_last(last_settings(script, entries), settings)
+}
+
+/// Whether the send has the mark.
+pub fn is_same_mark(same: bool, mark: bool) -> bool
+    ensures { result ≡ is_same_bool same mark }
+{
+    same == mark
 }

@@ -6,7 +6,7 @@ ghost use Rattle.trace_model.specs.Send.{has_capacity, is_same_bool, mark_of, ma
 ghost use Rattle.judge_calls.specs.Asked.{asks, fit, left_from};
 
 use crate::ahead::may_repeat;
-use crate::mark::mark_of;
+use crate::mark::{is_same_mark, mark_of};
 use crate::stream::has_room;
 use crate::target::fit_item;
 use cam_types::{Four, FrameNo, Queued, RequestId, Script, Targets};
@@ -38,12 +38,6 @@ pub fn may_go(script: &Script, entries: &[Entry], next: Queued) -> bool
     !is_stopping(entries)
         && (has_capacity(script, entries, next.item.targets)
             && (!next.repeating || may_repeat(script, entries)))
-}
-
-fn is_same_mark(same: bool, mark: bool) -> bool
-    ensures { result ≡ is_same_bool same mark }
-{
-    same == mark
 }
 
 /// Whether the next item may be sent now, with the mark and the targets.

@@ -25,7 +25,7 @@ fn is_made(made: Made, buffer: BufferId) -> bool
 }
 
 /// Whether the buffer is one of those made, if any were.
-fn is_one_of(made: Option<Made>, buffer: BufferId) -> bool
+pub fn is_one_of(made: Option<Made>, buffer: BufferId) -> bool
     ensures { result ≡ list_any (λ b. b == buffer.0) (numbers_of made) }
 {
     match made {
@@ -35,7 +35,7 @@ fn is_one_of(made: Option<Made>, buffer: BufferId) -> bool
 }
 
 /// Whether the buffer is in the pool.
-fn is_home(entries: &[Entry], buffer: BufferId) -> bool
+pub fn is_home(entries: &[Entry], buffer: BufferId) -> bool
     ensures { result ≡ is_at (place buffer.0 (reverse entries.now)) Pool }
 {
     is_in_pool(entries, u64::from(buffer.0))
@@ -70,7 +70,7 @@ fn all_from_pool(entries: &[Entry], targets: Four<Sent>) -> bool
 }
 
 /// Whether the four places are filled from the first on.
-fn is_filled(targets: Four<Sent>) -> bool
+pub fn is_filled(targets: Four<Sent>) -> bool
     ensures { result ≡ is_filled targets }
 {
     (targets.a.is_some() || !targets.b.is_some())

@@ -4,7 +4,7 @@ use Rattle.std.specs.List.{list_all}
 use Rattle.std.proofs.lemmas.Bool.{and_from, and_parts, cases_Bool, false≢true}
 use Rattle.cam_types.specs.declared.script.Script.{Script}
 use Rattle.trace_model.specs.declared.entry.Entry.{Entry}
-use Rattle.trace_model.specs.declared.entry.Entry.TheVariants.{Begin, Call, Send, Dropped, Shutter, Partial, Filled, Failed, ErrorRequest, ErrorResult, ErrorBuffer, ErrorDevice, Release, Signal, Early, Late}
+use Rattle.trace_model.specs.declared.entry.Entry.TheVariants.{Filled, Failed, Early, Late}
 use Rattle.trace_model.specs.Allowed.{IsAllowed}
 use Rattle.rule_conditions.specs.declared.condition.Condition.{Condition}
 use Rattle.rule_conditions.specs.Conditions.{conditions_of, first_failed, holds}
@@ -17,22 +17,9 @@ all_but_last k (c ∷ []) = true
 all_but_last k (c ∷ (d ∷ cs)) = k c && all_but_last k (d ∷ cs)
 
 known_before : (e : Entry) → all_but_last (is_known e) (conditions_of e) ≡ true
-known_before (Begin word) = refl
-known_before (Call i word reply) = refl
-known_before (Send n r i same targets) = refl
-known_before (Dropped n r i) = refl
-known_before (Shutter n time) = refl
-known_before (Partial n k part) = refl
 known_before (Filled n s b f digest) = refl
-known_before (Failed n s b f) = refl
-known_before (ErrorRequest n) = refl
-known_before (ErrorResult n) = refl
-known_before (ErrorBuffer n s) = refl
-known_before ErrorDevice = refl
-known_before (Release b f) = refl
-known_before (Signal f) = refl
-known_before (Early n s b d) = refl
 known_before (Late d digest) = refl
+known_before e = refl
 
 found_at : (p : Condition → Bool) (cs : List Condition) (i : ℕ) (c : Condition) → slice_get cs i ≡ Some c → list_all p (take i cs) ≡ true → p c ≡ false → find (λ x. not (p x)) cs ≡ Some c
 found_at p [] i c at before fails = absurd (cc)

@@ -1,8 +1,9 @@
 -- Which entries of the past a condition speaks of: the ones that `explain` shows beside it. (our own choice)
-use Rattle.std.specs.Prelude.{ℕ, ◌==◌, Bool, true, false, ◌&&◌, ◌||◌, not, List, nat_lt}
+use Rattle.std.specs.Prelude.{ℕ, ◌==◌, Bool, true, false, ◌&&◌, ◌||◌, not, List, Option, Some, None, nat_lt}
 use Rattle.std.specs.List.{list_any}
 use Rattle.cam_types.specs.Four.{four_list}
 use Rattle.cam_types.specs.declared.four.Four.{Four}
+use Rattle.cam_types.specs.declared.number.FrameNo.{FrameNo}
 use Rattle.trace_model.specs.declared.entry.Entry.{Entry}
 use Rattle.trace_model.specs.declared.entry.Entry.TheVariants.{Begin, Call, Send, Dropped, Shutter, Partial, Filled, Failed, ErrorRequest, ErrorResult, ErrorBuffer, Release, Signal, Early, Late}
 use Rattle.trace_model.specs.declared.entry.Sent.{Sent}
@@ -76,32 +77,27 @@ mention_of _ = about.Frame
 
 -- ---- what the entry that breaks a condition names: a frame, buffers, an item, a fence
 
-abbrev pub is_of_frame : ℕ → Entry → Bool
-is_of_frame n (Send m _ _ _ _) = m.0 == n
-is_of_frame n (Dropped m _ _) = m.0 == n
-is_of_frame n (Shutter m _) = m.0 == n
-is_of_frame n (Partial m _ _) = m.0 == n
-is_of_frame n (Filled m _ _ _ _) = m.0 == n
-is_of_frame n (Failed m _ _ _) = m.0 == n
-is_of_frame n (Early m _ _ _) = m.0 == n
-is_of_frame n (ErrorRequest m) = m.0 == n
-is_of_frame n (ErrorResult m) = m.0 == n
-is_of_frame n (ErrorBuffer m _) = m.0 == n
-is_of_frame n _ = false
+-- the frame of an entry that has one
+abbrev pub frame_of : Entry → Option FrameNo
+frame_of (Send n _ _ _ _) = Some n
+frame_of (Dropped n _ _) = Some n
+frame_of (Shutter n _) = Some n
+frame_of (Partial n _ _) = Some n
+frame_of (Filled n _ _ _ _) = Some n
+frame_of (Failed n _ _ _) = Some n
+frame_of (Early n _ _ _) = Some n
+frame_of (ErrorRequest n) = Some n
+frame_of (ErrorResult n) = Some n
+frame_of (ErrorBuffer n _) = Some n
+frame_of _ = None
+
+abbrev pub is_same_frame : Option FrameNo → Option FrameNo → Bool
+is_same_frame (Some n) (Some m) = m.0 == n.0
+is_same_frame _ _ = false
 
 -- the entries are of one frame
 abbrev pub shares_frame : Entry → Entry → Bool
-shares_frame (Send n _ _ _ _) e = is_of_frame n.0 e
-shares_frame (Dropped n _ _) e = is_of_frame n.0 e
-shares_frame (Shutter n _) e = is_of_frame n.0 e
-shares_frame (Partial n _ _) e = is_of_frame n.0 e
-shares_frame (Filled n _ _ _ _) e = is_of_frame n.0 e
-shares_frame (Failed n _ _ _) e = is_of_frame n.0 e
-shares_frame (Early n _ _ _) e = is_of_frame n.0 e
-shares_frame (ErrorRequest n) e = is_of_frame n.0 e
-shares_frame (ErrorResult n) e = is_of_frame n.0 e
-shares_frame (ErrorBuffer n _) e = is_of_frame n.0 e
-shares_frame _ e = false
+shares_frame faulty e = is_same_frame (frame_of faulty) (frame_of e)
 
 -- the second entry names a buffer of the first
 abbrev pub shares_buffer : Entry → Entry → Bool

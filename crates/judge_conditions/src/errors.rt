@@ -1,11 +1,7 @@
 //! The conditions of the errors.
 ghost use Rattle.std.specs.Prelude.{◌≡◌, reverse};
-ghost use Rattle.std.specs.List.{list_any};
-ghost use Rattle.judge_filters.specs.Past.{on_send};
 ghost use Rattle.rule_conditions.specs.Errors.{buffer_error_holds, device_error_holds, may_fail_partly};
 ghost use Rattle.rule_conditions.specs.Errors.{request_error_holds, result_error_holds};
-ghost use Rattle.trace_model.specs.Errors.{may_fail_device_at};
-ghost use Rattle.trace_model.specs.Frames.{frames};
 
 use cam_types::{FrameNo, Script, StreamIx};
 use judge_entries::fault::{buffer_fault, request_fault, result_fault};
@@ -15,7 +11,7 @@ use judge_filters::open::{
 };
 use judge_filters::order::earlier_metadata_ended;
 use judge_filters::stopping::{is_stopped, is_stopping};
-use judge_rules::error::may_fail_device_at;
+use judge_rules::error::fails_at_a_frame;
 use rule_conditions::Condition;
 use trace_model::Entry;
 
@@ -94,33 +90,6 @@ pub fn buffer_error_holds(
         Condition::PartErrorOfStoppedRequest => may_fail_partly(script, entries, frame),
         _ => true,
     }
-}
-
-/// Whether the entry sends a frame where the device fails.
-fn sends_failing(script: &Script, entries: &[Entry], entry: &Entry) -> bool
-    ensures { result ≡ on_send (may_fail_device_at script.now (reverse entries.now)) entry.now }
-{
-    match entry {
-        Entry::Send { frame, .. } => may_fail_device_at(script, entries, *frame),
-        _ => false,
-    }
-}
-
-fn fails_at_a_send(script: &Script, entries: &[Entry]) -> bool
-    ensures { result ≡ list_any (on_send (may_fail_device_at script.now (reverse entries.now))) (reverse entries.now) }
-{
-    entries
-        .iter()
-        .rev()
-        .any(|entry| sends_failing(script, entries, entry))
-}
-
-/// Whether the device fails at a frame that was sent.
-#[tactic(auto, using(judge_rules::proofs::RuleLemmas::frames_any))]
-fn fails_at_a_frame(script: &Script, entries: &[Entry]) -> bool
-    ensures { result ≡ list_any (may_fail_device_at script.now (reverse entries.now)) (frames (reverse entries.now)) }
-{
-    fails_at_a_send(script, entries)
 }
 
 /// Whether the device's error meets the condition.

@@ -89,11 +89,7 @@ fn return_holds(condition: Condition, script: &Script, entries: &[Entry], entry:
             fence,
             ..
         } => {
-            let back = Return {
-                frame,
-                stream,
-                buffer,
-            };
+            let back = Return::new(frame, stream, buffer);
             filled_holds(condition, script, entries, back, fence)
         }
         Entry::Failed {
@@ -102,11 +98,7 @@ fn return_holds(condition: Condition, script: &Script, entries: &[Entry], entry:
             buffer,
             fence,
         } => {
-            let back = Return {
-                frame,
-                stream,
-                buffer,
-            };
+            let back = Return::new(frame, stream, buffer);
             failed_holds(condition, entries, back, fence)
         }
         Entry::Early {
@@ -115,11 +107,7 @@ fn return_holds(condition: Condition, script: &Script, entries: &[Entry], entry:
             buffer,
             fence,
         } => {
-            let back = Return {
-                frame,
-                stream,
-                buffer,
-            };
+            let back = Return::new(frame, stream, buffer);
             early_holds(condition, script, entries, back, fence)
         }
         Entry::Late { fence, .. } => late_holds(condition, entries, fence),

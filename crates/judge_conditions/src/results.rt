@@ -1,19 +1,19 @@
-//! The conditions of a shutter and of a metadata result.
+//! The conditions of a shutter and of a partial result.
 ghost use Rattle.std.specs.Prelude.{◌≡◌, ◌==◌, ◌+◌, reverse};
-ghost use Rattle.cam_types.specs.Metadata.{part_at};
-ghost use Rattle.rule_conditions.specs.Results.{is_part_of, is_same_part, partial_holds, shutter_holds};
+ghost use Rattle.rule_conditions.specs.Results.{is_part_of, is_same_partial_result, partial_holds, shutter_holds};
 ghost use Rattle.trace_model.specs.Frames.{shutter_time};
-ghost use Rattle.trace_model.specs.Partial.{part_count};
+ghost use Rattle.trace_model.specs.Partial.{partial_count};
 
-use cam_types::{FrameNo, Part, Script, Settings};
+use cam_types::{FrameNo, PartialResult, Script};
 use judge_entries::fault::{device_fault, request_fault, result_fault};
-use judge_entries::number::part_count;
+use judge_entries::number::partial_count;
 use judge_filters::frame::{
     has_error, has_error_request, has_shutter, is_sent, settings_of, shutter_time,
 };
 use judge_filters::open::has_error_result;
 use judge_filters::order::{earlier_exposed, earlier_metadata_ended};
 use judge_filters::stopping::is_stopping;
+use judge_rules::metadata::part_at;
 use judge_rules::sensor::next_time;
 use rule_conditions::Condition;
 use trace_model::Entry;
@@ -40,39 +40,28 @@ pub fn shutter_holds(
     }
 }
 
-/// The metadata of a frame with these settings and this shutter time, for a number from 1 to 3.
-fn part_at(number: u8, settings: Settings, time: u64) -> Part
-    ensures { result ≡ part_at number settings time }
-{
-    match number {
-        1 => Part::Look {
-            pattern: settings.pattern,
-            level: settings.level,
-        },
-        2 => Part::Light {
-            exposure: settings.exposure,
-            iso: settings.iso,
-        },
-        _ => Part::Time { timestamp: time },
-    }
-}
-
 /// Whether the two are the same.
-fn is_same_part(one: Part, other: Part) -> bool
-    ensures { result ≡ is_same_part one other }
+fn is_same_partial_result(one: PartialResult, other: PartialResult) -> bool
+    ensures { result ≡ is_same_partial_result one other }
 {
-    cam_types::is_same_part(one, other)
+    cam_types::is_same_partial_result(one, other)
 }
 
 /// Whether the part is the frame's of that number, where the frame has its shutter.
-fn is_part_of(script: &Script, entries: &[Entry], frame: FrameNo, number: u8, part: Part) -> bool
+fn is_part_of(
+    script: &Script,
+    entries: &[Entry],
+    frame: FrameNo,
+    number: u8,
+    part: PartialResult,
+) -> bool
     ensures { let past = reverse entries.now in
         result ≡ is_part_of script.now past frame.0 number part (shutter_time frame.0 past) }
 {
     match shutter_time(entries, frame) {
         Some(time) => {
             let due = part_at(number, settings_of(script, entries, frame), time);
-            is_same_part(part, due)
+            is_same_partial_result(part, due)
         }
         None => true,
     }
@@ -80,19 +69,19 @@ fn is_part_of(script: &Script, entries: &[Entry], frame: FrameNo, number: u8, pa
 
 /// Whether the number is that of the frame's next part.
 fn is_next_part(entries: &[Entry], frame: FrameNo, number: u8) -> bool
-    ensures { result ≡ (number == part_count frame.0 (reverse entries.now) + 1) }
+    ensures { result ≡ (number == partial_count frame.0 (reverse entries.now) + 1) }
 {
-    number as u128 == part_count(entries, frame) as u128 + 1
+    number as u128 == partial_count(entries, frame) as u128 + 1
 }
 
-/// Whether the metadata result of the frame meets the condition.
+/// Whether the partial result of the frame meets the condition.
 pub fn partial_holds(
     condition: Condition,
     script: &Script,
     entries: &[Entry],
     frame: FrameNo,
     number: u8,
-    part: Part,
+    part: PartialResult,
 ) -> bool
     ensures { result ≡ partial_holds condition script.now (reverse entries.now) frame.0 number part }
 {

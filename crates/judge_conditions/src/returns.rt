@@ -7,7 +7,7 @@ ghost use Rattle.rule_conditions.specs.Returns.{is_out_for, late_holds};
 ghost use Rattle.cam_types.specs.declared.script.Script.{Script as SomeScript};
 ghost use Rattle.trace_model.specs.Entry.{is_early_with};
 
-use cam_types::{BufferId, FenceNo, FrameNo, Script, StreamIx};
+use cam_types::{BufferId, DeviceFenceNo, FenceNo, FrameNo, Script, StreamIx};
 use judge_entries::fault::{buffer_fault, request_fault};
 use judge_entries::number::next_early;
 use judge_filters::fence::{is_late, is_passed, is_same_fence};
@@ -25,6 +25,21 @@ pub struct Return {
     pub frame: FrameNo,
     pub stream: StreamIx,
     pub buffer: BufferId,
+}
+
+impl Return {
+    /// Of these.
+    pub fn new(frame: FrameNo, stream: StreamIx, buffer: BufferId) -> Return
+        ensures frame { result.frame ≡ frame }
+        ensures stream { result.stream ≡ stream }
+        ensures buffer { result.buffer ≡ buffer }
+    {
+        Return {
+            frame,
+            stream,
+            buffer,
+        }
+    }
 }
 
 /// Whether the buffer is the one that the frame was sent with for the stream, and at the device by that send.
@@ -100,7 +115,7 @@ pub fn early_holds(
     script: &Script,
     entries: &[Entry],
     back: Return,
-    fence: FenceNo,
+    fence: DeviceFenceNo,
 ) -> bool
     ensures { result ≡
         early_holds condition script.now (reverse entries.now) back.frame.0 back.stream.0 back.buffer.0 fence.0 }
@@ -113,7 +128,7 @@ pub fn early_holds(
 }
 
 /// Whether a buffer came back early with the device fence.
-fn has_come_early(entries: &[Entry], fence: FenceNo) -> bool
+fn has_come_early(entries: &[Entry], fence: DeviceFenceNo) -> bool
     ensures { result ≡ list_any (is_early_with fence.0) (reverse entries.now) }
 {
     entries
@@ -123,7 +138,7 @@ fn has_come_early(entries: &[Entry], fence: FenceNo) -> bool
 }
 
 /// Whether the picture that comes late meets the condition, if it isn't that of the digest; of that it says false.
-pub fn late_holds(condition: Condition, entries: &[Entry], fence: FenceNo) -> bool
+pub fn late_holds(condition: Condition, entries: &[Entry], fence: DeviceFenceNo) -> bool
     ensures plain { (script : SomeScript) (digest : List ℕ) → is_plain_late condition ≡ true →
         result ≡ late_holds condition script (reverse entries.now) fence.0 digest }
     ensures picture { is_plain_late condition ≡ false → result ≡ false }

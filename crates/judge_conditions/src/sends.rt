@@ -1,16 +1,16 @@
 //! The conditions of a send and of a drop.
 ghost use Rattle.std.specs.Prelude.{◌≡◌, reverse};
-ghost use Rattle.trace_model.specs.Printable.{is_filled};
 ghost use Rattle.trace_model.specs.Queue.{next as next_of};
-ghost use Rattle.trace_model.specs.Send.{holds_back, is_same_bool};
+ghost use Rattle.trace_model.specs.Send.{holds_back};
 ghost use Rattle.judge_conditions.specs.Parts.{next_holds};
 ghost use Rattle.rule_conditions.specs.Sends.{are_of_item, drop_holds, is_first_item, is_next_item, of_next, send_holds};
 
 use crate::targets::targets_hold;
 use cam_types::{Four, FrameNo, Queued, REPEATING_AHEAD, RequestId, Script, WaitingItem, Word};
 use judge_calls::ahead::{awaited, repeated_since_call};
-use judge_calls::mark::mark_of;
+use judge_calls::mark::{is_same_mark, mark_of};
 use judge_calls::stream::are_streams;
+use judge_calls::target::is_filled;
 use judge_entries::number::next_number;
 use judge_filters::call::begun;
 use judge_filters::next::next_item;
@@ -39,15 +39,6 @@ fn is_next_item(next: Option<Queued>, request: RequestId, item: u32) -> bool
     }
 }
 
-/// Whether the four places are filled from the first on.
-fn is_filled(targets: Four<Sent>) -> bool
-    ensures { result ≡ is_filled targets }
-{
-    (targets.a.is_some() || !targets.b.is_some())
-        && ((targets.b.is_some() || !targets.c.is_some())
-            && (targets.c.is_some() || !targets.d.is_some()))
-}
-
 fn are_of_item(targets: Four<Sent>, next: Queued) -> bool
     ensures { result ≡ are_of_item targets next }
 {
@@ -58,12 +49,6 @@ fn is_held_back(begun: Option<Word>) -> bool
     ensures { result ≡ holds_back begun }
 {
     matches!(begun, Some(Word::Configure) | Some(Word::Close))
-}
-
-fn is_same_mark(same: bool, mark: bool) -> bool
-    ensures { result ≡ is_same_bool same mark }
-{
-    same == mark
 }
 
 /// Whether the next item meets the condition of a send.

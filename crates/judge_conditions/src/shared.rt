@@ -1,6 +1,6 @@
 //! What two entries have in common.
 ghost use Rattle.std.specs.Prelude.{◌≡◌, option_to_list};
-ghost use Rattle.judge_conditions.specs.Mentions.{is_of_frame, shares_buffer, shares_fence, shares_frame, shares_item};
+ghost use Rattle.judge_conditions.specs.Mentions.{frame_of, shares_buffer, shares_fence, shares_frame, shares_item};
 ghost use Rattle.std.specs.List.{list_any};
 ghost use Rattle.cam_types.specs.Four.{four_list};
 ghost use Rattle.trace_model.specs.Entry.{names, releases_fence};
@@ -10,30 +10,11 @@ use judge_entries::entry::{is_early_with, is_late_with, signals, submits, takes}
 use judge_entries::target::names;
 use trace_model::{Entry, Sent};
 
-/// Whether the entry is of the frame.
-fn is_of_frame(entry: &Entry, frame: FrameNo) -> bool
-    ensures { result ≡ is_of_frame frame.0 entry.now }
+/// The frame of an entry that has one.
+fn frame_of(entry: &Entry) -> Option<FrameNo>
+    ensures { result ≡ frame_of entry.now }
 {
-    match entry {
-        Entry::Send { frame: of, .. }
-        | Entry::Dropped { frame: of, .. }
-        | Entry::Shutter { frame: of, .. }
-        | Entry::Partial { frame: of, .. }
-        | Entry::Filled { frame: of, .. }
-        | Entry::Failed { frame: of, .. }
-        | Entry::Early { frame: of, .. }
-        | Entry::ErrorRequest { frame: of }
-        | Entry::ErrorResult { frame: of }
-        | Entry::ErrorBuffer { frame: of, .. } => of.0 == frame.0,
-        _ => false,
-    }
-}
-
-/// Whether the entries are of one frame.
-pub fn shares_frame(faulty: &Entry, entry: &Entry) -> bool
-    ensures { result ≡ shares_frame faulty.now entry.now }
-{
-    match faulty {
+    match *entry {
         Entry::Send { frame, .. }
         | Entry::Dropped { frame, .. }
         | Entry::Shutter { frame, .. }
@@ -43,7 +24,17 @@ pub fn shares_frame(faulty: &Entry, entry: &Entry) -> bool
         | Entry::Early { frame, .. }
         | Entry::ErrorRequest { frame }
         | Entry::ErrorResult { frame }
-        | Entry::ErrorBuffer { frame, .. } => is_of_frame(entry, *frame),
+        | Entry::ErrorBuffer { frame, .. } => Some(frame),
+        _ => None,
+    }
+}
+
+/// Whether the entries are of one frame.
+pub fn shares_frame(faulty: &Entry, entry: &Entry) -> bool
+    ensures { result ≡ shares_frame faulty.now entry.now }
+{
+    match (frame_of(faulty), frame_of(entry)) {
+        (Some(frame), Some(of)) => of.0 == frame.0,
         _ => false,
     }
 }

@@ -1,44 +1,16 @@
 //! What is asked of the targets of a send.
-ghost use Rattle.std.specs.Prelude.{◌≡◌, ◌==◌, reverse, option_to_list};
-ghost use Rattle.std.specs.List.{list_all, list_any};
+ghost use Rattle.std.specs.Prelude.{◌≡◌, reverse, option_to_list};
+ghost use Rattle.std.specs.List.{list_all};
 ghost use Rattle.cam_types.specs.Four.{four_list};
-ghost use Rattle.trace_model.specs.Configuration.{is_made, numbers_of};
-ghost use Rattle.trace_model.specs.Place.{Pool, is_at, place};
 ghost use Rattle.judge_conditions.specs.Parts.{target_holds};
 ghost use Rattle.rule_conditions.specs.Sends.{has_its_fence, is_from_pool};
 
-use cam_types::{BufferId, Four, Made, Script};
+use cam_types::{Four, Script};
 use judge_calls::room::{is_room_left, made_for};
+use judge_calls::target::{is_home, is_one_of};
 use judge_filters::fence::{fence_of, is_same_fence};
-use judge_filters::place::is_in_pool;
 use rule_conditions::Condition;
 use trace_model::{Entry, Sent};
-
-/// Whether the buffer is one of those made.
-fn is_made(made: Made, buffer: BufferId) -> bool
-    ensures { result ≡ is_made buffer.0 made }
-{
-    let first = u64::from(made.first.0);
-    let number = u64::from(buffer.0);
-    first <= number && number < first + u64::from(made.count)
-}
-
-/// Whether the buffer is one of those made, if any were.
-fn is_one_of(made: Option<Made>, buffer: BufferId) -> bool
-    ensures { result ≡ list_any (λ b. b == buffer.0) (numbers_of made) }
-{
-    match made {
-        Some(made) => is_made(made, buffer),
-        None => false,
-    }
-}
-
-/// Whether the buffer is in the pool.
-fn is_home(entries: &[Entry], buffer: BufferId) -> bool
-    ensures { result ≡ is_at (place buffer.0 (reverse entries.now)) Pool }
-{
-    is_in_pool(entries, u64::from(buffer.0))
-}
 
 /// Whether the target's buffer is one of its stream's, and in the pool.
 fn is_from_pool(entries: &[Entry], target: Sent) -> bool

@@ -3,10 +3,10 @@ ghost use Rattle.std.specs.Prelude.{◌≡◌, ◌==◌, ◌||◌, nat_lt, not, 
 ghost use Rattle.std.specs.List.{list_all};
 ghost use Rattle.state_facts.specs.FrameReadings.{each_below, lets_pass_row};
 ghost use Rattle.state_facts.specs.Row.{is_ended};
-ghost use Rattle.judge_rows.specs.Views.{row_of, rows_of, slot_of};
+ghost use Rattle.judge_rows.specs.Views.{row_of, rows_of, as_target};
 
 use cam_types::{FrameNo, StreamIx};
-use judge_rows::{OpenRow, OpenSlot, is_ended};
+use judge_rows::{OpenRow, OpenTarget, is_ended};
 
 fn ended_before(row: &OpenRow, frame: FrameNo) -> bool
     ensures { result ≡ (not (nat_lt row.now.frame.0 frame.0) || is_ended (row_of row.now)) }
@@ -27,27 +27,27 @@ pub(crate) fn earlier_ended(rows: &[OpenRow], frame: FrameNo) -> bool
     all_ended(rows, frame)
 }
 
-fn slot_passes(slot: Option<OpenSlot>, stream: StreamIx) -> bool
+fn target_passes(target: Option<OpenTarget>, stream: StreamIx) -> bool
     ensures { result ≡
         list_all (λ t. not (t.sent.stream.0 == stream.0) || (t.returned || t.announced))
-        (option_to_list (option_map slot_of slot)) }
+        (option_to_list (option_map as_target target)) }
 {
-    match slot {
-        Some(slot) => slot.target.stream.0 != stream.0 || (slot.returned || slot.failed),
+    match target {
+        Some(target) => target.sent.stream.0 != stream.0 || (target.returned || target.announced),
         None => true,
     }
 }
 
 /// Whether the frame doesn't hold later buffers of the stream back.
-#[tactic(auto, using(judge_rows::proofs::SlotLemmas::all_four))]
+#[tactic(auto, using(judge_rows::proofs::TargetLemmas::all_four))]
 fn lets_pass(row: &OpenRow, stream: StreamIx) -> bool
     ensures { result ≡ lets_pass_row stream.0 (row_of row.now) }
 {
-    let slots = &row.slots;
-    row.request_failed
-        || (slot_passes(slots.a, stream)
-            && (slot_passes(slots.b, stream)
-                && (slot_passes(slots.c, stream) && slot_passes(slots.d, stream))))
+    let targets = &row.targets;
+    row.request_error
+        || (target_passes(targets.a, stream)
+            && (target_passes(targets.b, stream)
+                && (target_passes(targets.c, stream) && target_passes(targets.d, stream))))
 }
 
 fn passes_before(row: &OpenRow, frame: FrameNo, stream: StreamIx) -> bool

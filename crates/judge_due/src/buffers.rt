@@ -3,13 +3,13 @@ ghost use Rattle.std.specs.Prelude.{◌≡◌, None, length, option_map, if◌th
 ghost use Rattle.state_facts.specs.FrameReadings.{early_from, failed_from, may_deliver_row};
 ghost use Rattle.state_facts.specs.Homes.{passed_in};
 ghost use Rattle.state_facts.specs.States.{early_in, failed_in};
-ghost use Rattle.judge_rows.specs.Views.{row_of, slot_of};
+ghost use Rattle.judge_rows.specs.Views.{row_of, as_target};
 
 use crate::before::earlier_pass;
-use crate::slots::slot_for;
-use cam_types::{FenceNo, FrameNo, Script, StreamIx};
+use crate::targets::target_for;
+use cam_types::{DeviceFenceNo, FenceNo, FrameNo, Script, StreamIx};
 use judge_entries::fault::{buffer_fault, request_fault};
-use judge_rows::{JudgeTables, OpenRow, OpenSlot, find_row};
+use judge_rows::{JudgeTables, OpenRow, OpenTarget, find_row};
 use trace_model::Entry;
 
 /// Whether there is no fence to wait for, or it is signalled.
@@ -28,16 +28,16 @@ pub fn may_deliver(
     tables: &JudgeTables,
     stream: StreamIx,
     row: &OpenRow,
-    slot: OpenSlot,
+    target: OpenTarget,
 ) -> bool
     ensures { let s = tables.now.state in
-        result ≡ may_deliver_row script.now s.rows (passed_in s.buffers) stream.0 (row_of row.now) (slot_of slot) }
+        result ≡ may_deliver_row script.now s.rows (passed_in s.buffers) stream.0 (row_of row.now) (as_target target) }
 {
-    (!slot.returned
-        && (row.time.is_some()
+    (!target.returned
+        && (row.shutter.is_some()
             && ((!request_fault(script, row.frame) && !buffer_fault(script, row.frame, stream))
-                && (!row.request_failed && !slot.failed))))
-        && (is_passed(tables, slot.target.fence)
+                && (!row.request_error && !target.announced))))
+        && (is_passed(tables, target.sent.fence)
             && earlier_pass(tables.rows().rows(), row.frame, stream))
 }
 
@@ -52,23 +52,23 @@ fn left(tables: &JudgeTables, fence: Option<FenceNo>) -> Option<FenceNo>
     }
 }
 
-fn slot_failed_due(
+fn target_failed_due(
     tables: &JudgeTables,
     stream: StreamIx,
     row: &OpenRow,
-    slot: Option<OpenSlot>,
+    target: Option<OpenTarget>,
 ) -> Option<Entry>
     ensures { result ≡
-        failed_from (passed_in tables.now.state.buffers) stream.0 (row_of row.now) (option_map slot_of slot) }
+        failed_from (passed_in tables.now.state.buffers) stream.0 (row_of row.now) (option_map as_target target) }
 {
-    match slot {
-        Some(slot) => {
-            if !slot.returned && (row.request_failed || slot.failed) {
+    match target {
+        Some(target) => {
+            if !target.returned && (row.request_error || target.announced) {
                 Some(Entry::Failed {
                     frame: row.frame,
                     stream,
-                    buffer: slot.target.buffer,
-                    fence: left(tables, slot.target.fence),
+                    buffer: target.sent.buffer,
+                    fence: left(tables, target.sent.fence),
                 })
             } else {
                 None
@@ -83,31 +83,31 @@ pub fn failed_due(tables: &JudgeTables, frame: FrameNo, stream: StreamIx) -> Opt
     ensures { result ≡ failed_in tables.now.state frame.0 stream.0 }
 {
     match find_row(tables.rows().rows(), frame) {
-        Some(row) => slot_failed_due(tables, stream, &row, slot_for(&row.slots, stream)),
+        Some(row) => target_failed_due(tables, stream, &row, target_for(&row.targets, stream)),
         None => None,
     }
 }
 
-fn slot_early_due(
+fn target_early_due(
     script: &Script,
     tables: &JudgeTables,
     stream: StreamIx,
     row: &OpenRow,
-    slot: Option<OpenSlot>,
+    target: Option<OpenTarget>,
 ) -> Option<Entry>
     ensures { let s = tables.now.state in
         result ≡
         early_from script.now s.rows (passed_in s.buffers) (length s.buffers.late) stream.0 (row_of row.now)
-        (option_map slot_of slot) }
+        (option_map as_target target) }
 {
-    match slot {
-        Some(slot) => {
-            if script.early && may_deliver(script, tables, stream, row, slot) {
+    match target {
+        Some(target) => {
+            if script.early && may_deliver(script, tables, stream, row, target) {
                 Some(Entry::Early {
                     frame: row.frame,
                     stream,
-                    buffer: slot.target.buffer,
-                    fence: FenceNo(tables.homes().early_count()),
+                    buffer: target.sent.buffer,
+                    fence: DeviceFenceNo(tables.homes().early_count()),
                 })
             } else {
                 None
@@ -127,7 +127,13 @@ pub fn early_due(
     ensures { result ≡ early_in script.now tables.now.state frame.0 stream.0 }
 {
     match find_row(tables.rows().rows(), frame) {
-        Some(row) => slot_early_due(script, tables, stream, &row, slot_for(&row.slots, stream)),
+        Some(row) => target_early_due(
+            script,
+            tables,
+            stream,
+            &row,
+            target_for(&row.targets, stream),
+        ),
         None => None,
     }
 }

@@ -2,27 +2,27 @@
 ghost use Rattle.std.specs.Prelude.{◌≡◌, option_map};
 ghost use Rattle.state_facts.specs.FrameReadings.{began, buffer_from, request_row, result_row};
 ghost use Rattle.state_facts.specs.States.{error_buffer_in, error_request_in, error_result_in};
-ghost use Rattle.judge_rows.specs.Views.{row_of, slot_of};
+ghost use Rattle.judge_rows.specs.Views.{row_of, as_target};
 
 use crate::before::earlier_ended;
-use crate::slots::slot_for;
+use crate::targets::target_for;
 use cam_types::{FrameNo, Script, StreamIx};
 use judge_entries::fault::{buffer_fault, request_fault, result_fault};
-use judge_rows::{JudgeTables, OpenRow, OpenSlot, find_row, has_something, is_ended};
+use judge_rows::{JudgeTables, OpenRow, OpenTarget, find_row, has_something, is_ended};
 use trace_model::Entry;
 
 /// Whether the frame's errors are of its parts.
 fn began(script: &Script, row: &OpenRow) -> bool
     ensures { result ≡ began script.now (row_of row.now) }
 {
-    row.time.is_some() && (!request_fault(script, row.frame) || row.stopped)
+    row.shutter.is_some() && (!request_fault(script, row.frame) || row.stopped)
 }
 
 fn row_request_due(script: &Script, row: &OpenRow) -> Option<Entry>
     ensures { result ≡ request_row script.now (row_of row.now) }
 {
     if !has_something(row)
-        && ((request_fault(script, row.frame) && row.time.is_some()) || row.stopped)
+        && ((request_fault(script, row.frame) && row.shutter.is_some()) || row.stopped)
     {
         Some(Entry::ErrorRequest { frame: row.frame })
     } else {
@@ -63,18 +63,18 @@ pub fn error_result_due(script: &Script, tables: &JudgeTables, frame: FrameNo) -
     }
 }
 
-fn slot_error_due(
+fn target_error_due(
     script: &Script,
     stream: StreamIx,
     row: &OpenRow,
-    slot: Option<OpenSlot>,
+    target: Option<OpenTarget>,
 ) -> Option<Entry>
-    ensures { result ≡ buffer_from script.now stream.0 (row_of row.now) (option_map slot_of slot) }
+    ensures { result ≡ buffer_from script.now stream.0 (row_of row.now) (option_map as_target target) }
 {
-    match slot {
-        Some(slot) => {
-            if (began(script, row) && !row.request_failed)
-                && ((!slot.failed && !slot.returned)
+    match target {
+        Some(target) => {
+            if (began(script, row) && !row.request_error)
+                && ((!target.announced && !target.returned)
                     && (buffer_fault(script, row.frame, stream)
                         || (row.stopped && has_something(row))))
             {
@@ -100,7 +100,7 @@ pub fn error_buffer_due(
     ensures { result ≡ error_buffer_in script.now tables.now.state frame.0 stream.0 }
 {
     match find_row(tables.rows().rows(), frame) {
-        Some(row) => slot_error_due(script, stream, &row, slot_for(&row.slots, stream)),
+        Some(row) => target_error_due(script, stream, &row, target_for(&row.targets, stream)),
         None => None,
     }
 }

@@ -14,7 +14,7 @@ use trace_model::Entry;
 fn is_unexposed(row: &OpenRow) -> bool
     ensures { result ≡ is_unexposed (row_of row.now) }
 {
-    row.time.is_none() && !row.request_failed
+    row.shutter.is_none() && !row.request_error
 }
 
 fn first_unexposed(rows: &[OpenRow]) -> Option<&OpenRow>

@@ -6,15 +6,15 @@ ghost use Rattle.trace_model.specs.Picture.{digest_on};
 ghost use Rattle.state_facts.specs.FrameReadings.{filled_from, filled_row, late_from};
 ghost use Rattle.state_facts.specs.Homes.{passed_in};
 ghost use Rattle.state_facts.specs.States.{filled_in, late_in};
-ghost use Rattle.judge_rows.specs.Views.{row_of, slot_of};
+ghost use Rattle.judge_rows.specs.Views.{row_of, as_target};
 ghost use Rattle.judge_due.specs.Drawing.{CanDraw, is_drawable};
 
 use crate::buffers::may_deliver;
 use crate::pictures::is_its_digest;
-use crate::slots::{pending_slot, slot_for};
-use cam_types::{BufferId, FenceNo, FrameNo, Script, StreamIx};
+use crate::targets::{pending_target, target_for};
+use cam_types::{BufferId, DeviceFenceNo, FenceNo, FrameNo, Script, StreamIx};
 use digest_memory::PictureDigests;
-use judge_rows::{JudgeTables, OpenRow, OpenSlot, find_row, pending_row};
+use judge_rows::{JudgeTables, OpenRow, OpenTarget, find_row, pending_row};
 use trace_model::Entry;
 
 /// A buffer that came back with its picture, as its entry says.
@@ -33,19 +33,19 @@ fn fills_as(
     tables: &JudgeTables,
     fill: Fill,
     row: &OpenRow,
-    slot: Option<OpenSlot>,
+    target: Option<OpenTarget>,
 ) -> bool
     ensures { let s = tables.now.state in
         (IsTrue result
         × (fill.digest ≡ digest_on (slice_get s.client.streams fill.stream.0) row.now.settings row.now.frame.0))
         ↔ (filled_from script.now s.client.streams s.rows (passed_in s.buffers) fill.stream.0 (row_of row.now)
-        (option_map slot_of slot) ≡
+        (option_map as_target target) ≡
         Option.Some (Entry.Filled fill.frame fill.stream fill.buffer fill.fence fill.digest)) }
 {
-    match slot {
-        Some(slot) => may_deliver(script, tables, fill.stream, row, slot)
+    match target {
+        Some(target) => may_deliver(script, tables, fill.stream, row, target)
             && (row.frame.0 == fill.frame.0
-                && (fill.fence.is_none() && slot.target.buffer.0 == fill.buffer.0)),
+                && (fill.fence.is_none() && target.sent.buffer.0 == fill.buffer.0)),
         None => false,
     }
 }
@@ -65,8 +65,8 @@ fn is_filled_of(
         (filled_row script.now s.client.streams s.rows (passed_in s.buffers) fill.stream.0 (row_of row.now) ≡
         Option.Some (Entry.Filled fill.frame fill.stream fill.buffer fill.fence fill.digest)) }
 {
-    let slot = slot_for(&row.slots, fill.stream);
-    if fills_as(script, tables, fill, row, slot) {
+    let target = target_for(&row.targets, fill.stream);
+    if fills_as(script, tables, fill, row, target) {
         is_its_digest(tables, fill.stream, row, fill.digest, memory)
     } else {
         (false, memory)
@@ -94,20 +94,20 @@ pub(crate) fn is_filled_due(
 /// Whether the buffer's device fence is signalled next, with its picture.
 fn is_late_at(
     tables: &JudgeTables,
-    fence: FenceNo,
+    fence: DeviceFenceNo,
     digest: [u8; 32],
     row: &OpenRow,
-    slot: Option<OpenSlot>,
+    target: Option<OpenTarget>,
     memory: PictureDigests,
 ) -> (bool, PictureDigests)
     requires offered { IsTrue (list_all is_offered tables.now.state.client.streams) }
     requires drawable { IsTrue (is_drawable row.now.settings) }
     ensures { IsTrue result.0 ↔
-        (late_from tables.now.state.client.streams fence.0 (row_of row.now) (option_map slot_of slot) ≡
+        (late_from tables.now.state.client.streams fence.0 (row_of row.now) (option_map as_target target) ≡
         Option.Some (Entry.Late fence digest)) }
 {
-    match slot {
-        Some(slot) => is_its_digest(tables, slot.target.stream, row, digest, memory),
+    match target {
+        Some(target) => is_its_digest(tables, target.sent.stream, row, digest, memory),
         None => (false, memory),
     }
 }
@@ -115,7 +115,7 @@ fn is_late_at(
 /// Whether the signal of the device fence is due.
 pub(crate) fn is_late_due(
     tables: &JudgeTables,
-    fence: FenceNo,
+    fence: DeviceFenceNo,
     digest: [u8; 32],
     memory: PictureDigests,
 ) -> (bool, PictureDigests)
@@ -125,8 +125,8 @@ pub(crate) fn is_late_due(
 {
     match pending_row(tables.rows().rows(), fence) {
         Some(row) => {
-            let slot = pending_slot(&row.slots, fence);
-            is_late_at(tables, fence, digest, &row, slot, memory)
+            let target = pending_target(&row.targets, fence);
+            is_late_at(tables, fence, digest, &row, target, memory)
         }
         None => (false, memory),
     }

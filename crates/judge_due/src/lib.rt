@@ -14,6 +14,6 @@ mod filled;
 pub mod parts;
 mod pictures;
 pub mod send;
-pub mod slots;
+pub mod targets;
 
 pub use entry::{drop_due, is_due};

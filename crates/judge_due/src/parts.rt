@@ -1,21 +1,21 @@
-//! The metadata result that is due.
+//! The partial result that is due.
 ghost use Rattle.std.specs.Prelude.{◌≡◌, ◌+◌, Option, option_map};
 ghost use Rattle.state_facts.specs.FrameReadings.{may_part_row, part_from, part_row};
 ghost use Rattle.state_facts.specs.States.{partial_in};
 ghost use Rattle.judge_rows.specs.Views.{row_of};
 
 use crate::before::earlier_ended;
-use cam_types::{FrameNo, PART_COUNT, Script};
+use cam_types::{FrameNo, PARTIAL_RESULT_COUNT, Script};
 use judge_entries::fault::{request_fault, result_fault};
 use judge_rows::{JudgeTables, OpenRow, find_row};
 use metadata_rules::part;
 use trace_model::Entry;
 
 /// Whether the frame's part of the number may come.
-fn may_part(script: &Script, tables: &JudgeTables, row: &OpenRow, number: u8) -> bool
+fn may_have_partial(script: &Script, tables: &JudgeTables, row: &OpenRow, number: u8) -> bool
     ensures { result ≡ may_part_row script.now tables.now.state.rows (row_of row.now) number }
 {
-    (!row.request_failed && (!row.result_failed && !request_fault(script, row.frame)))
+    (!row.request_error && (!row.result_error && !request_fault(script, row.frame)))
         && (number <= 3
             && (number != 3
                 || (!result_fault(script, row.frame)
@@ -27,11 +27,11 @@ fn part_due(script: &Script, tables: &JudgeTables, row: &OpenRow, time: u64) -> 
     ensures { result ≡
         part_from script.now tables.now.state.rows (row_of row.now) (row.now.parts + 1) (Option.Some time) }
 {
-    if row.parts >= PART_COUNT {
+    if row.parts >= PARTIAL_RESULT_COUNT {
         return None;
     }
     let number = row.parts + 1;
-    if may_part(script, tables, row, number) {
+    if may_have_partial(script, tables, row, number) {
         Some(Entry::Partial {
             frame: row.frame,
             number,
@@ -45,13 +45,13 @@ fn part_due(script: &Script, tables: &JudgeTables, row: &OpenRow, time: u64) -> 
 fn row_part_due(script: &Script, tables: &JudgeTables, row: &OpenRow) -> Option<Entry>
     ensures { result ≡ part_row script.now tables.now.state.rows (row_of row.now) }
 {
-    match row.time {
+    match row.shutter {
         Some(time) => part_due(script, tables, row, time),
         None => None,
     }
 }
 
-/// The metadata result of the frame that is due.
+/// The partial result of the frame that is due.
 pub fn partial_due(script: &Script, tables: &JudgeTables, frame: FrameNo) -> Option<Entry>
     ensures { result ≡ partial_in script.now tables.now.state frame.0 }
 {

@@ -1,21 +1,21 @@
 //! Whether a send is due, with the mark and the targets.
 ghost use Rattle.std.specs.Prelude.{◌≡◌, ◌==◌, ◌&&◌, ◌||◌, nat_lt, not, length, option_to_list, slice_get};
-ghost use Rattle.std.specs.List.{list_all, list_any, range_with_len};
+ghost use Rattle.std.specs.List.{list_all, range_with_len};
 ghost use Rattle.cam_types.specs.Four.{four_list};
 ghost use Rattle.cam_types.specs.Profile.{max_buffers_of};
-ghost use Rattle.trace_model.specs.Configuration.{is_made, numbers_of};
 ghost use Rattle.trace_model.specs.Place.{Pool as ThePool, is_at};
 ghost use Rattle.trace_model.specs.Printable.{is_filled};
-ghost use Rattle.trace_model.specs.Send.{are_last, are_same, are_streams, is_same_bool, targets_in_order};
+ghost use Rattle.trace_model.specs.Send.{are_last, are_streams, is_same_bool, targets_in_order};
 ghost use Rattle.state_facts.specs.Homes.{place_in, stream_in};
 ghost use Rattle.state_facts.specs.States.{fits_in, has_room_in, may_go_in, may_send_in, takes_in};
 ghost use Rattle.judge_calls.specs.Asked.{asks, left_from};
 
 use cam_types::{
-    BufferId, Four, FrameNo, Made, Queued, RequestId, STREAM_LIMIT, Script, Settings, StreamIx,
-    Targets,
+    BufferId, Four, FrameNo, Queued, RequestId, STREAM_LIMIT, Script, StreamIx, Targets,
 };
+use judge_calls::mark::{are_last, is_same_mark};
 use judge_calls::stream::{are_streams, asks_for};
+use judge_calls::target::{is_filled, is_one_of};
 use judge_filters::fence::is_same_fence;
 use judge_rows::{Home, JudgeTables};
 use trace_model::Sent;
@@ -76,25 +76,6 @@ pub fn may_go(script: &Script, tables: &JudgeTables, next: Queued) -> bool
             && (!next.repeating || tables.client().may_repeat(script)))
 }
 
-/// Whether the buffer is one of those made.
-fn is_made(made: Made, buffer: BufferId) -> bool
-    ensures { result ≡ is_made buffer.0 made }
-{
-    let first = u64::from(made.first.0);
-    let number = u64::from(buffer.0);
-    first <= number && number < first + u64::from(made.count)
-}
-
-/// Whether the buffer is one of those made, if any were.
-fn is_one_of(made: Option<Made>, buffer: BufferId) -> bool
-    ensures { result ≡ list_any (λ b. b == buffer.0) (numbers_of made) }
-{
-    match made {
-        Some(made) => is_made(made, buffer),
-        None => false,
-    }
-}
-
 fn is_in_pool(tables: &JudgeTables, buffer: BufferId) -> bool
     ensures { result ≡ is_at (place_in tables.now.state.buffers buffer.0) ThePool }
 {
@@ -127,38 +108,6 @@ fn all_take(tables: &JudgeTables, targets: Four<Sent>) -> bool
     takes_where_there(tables, targets.a)
         && (takes_where_there(tables, targets.b)
             && (takes_where_there(tables, targets.c) && takes_where_there(tables, targets.d)))
-}
-
-/// Whether the four places are filled from the first on.
-fn is_filled(targets: Four<Sent>) -> bool
-    ensures { result ≡ is_filled targets }
-{
-    (targets.a.is_some() || !targets.b.is_some())
-        && ((targets.b.is_some() || !targets.c.is_some())
-            && (targets.c.is_some() || !targets.d.is_some()))
-}
-
-fn are_same(one: Settings, other: Settings) -> bool
-    ensures { result ≡ are_same one other }
-{
-    one.pattern == other.pattern
-        && (one.level == other.level && (one.exposure == other.exposure && one.iso == other.iso))
-}
-
-/// Whether the settings are those that were sent last, if any were.
-pub fn are_last(last: Option<Settings>, settings: Settings) -> bool
-    ensures { result ≡ are_last last settings }
-{
-    match last {
-        Some(last) => are_same(last, settings),
-        None => false,
-    }
-}
-
-fn is_same_mark(same: bool, mark: bool) -> bool
-    ensures { result ≡ is_same_bool same mark }
-{
-    same == mark
 }
 
 fn fit_item(tables: &JudgeTables, targets: Four<Sent>, asked: Targets) -> bool

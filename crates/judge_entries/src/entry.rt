@@ -7,7 +7,7 @@ ghost use Rattle.trace_model.specs.Entry.{brings, returns_target, returns_of_fra
 ghost use Rattle.trace_model.specs.Entry.{is_error_request, is_error_result, is_error_buffer, is_error_of, is_error_device};
 ghost use Rattle.trace_model.specs.Entry.{is_release, signals, is_refusal, is_call, is_stop_word, is_stop};
 
-use cam_types::{FenceNo, FrameNo, Reply, RequestId, StreamIx, Word};
+use cam_types::{DeviceFenceNo, FenceNo, FrameNo, Reply, RequestId, StreamIx, Word};
 use trace_model::Entry;
 
 /// Whether the entry sends the frame to the device.
@@ -57,14 +57,14 @@ pub fn is_shutter(entry: &Entry, frame: FrameNo) -> bool
     matches!(entry, Entry::Shutter { frame: exposed, .. } if exposed.0 == frame.0)
 }
 
-/// Whether the entry is a metadata result of the frame.
+/// Whether the entry is a partial result of the frame.
 pub fn is_partial(entry: &Entry, frame: FrameNo) -> bool
     ensures { result ≡ is_partial frame.0 entry.now }
 {
     matches!(entry, Entry::Partial { frame: of, .. } if of.0 == frame.0)
 }
 
-/// Whether the entry is the frame's metadata result of the number.
+/// Whether the entry is the frame's partial result of the number.
 pub fn is_part(entry: &Entry, frame: FrameNo, number: u8) -> bool
     ensures { result ≡ is_part frame.0 number entry.now }
 {
@@ -141,14 +141,14 @@ pub fn is_early(entry: &Entry) -> bool
 }
 
 /// Whether the entry gives a buffer back early with the device fence.
-pub fn is_early_with(entry: &Entry, fence: FenceNo) -> bool
+pub fn is_early_with(entry: &Entry, fence: DeviceFenceNo) -> bool
     ensures { result ≡ is_early_with fence.0 entry.now }
 {
     matches!(entry, Entry::Early { fence: given, .. } if given.0 == fence.0)
 }
 
 /// Whether the entry signals the device fence.
-pub fn is_late_with(entry: &Entry, fence: FenceNo) -> bool
+pub fn is_late_with(entry: &Entry, fence: DeviceFenceNo) -> bool
     ensures { result ≡ is_late_with fence.0 entry.now }
 {
     matches!(entry, Entry::Late { fence: signalled, .. } if signalled.0 == fence.0)

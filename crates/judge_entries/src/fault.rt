@@ -39,7 +39,7 @@ pub fn request_fault(script: &Script, frame: FrameNo) -> bool
     faults.iter().any(|fault| fails_request(fault, frame))
 }
 
-/// Whether the frame shall lack its last metadata result.
+/// Whether the frame shall lack its last partial result.
 pub fn result_fault(script: &Script, frame: FrameNo) -> bool
     ensures { result ≡ result_fault script.now frame.0 }
 {

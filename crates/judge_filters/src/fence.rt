@@ -1,10 +1,11 @@
 //! Fences: who uses a buffer next waits for the fence that came with it.
-ghost use Rattle.std.specs.Prelude.{◌≡◌, reverse};
+ghost use Rattle.std.specs.Prelude.{◌≡◌, find, option_copied, reverse};
+ghost use Rattle.trace_model.specs.Entry.{is_early_with};
 ghost use Rattle.trace_model.specs.Fence.{fence_of, is_signalled, is_passed, early_fence_of, is_late, is_there, is_same_fence};
 
 use crate::place::last_naming;
-use cam_types::{BufferId, FenceNo};
-use judge_entries::entry::{is_late_with, signals};
+use cam_types::{BufferId, DeviceFenceNo, FenceNo};
+use judge_entries::entry::{is_early_with, is_late_with, signals};
 use trace_model::Entry;
 
 /// The fence of a buffer at home: of its release, or the one with which it failed.
@@ -36,7 +37,7 @@ pub fn is_passed(entries: &[Entry], fence: Option<FenceNo>) -> bool
 }
 
 /// The device fence of a buffer that went to the client early.
-pub fn early_fence_of(entries: &[Entry], buffer: BufferId) -> Option<FenceNo>
+pub fn early_fence_of(entries: &[Entry], buffer: BufferId) -> Option<DeviceFenceNo>
     ensures { result ≡ early_fence_of buffer.0 (reverse entries.now) }
 {
     match last_naming(entries, u64::from(buffer.0)) {
@@ -46,14 +47,24 @@ pub fn early_fence_of(entries: &[Entry], buffer: BufferId) -> Option<FenceNo>
 }
 
 /// Whether the device fence is signalled: the picture of its early return is there.
-pub fn is_late(entries: &[Entry], fence: FenceNo) -> bool
+pub fn is_late(entries: &[Entry], fence: DeviceFenceNo) -> bool
     ensures { result ≡ is_late fence.0 (reverse entries.now) }
 {
     entries.iter().rev().any(|entry| is_late_with(entry, fence))
 }
 
+/// The entry by which a buffer came back early with the device fence.
+pub fn early_return(entries: &[Entry], fence: DeviceFenceNo) -> Option<&Entry>
+    ensures { option_copied result ≡ find (is_early_with fence.0) (reverse entries.now) }
+{
+    entries
+        .iter()
+        .rev()
+        .find(|entry| is_early_with(entry, fence))
+}
+
 /// Whether there is no device fence to wait for, or it is signalled.
-pub fn is_there(entries: &[Entry], fence: Option<FenceNo>) -> bool
+pub fn is_there(entries: &[Entry], fence: Option<DeviceFenceNo>) -> bool
     ensures { result ≡ is_there fence (reverse entries.now) }
 {
     match fence {

@@ -15,7 +15,7 @@ use judge_entries::entry::{
 };
 use trace_model::{Entry, Sent};
 
-/// Whether the frame's metadata result of the number came.
+/// Whether the frame's partial result of the number came.
 pub fn has_part(entries: &[Entry], frame: FrameNo, number: u8) -> bool
     ensures { result ≡ has_part frame.0 number (reverse entries.now) }
 {
@@ -199,7 +199,7 @@ pub fn is_quiet(entries: &[Entry]) -> bool
     no_send_open(entries)
 }
 
-/// Whether a metadata result of the frame came.
+/// Whether a partial result of the frame came.
 fn has_partial(entries: &[Entry], frame: FrameNo) -> bool
     ensures { result ≡ list_any (is_partial frame.0) (reverse entries.now) }
 {
@@ -216,7 +216,7 @@ fn has_returned(entries: &[Entry], frame: FrameNo) -> bool
         .any(|entry| returns_of_frame(entry, frame))
 }
 
-/// Whether a metadata result, a buffer or an error of the frame stands.
+/// Whether a partial result, a buffer or an error of the frame stands.
 pub fn has_something(entries: &[Entry], frame: FrameNo) -> bool
     ensures { result ≡ has_something frame.0 (reverse entries.now) }
 {

@@ -1,5 +1,5 @@
 pub mod FenceLemmas
 pub mod HomeLemmas
 pub mod Kept
-pub mod SlotLemmas
+pub mod TargetLemmas
 pub mod RowLemmas

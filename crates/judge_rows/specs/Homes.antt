@@ -1,4 +1,5 @@
 use Rattle.std.specs.Prelude.{List, Option, map}
+use Rattle.cam_types.specs.declared.number.DeviceFenceNo.{DeviceFenceNo}
 use Rattle.cam_types.specs.declared.number.FenceNo.{FenceNo}
 use Rattle.trace_model.specs.Place.{Place, Pool, Device, Client}
 use Rattle.judge_rows.specs.declared.homes.Berth.{Berth}
@@ -19,5 +20,5 @@ places_in berths = map (λ b. place_of b.home) berths
 abbrev pub fences_in : List Berth → List (Option FenceNo)
 fences_in berths = map (λ b. b.fence) berths
 
-abbrev pub helds_in : List Berth → List (Option FenceNo)
+abbrev pub helds_in : List Berth → List (Option DeviceFenceNo)
 helds_in berths = map (λ b. b.held) berths

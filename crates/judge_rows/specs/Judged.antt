@@ -57,9 +57,9 @@ pub record CanNote (script : Script) (e : Entry) (t : Judged) : Type 0 where
   pub captures : CanCapture script t.state.queue t.room e
   pub client :
       Fits
-      (client.noted script (repeats_next (next_of t.state.queue)) (finishes_in e t.state.rows) e t.state.client)
-  pub first : (buffers.noted e t.state.buffers).first < 2 ^ 32
-  pub fences : length (buffers.noted e t.state.buffers).signalled < 2 ^ 32
-  pub device_fences : length (buffers.noted e t.state.buffers).late < 2 ^ 32
+      (client.clients_after script (repeats_next (next_of t.state.queue)) (finishes_in e t.state.rows) e t.state.client)
+  pub first : (buffers.homes_after e t.state.buffers).first < 2 ^ 32
+  pub fences : length (buffers.homes_after e t.state.buffers).signalled < 2 ^ 32
+  pub device_fences : length (buffers.homes_after e t.state.buffers).late < 2 ^ 32
   pub clock : time_after t.state.rows e t.state.clock < 2 ^ 64
   pub free : IsTrue (are_free e t.state.rows)

@@ -2,40 +2,40 @@ use Rattle.std.specs.Prelude.{ℕ, ◌==◌, ◌&&◌, ◌||◌, Bool, true, fal
 use Rattle.std.specs.List.{list_all}
 use Rattle.cam_types.specs.Four.{four_list}
 use Rattle.cam_types.specs.declared.four.Four.{Four}
-use Rattle.cam_types.specs.declared.number.FenceNo.{FenceNo}
+use Rattle.cam_types.specs.declared.number.DeviceFenceNo.{DeviceFenceNo}
 use Rattle.trace_model.specs.declared.entry.Entry.{Entry}
 use Rattle.trace_model.specs.declared.entry.Entry.TheVariants.{Early}
 use Rattle.state_facts.specs.Row.{Row, Target}
 use Rattle.judge_rows.specs.declared.row.OpenRow.{OpenRow}
-use Rattle.judge_rows.specs.declared.slot.OpenSlot.{OpenSlot}
+use Rattle.judge_rows.specs.declared.target.OpenTarget.{OpenTarget}
 
 -- What the table says of the open frames, as the rows that the state of a trace has (our own choice of tables).
 
-abbrev pub given_of : Option FenceNo → List ℕ
+abbrev pub given_of : Option DeviceFenceNo → List ℕ
 given_of given = option_to_list (option_map (λ f. f.0) given)
 
-abbrev pub slot_of : OpenSlot → Target
-slot_of s = record {
-  sent = s.target;
-  announced = s.failed;
+abbrev pub as_target : OpenTarget → Target
+as_target s = record {
+  sent = s.sent;
+  announced = s.announced;
   returned = s.returned;
   given = given_of s.given;
   settled = s.settled;
 }
 
-abbrev pub slots_of : Four OpenSlot → List Target
-slots_of slots = map slot_of (four_list slots)
+abbrev pub as_targets : Four OpenTarget → List Target
+as_targets targets = map as_target (four_list targets)
 
 abbrev pub row_of : OpenRow → Row
 row_of r = record {
   number = r.frame.0;
   settings = r.settings;
   repeats = r.repeats;
-  targets = slots_of r.slots;
-  shutter = r.time;
+  targets = as_targets r.targets;
+  shutter = r.shutter;
   parts = r.parts;
-  request_error = r.request_failed;
-  result_error = r.result_failed;
+  request_error = r.request_error;
+  result_error = r.result_error;
   stopped = r.stopped;
 }
 

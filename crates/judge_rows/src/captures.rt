@@ -1,7 +1,7 @@
 //! What an entry does to the queue.
 ghost use Rattle.std.specs.Prelude.{◌≡◌, length};
 ghost use Rattle.trace_model.specs.Calls.{command_at};
-ghost use Rattle.state_facts.specs.Turns.{noted};
+ghost use Rattle.state_facts.specs.Turns.{turns_after};
 ghost use Rattle.judge_rows.specs.Judged.{CanCapture, CanTakeAt, TakesOne};
 
 use cam_types::{Reply, Script, Word};
@@ -13,7 +13,7 @@ fn note_call(captures: &mut CaptureQueue, script: &Script, index: u32, word: Wor
     requires place { CanTakeAt captures.old.turns (command_at script.now index) word reply.now }
     requires room { TakesOne captures.old.turns.requests captures.old.room reply.now }
     requires kinds { length captures.old.kinds ≡ captures.old.turns.requests }
-    ensures turns { captures.new.turns ≡ noted script.now (Entry.Call index word reply.now) captures.old.turns }
+    ensures turns { captures.new.turns ≡ turns_after script.now (Entry.Call index word reply.now) captures.old.turns }
     ensures kinds { length captures.new.kinds ≡ captures.new.turns.requests }
     ensures room { captures.new.room ≡ captures.old.room }
 {
@@ -27,7 +27,7 @@ fn note_call(captures: &mut CaptureQueue, script: &Script, index: u32, word: Wor
 pub(crate) fn note_captures(captures: &mut CaptureQueue, script: &Script, entry: &Entry)
     requires can { CanCapture script.now captures.old.turns captures.old.room entry.now }
     requires kinds { length captures.old.kinds ≡ captures.old.turns.requests }
-    ensures turns { captures.new.turns ≡ noted script.now entry.now captures.old.turns }
+    ensures turns { captures.new.turns ≡ turns_after script.now entry.now captures.old.turns }
     ensures kinds { length captures.new.kinds ≡ captures.new.turns.requests }
     ensures room { captures.new.room ≡ captures.old.room }
 {

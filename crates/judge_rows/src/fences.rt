@@ -2,7 +2,7 @@
 ghost use Rattle.std.specs.Prelude.{◌≡◌, ◌==◌, ◌+◌, ◌<◌, ◌≤◌, ◌^◌, ◌++◌, ◌∷◌, [], ℕ, not, false, true, drop, filter, length, slice_index_or, slice_set, take, vec_len, OnOk};
 ghost use Rattle.std.specs.List.{list_all, list_any};
 
-use cam_types::{FenceNo, NoMemory};
+use cam_types::NoMemory;
 use std::alloc::Global;
 use std::marker::Model;
 
@@ -55,18 +55,18 @@ impl FenceBook {
         Ok(())
     }
 
-    /// Signals a fence. One that wasn't given changes nothing.
-    pub fn signal(&mut self, fence: FenceNo)
-        ensures { self.new ≡ slice_set self.old fence.0 true }
+    /// Signals the fence of the number. One that wasn't given changes nothing.
+    pub fn signal(&mut self, number: u32)
+        ensures { self.new ≡ slice_set self.old number true }
     {
-        leave_out(&mut self.waiting, fence.0);
+        leave_out(&mut self.waiting, number);
     }
 
-    /// Whether a fence was given and is signalled.
-    pub fn is_signalled(&self, fence: FenceNo) -> bool
-        ensures { result ≡ slice_index_or self.now fence.0 false }
+    /// Whether the fence of the number was given and is signalled.
+    pub fn is_signalled(&self, number: u32) -> bool
+        ensures { result ≡ slice_index_or self.now number false }
     {
-        fence.0 < self.count && !stands(&self.waiting, fence.0)
+        number < self.count && !stands(&self.waiting, number)
     }
 
     /// Whether each fence that was given is signalled.

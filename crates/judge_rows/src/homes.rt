@@ -4,12 +4,13 @@ ghost use Rattle.cam_types.specs.Four.{four_list};
 ghost use Rattle.cam_types.specs.declared.number.BufferId.{BufferId as SomeBuffer};
 ghost use Rattle.cam_types.specs.declared.number.FenceNo.{FenceNo as SomeFence};
 ghost use Rattle.trace_model.specs.Place.{Client as TheClient, Device as TheDevice, Pool as ThePool};
-ghost use Rattle.state_facts.specs.Homes.{configured, no_homes, noted, put, sent_with};
+ghost use Rattle.state_facts.specs.Homes.{configured, no_homes, homes_after, put, sent_with};
 ghost use Rattle.judge_rows.specs.Homes.{fences_in, helds_in, place_of, places_in};
 
 use crate::fences::FenceBook;
-use crate::made::{count_of_each, replace_made};
-use cam_types::{BufferId, FenceNo, Four, Made, NoMemory, Reply};
+use crate::made::replace_made;
+use cam_types::{BufferId, DeviceFenceNo, FenceNo, Four, Made, NoMemory, Reply};
+use judge_entries::number::made_in;
 use std::alloc::Global;
 use std::marker::Model;
 use trace_model::{Entry, Sent};
@@ -28,7 +29,7 @@ pub enum Home {
 pub(crate) struct Berth {
     pub(crate) home: Home,
     pub(crate) fence: Option<FenceNo>,
-    pub(crate) held: Option<FenceNo>,
+    pub(crate) held: Option<DeviceFenceNo>,
 }
 
 /// A buffer that was just made.
@@ -93,10 +94,10 @@ impl HomeTable {
     /// Notes an entry: each that names a buffer moves it, a release and an early return give a fence, an accepted
     /// configuration makes fresh buffers. The answer is an error only where memory runs out.
     pub fn note(&mut self, entry: &Entry) -> Result<(), NoMemory>
-        requires first { (noted entry.now self.old).first < 2 ^ 32 }
-        requires fences { length (noted entry.now self.old).signalled < 2 ^ 32 }
-        requires device_fences { length (noted entry.now self.old).late < 2 ^ 32 }
-        ensures { OnOk result (self.new ≡ noted entry.now self.old) }
+        requires first { (homes_after entry.now self.old).first < 2 ^ 32 }
+        requires fences { length (homes_after entry.now self.old).signalled < 2 ^ 32 }
+        requires device_fences { length (homes_after entry.now self.old).late < 2 ^ 32 }
+        ensures { OnOk result (self.new ≡ homes_after entry.now self.old) }
     {
         match entry {
             Entry::Call {
@@ -120,7 +121,7 @@ impl HomeTable {
                 self.releases.give()
             }
             Entry::Signal { fence } => {
-                self.releases.signal(*fence);
+                self.releases.signal(fence.0);
                 Ok(())
             }
             Entry::Early { buffer, fence, .. } => {
@@ -128,7 +129,7 @@ impl HomeTable {
                 self.pictures.give()
             }
             Entry::Late { fence, .. } => {
-                self.pictures.signal(*fence);
+                self.pictures.signal(fence.0);
                 Ok(())
             }
             _ => Ok(()),
@@ -136,7 +137,13 @@ impl HomeTable {
     }
 
     /// Puts the buffer at a place, with a fence and a device fence.
-    fn put(&mut self, buffer: BufferId, home: Home, fence: Option<FenceNo>, held: Option<FenceNo>)
+    fn put(
+        &mut self,
+        buffer: BufferId,
+        home: Home,
+        fence: Option<FenceNo>,
+        held: Option<DeviceFenceNo>,
+    )
         ensures { self.new ≡ put buffer.0 (place_of home) fence held self.old }
     {
         let place = buffer.0.saturating_sub(self.first) as usize;
@@ -172,7 +179,7 @@ impl HomeTable {
         let old = self.berths.len() as u32;
         self.first += old;
         replace_made(&mut self.made, each)?;
-        fill_fresh(&mut self.berths, count_of_each(each) as usize)
+        fill_fresh(&mut self.berths, made_in(each) as usize)
     }
 }
 

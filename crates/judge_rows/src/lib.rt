@@ -13,13 +13,13 @@ mod made;
 mod next;
 mod reading;
 mod row;
-mod slot;
 mod table;
 mod tables;
+mod target;
 
 pub use fences::FenceBook;
 pub use homes::{Home, HomeTable};
 pub use row::{OpenRow, has_something, is_ended};
-pub use slot::{OpenSlot, is_pending};
 pub use table::{RowTable, find_row, pending_row};
 pub use tables::JudgeTables;
+pub use target::{OpenTarget, is_pending};

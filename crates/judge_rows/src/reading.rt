@@ -6,7 +6,7 @@ ghost use Rattle.state_facts.specs.Homes.{all_home, all_signalled, at_device_in,
 ghost use Rattle.judge_rows.specs.Homes.{fences_in, helds_in, place_of, places_in};
 
 use crate::homes::{Berth, Home, HomeTable};
-use cam_types::{BufferId, FenceNo, Made, StreamIx};
+use cam_types::{BufferId, DeviceFenceNo, FenceNo, Made, StreamIx};
 use trace_model::Entry;
 
 impl HomeTable {
@@ -48,7 +48,7 @@ impl HomeTable {
     pub fn is_signalled(&self, fence: FenceNo) -> bool
         ensures { result ≡ signalled_in self.now fence.0 }
     {
-        self.releases.is_signalled(fence)
+        self.releases.is_signalled(fence.0)
     }
 
     /// How many early returns there were, which is the number of the next device fence.
@@ -120,18 +120,18 @@ impl HomeTable {
     }
 
     /// The device fence with which the buffer went to the client early.
-    fn held(&self, buffer: BufferId) -> Option<FenceNo>
+    fn held(&self, buffer: BufferId) -> Option<DeviceFenceNo>
         ensures { result ≡ held_in self.now buffer.0 }
     {
         held_at(&self.berths, buffer.0.saturating_sub(self.first) as usize)
     }
 
     /// Whether there is no device fence to wait for, or it is signalled.
-    fn is_there(&self, fence: Option<FenceNo>) -> bool
+    fn is_there(&self, fence: Option<DeviceFenceNo>) -> bool
         ensures { result ≡ there_in self.now fence }
     {
         match fence {
-            Some(fence) => self.pictures.is_signalled(fence),
+            Some(fence) => self.pictures.is_signalled(fence.0),
             None => true,
         }
     }
@@ -140,7 +140,7 @@ impl HomeTable {
     pub fn signal_due(&self, fence: FenceNo) -> Option<Entry>
         ensures { result ≡ signal_in self.now fence.0 }
     {
-        if fence.0 < self.releases.count() && !self.releases.is_signalled(fence) {
+        if fence.0 < self.releases.count() && !self.releases.is_signalled(fence.0) {
             Some(Entry::Signal { fence })
         } else {
             None
@@ -168,7 +168,7 @@ fn fence_at(berths: &[Berth], place: usize) -> Option<FenceNo>
     }
 }
 
-fn held_at(berths: &[Berth], place: usize) -> Option<FenceNo>
+fn held_at(berths: &[Berth], place: usize) -> Option<DeviceFenceNo>
     ensures { result ≡ slice_index_or (helds_in berths.now) place None }
 {
     if place < berths.len() {

@@ -1,15 +1,15 @@
 //! An open frame.
 ghost use Rattle.std.specs.Prelude.{◌≡◌, IsTrue};
 ghost use Rattle.std.specs.List.{list_all};
-ghost use Rattle.trace_laws.specs.Times.{note_parts, note_time};
+ghost use Rattle.trace_laws.specs.Times.{partials_after, note_time};
 ghost use Rattle.state_facts.specs.FrameReadings.{has_something_row};
-ghost use Rattle.state_facts.specs.Row.{is_ended, is_open_row, noted_row, sent_row};
-ghost use Rattle.judge_rows.specs.Views.{is_free, row_of, slots_of};
+ghost use Rattle.state_facts.specs.Row.{is_ended, is_open_row, row_after, sent_row};
+ghost use Rattle.judge_rows.specs.Views.{is_free, row_of, as_targets};
 
-use crate::slot::{
-    OpenSlot, are_back, are_back_after, has_failed, has_returned, new_slots, note_slots,
+use crate::target::{
+    OpenTarget, are_back, are_back_after, has_announced, has_returned, new_targets, note_targets,
 };
-use cam_types::{Four, FrameNo, PART_COUNT, Settings};
+use cam_types::{Four, FrameNo, PARTIAL_RESULT_COUNT, Settings};
 use judge_entries::entry::{is_error_request, is_error_result, is_stop};
 use trace_model::{Entry, Sent};
 
@@ -20,12 +20,12 @@ pub struct OpenRow {
     pub frame: FrameNo,
     pub settings: Settings,
     pub repeats: bool,
-    pub time: Option<u64>,
+    pub shutter: Option<u64>,
     pub parts: u8,
-    pub request_failed: bool,
-    pub result_failed: bool,
+    pub request_error: bool,
+    pub result_error: bool,
     pub stopped: bool,
-    pub slots: Four<OpenSlot>,
+    pub targets: Four<OpenTarget>,
 }
 
 fn time_after(entry: &Entry, frame: FrameNo, old: Option<u64>) -> Option<u64>
@@ -38,7 +38,7 @@ fn time_after(entry: &Entry, frame: FrameNo, old: Option<u64>) -> Option<u64>
 }
 
 fn parts_after(entry: &Entry, frame: FrameNo, old: u8) -> u8
-    ensures { result ≡ note_parts entry.now frame.0 old }
+    ensures { result ≡ partials_after entry.now frame.0 old }
 {
     match entry {
         Entry::Partial {
@@ -52,20 +52,20 @@ fn parts_after(entry: &Entry, frame: FrameNo, old: u8) -> u8
 
 /// The row after an entry, which gives device fences only to buffers that have none.
 pub(crate) fn note_row(entry: &Entry, row: &OpenRow) -> OpenRow
-    requires { IsTrue (list_all (is_free entry.now row.now.frame.0) (slots_of row.now.slots)) }
-    ensures { row_of result ≡ noted_row entry.now (row_of row.now) }
+    requires { IsTrue (list_all (is_free entry.now row.now.frame.0) (as_targets row.now.targets)) }
+    ensures { row_of result ≡ row_after entry.now (row_of row.now) }
 {
     let frame = row.frame;
     OpenRow {
         frame,
         settings: row.settings,
         repeats: row.repeats,
-        time: time_after(entry, frame, row.time),
+        shutter: time_after(entry, frame, row.shutter),
         parts: parts_after(entry, frame, row.parts),
-        request_failed: is_error_request(entry, frame) || row.request_failed,
-        result_failed: is_error_result(entry, frame) || row.result_failed,
+        request_error: is_error_request(entry, frame) || row.request_error,
+        result_error: is_error_result(entry, frame) || row.result_error,
         stopped: is_stop(entry) || row.stopped,
-        slots: note_slots(entry, frame, row.slots),
+        targets: note_targets(entry, frame, row.targets),
     }
 }
 
@@ -73,7 +73,7 @@ pub(crate) fn note_row(entry: &Entry, row: &OpenRow) -> OpenRow
 pub fn is_ended(row: &OpenRow) -> bool
     ensures { result ≡ is_ended (row_of row.now) }
 {
-    PART_COUNT <= row.parts || (row.result_failed || row.request_failed)
+    PARTIAL_RESULT_COUNT <= row.parts || (row.result_error || row.request_error)
 }
 
 /// Whether anything came of the frame but its shutter.
@@ -81,32 +81,32 @@ pub fn has_something(row: &OpenRow) -> bool
     ensures { result ≡ has_something_row (row_of row.now) }
 {
     0 < row.parts
-        || (has_returned(&row.slots)
-            || (row.request_failed || (row.result_failed || has_failed(&row.slots))))
+        || (has_returned(&row.targets)
+            || (row.request_error || (row.result_error || has_announced(&row.targets))))
 }
 
 /// Whether the frame is open.
 pub(crate) fn is_open(row: &OpenRow) -> bool
     ensures { result ≡ is_open_row (row_of row.now) }
 {
-    !(is_ended(row) && are_back(&row.slots))
+    !(is_ended(row) && are_back(&row.targets))
 }
 
 /// Whether the frame's metadata ended with an entry.
 fn is_ended_after(entry: &Entry, row: &OpenRow) -> bool
-    ensures { result ≡ is_ended (noted_row entry.now (row_of row.now)) }
+    ensures { result ≡ is_ended (row_after entry.now (row_of row.now)) }
 {
     let frame = row.frame;
-    PART_COUNT <= parts_after(entry, frame, row.parts)
-        || ((is_error_result(entry, frame) || row.result_failed)
-            || (is_error_request(entry, frame) || row.request_failed))
+    PARTIAL_RESULT_COUNT <= parts_after(entry, frame, row.parts)
+        || ((is_error_result(entry, frame) || row.result_error)
+            || (is_error_request(entry, frame) || row.request_error))
 }
 
 /// Whether the frame is open after an entry.
 pub(crate) fn stays_open(entry: &Entry, row: &OpenRow) -> bool
-    ensures { result ≡ is_open_row (noted_row entry.now (row_of row.now)) }
+    ensures { result ≡ is_open_row (row_after entry.now (row_of row.now)) }
 {
-    !(is_ended_after(entry, row) && are_back_after(entry, row.frame, &row.slots))
+    !(is_ended_after(entry, row) && are_back_after(entry, row.frame, &row.targets))
 }
 
 /// The row of a frame that was just sent.
@@ -122,11 +122,11 @@ pub(crate) fn new_row(
         frame,
         settings,
         repeats,
-        time: None,
+        shutter: None,
         parts: 0,
-        request_failed: false,
-        result_failed: false,
+        request_error: false,
+        result_error: false,
         stopped: false,
-        slots: new_slots(targets),
+        targets: new_targets(targets),
     }
 }

@@ -1,12 +1,12 @@
 //! The rows of the open frames.
 ghost use Rattle.std.specs.Prelude.{◌≡◌, ◌==◌, ◌≤◌, ◌<◌, ◌+◌, ◌++◌, ◌∷◌, [], ℕ, IsTrue, OnOk, drop, filter, find, length, map, option_copied, option_map, take, vec_len};
 ghost use Rattle.state_facts.specs.FrameReadings.{closes_one, finishes_in, has_pending, is_none_left, row_at};
-ghost use Rattle.state_facts.specs.Row.{is_open_row, new_rows, noted_row, rows_after};
+ghost use Rattle.state_facts.specs.Row.{is_open_row, new_rows, row_after, rows_after};
 ghost use Rattle.judge_rows.specs.Views.{are_free, row_of, rows_of};
 
 use crate::row::{OpenRow, is_open, new_row, note_row, stays_open};
-use crate::slot::has_pending;
-use cam_types::{FenceNo, FrameNo, NoMemory, Settings};
+use crate::target::has_pending;
+use cam_types::{DeviceFenceNo, FrameNo, NoMemory, Settings};
 use std::alloc::Global;
 use std::marker::Model;
 use trace_model::Entry;
@@ -100,20 +100,20 @@ pub fn find_row(rows: &[OpenRow], frame: FrameNo) -> Option<OpenRow>
     row_of_frame(rows, frame).copied()
 }
 
-fn waits_for(row: &OpenRow, fence: FenceNo) -> bool
+fn waits_for(row: &OpenRow, fence: DeviceFenceNo) -> bool
     ensures { result ≡ has_pending fence.0 (row_of row.now) }
 {
-    has_pending(&row.slots, fence)
+    has_pending(&row.targets, fence)
 }
 
-fn row_with(rows: &[OpenRow], fence: FenceNo) -> Option<&OpenRow>
+fn row_with(rows: &[OpenRow], fence: DeviceFenceNo) -> Option<&OpenRow>
     ensures { option_copied result ≡ find (λ r. has_pending fence.0 (row_of r)) rows.now }
 {
     rows.iter().find(|row| waits_for(row, fence))
 }
 
 /// The row of the frame that has a buffer waiting for the device fence.
-pub fn pending_row(rows: &[OpenRow], fence: FenceNo) -> Option<OpenRow>
+pub fn pending_row(rows: &[OpenRow], fence: DeviceFenceNo) -> Option<OpenRow>
     ensures { option_map row_of result ≡ find (has_pending fence.0) (rows_of rows.now) }
 {
     row_with(rows, fence).copied()
@@ -138,7 +138,7 @@ fn ends_row(entry: &Entry, rows: &[OpenRow], frame: FrameNo) -> bool
 }
 
 /// The same of the row of the frame that has a buffer waiting for the device fence.
-fn ends_early(entry: &Entry, rows: &[OpenRow], fence: FenceNo) -> bool
+fn ends_early(entry: &Entry, rows: &[OpenRow], fence: DeviceFenceNo) -> bool
     ensures { result ≡ closes_one entry.now (find (has_pending fence.0) (rows_of rows.now)) }
 {
     closes(entry, pending_row(rows, fence))
@@ -164,7 +164,7 @@ fn keep(rows: &mut Vec<OpenRow>, kept: usize, row: OpenRow) -> usize
 /// Notes the entry in each row, and keeps those that are open.
 fn note_rows(rows: &mut Vec<OpenRow>, entry: &Entry)
     requires { IsTrue (are_free entry.now (rows_of rows.old.items)) }
-    ensures { rows_of rows.new.items ≡ filter is_open_row (map (noted_row entry.now) (rows_of rows.old.items)) }
+    ensures { rows_of rows.new.items ≡ filter is_open_row (map (row_after entry.now) (rows_of rows.old.items)) }
 {
     let mut kept = 0;
     for place in 0..rows.len() {

@@ -1,6 +1,6 @@
 //! The tables.
 ghost use Rattle.std.specs.Prelude.{◌≡◌, IfOk, OnOk};
-ghost use Rattle.state_facts.specs.States.{noted};
+ghost use Rattle.state_facts.specs.States.{state_after};
 ghost use Rattle.judge_rows.specs.Judged.{CanNote, nothing_judged};
 
 use crate::captures::note_captures;
@@ -67,7 +67,7 @@ impl JudgeTables {
     /// memory runs out.
     pub fn note(&mut self, script: &Script, entry: &Entry) -> Result<(), NoMemory>
         requires { CanNote script.now entry.now self.old }
-        ensures { OnOk result (self.new ≡ record self.old { state = noted script.now entry.now self.old.state }) }
+        ensures { OnOk result (self.new ≡ record self.old { state = state_after script.now entry.now self.old.state }) }
     {
         let next = self.captures.peek();
         let settings = settings_next(next);

@@ -6,7 +6,7 @@ use Rattle.cam_types.specs.declared.number.BufferId.{BufferId}
 use Rattle.cam_types.specs.declared.number.FenceNo.{FenceNo}
 use Rattle.cam_types.specs.declared.number.FrameNo.{FrameNo}
 use Rattle.cam_types.specs.declared.number.RequestId.{RequestId}
-use Rattle.cam_types.specs.declared.part.Part.{Part}
+use Rattle.cam_types.specs.declared.partial_result.PartialResult.{PartialResult}
 use Rattle.cam_types.specs.declared.script.Script.{Script}
 use Rattle.cam_types.specs.Metadata.{part_at}
 use Rattle.trace_model.specs.declared.entry.Entry.{Entry}
@@ -15,7 +15,7 @@ use Rattle.trace_model.specs.Drop.{drop_of, drop_due}
 use Rattle.trace_model.specs.Fence.{early_fence_of, is_there}
 use Rattle.trace_model.specs.Frames.{settings_of, shutter_time}
 use Rattle.trace_model.specs.Numbers.{next_number, next_fence}
-use Rattle.trace_model.specs.Partial.{part_count, part_of, partial_due, may_part}
+use Rattle.trace_model.specs.Partial.{partial_count, partial_of, partial_due, may_have_partial}
 use Rattle.trace_model.specs.Place.{Client, place, is_at}
 use Rattle.trace_model.specs.Queue.{queued, first_in}
 use Rattle.cam_types.specs.declared.request.WaitingItem.{WaitingItem}
@@ -59,8 +59,12 @@ drop_named past None n r i = (λ h. absurd (false≢true h), λ e. absurd (cc))
 drop_named past (Some w) n r i =
     Decides-like _ (λ h. ap Some (drop_same (next_number past) w.request w.index n r i h.0 h.1.0 h.1.1)) (λ e. (frame_number (next_number past) n (cc), (request_number w.request r (cc), cc))) (Decides-and _ _ (Decides-eqb (next_number past) n.0) (Decides-and _ _ (Decides-eqb w.request.0 r.0) (Decides-eqb w.index i)))
 
-pub drop_rule : (script : Script) (past : List Entry) (n : FrameNo) (r : RequestId) (i : ℕ) → IsTrue (drops script past n.0 r.0 i) ↔ (drop_due script past ≡ Some (Dropped n r i))
+drop_rule : (script : Script) (past : List Entry) (n : FrameNo) (r : RequestId) (i : ℕ) → IsTrue (drops script past n.0 r.0 i) ↔ (drop_due script past ≡ Some (Dropped n r i))
 drop_rule script past n r i = when_other (is_stopping past) _ _ _ (drop_named past (first_in (queued script past)) n r i)
+
+-- by the parts of the test
+pub drop_by : (script : Script) (past : List Entry) (n : FrameNo) (r : RequestId) (i : ℕ) (stopping named : Bool) → stopping ≡ is_stopping past → named ≡ is_named past (first_in (queued script past)) n.0 r.0 i → IsTrue (stopping && named) ↔ (drop_due script past ≡ Some (Dropped n r i))
+drop_by script past n r i stopping named s m = rw (s, m) (drop_rule script past n r i)
 
 -- ---- shutters
 
@@ -86,21 +90,21 @@ pub release_rule : (past : List Entry) (b : BufferId) (f : FenceNo) → IsTrue (
 release_rule past b f =
     when_other (is_at (place b.0 past) Client && is_there (early_fence_of b.0 past) past) (next_fence past == f.0) (Some (Release b (record { 0 = next_fence past }))) (Release b f) (Decides-like _ (λ h. ap Some (release_same (next_fence past) b f h)) (λ e. fence_number (next_fence past) f (cc)) (Decides-eqb (next_fence past) f.0))
 
--- ---- metadata results
+-- ---- partial results
 
-part_number_at : (t : Bool) (m : FrameNo) (k : ℕ) (part : Part) (n : FrameNo) (j : ℕ) (other : Part) → (if t then Some (Partial m k part) else None) ≡ Some (Partial n j other) → k ≡ j
+part_number_at : (t : Bool) (m : FrameNo) (k : ℕ) (part : PartialResult) (n : FrameNo) (j : ℕ) (other : PartialResult) → (if t then Some (Partial m k part) else None) ≡ Some (Partial n j other) → k ≡ j
 part_number_at true m k part n j other e = cc
 part_number_at false m k part n j other e = absurd (cc)
 
-part_number : (script : Script) (past : List Entry) (n k : ℕ) (time : Option ℕ) (m : FrameNo) (j : ℕ) (part : Part) → part_of script past n k time ≡ Some (Partial m j part) → k ≡ j
+part_number : (script : Script) (past : List Entry) (n k : ℕ) (time : Option ℕ) (m : FrameNo) (j : ℕ) (part : PartialResult) → partial_of script past n k time ≡ Some (Partial m j part) → k ≡ j
 part_number script past n k None m j part e = absurd (cc)
-part_number script past n k (Some time) m j part e = part_number_at (may_part script past n k) (record { 0 = n }) k (part_at k (settings_of script past n) time) m j part e
+part_number script past n k (Some time) m j part e = part_number_at (may_have_partial script past n k) (record { 0 = n }) k (part_at k (settings_of script past n) time) m j part e
 
 -- a part of the next number is the next
-pub next_part : (script : Script) (past : List Entry) (n : FrameNo) (k : ℕ) (part : Part) (due : Bool) → part_count n.0 past + 1 ≡ k → (IsTrue due ↔ (part_of script past n.0 k (shutter_time n.0 past) ≡ Some (Partial n k part))) → IsTrue due ↔ (partial_due script past n.0 ≡ Some (Partial n k part))
+pub next_part : (script : Script) (past : List Entry) (n : FrameNo) (k : ℕ) (part : PartialResult) (due : Bool) → partial_count n.0 past + 1 ≡ k → (IsTrue due ↔ (partial_of script past n.0 k (shutter_time n.0 past) ≡ Some (Partial n k part))) → IsTrue due ↔ (partial_due script past n.0 ≡ Some (Partial n k part))
 next_part script past n k part due e h = rw e h
 
 -- a part of another number isn't
-pub no_other_part : (script : Script) (past : List Entry) (n : FrameNo) (k : ℕ) (part : Part) → (part_count n.0 past + 1 == k) ≡ false → IsTrue false ↔ (partial_due script past n.0 ≡ Some (Partial n k part))
+pub no_other_part : (script : Script) (past : List Entry) (n : FrameNo) (k : ℕ) (part : PartialResult) → (partial_count n.0 past + 1 == k) ≡ false → IsTrue false ↔ (partial_due script past n.0 ≡ Some (Partial n k part))
 no_other_part script past n k part no' =
-    (λ a. absurd (false≢true a), λ e. let same = (Decides-eqb (part_count n.0 past + 1) k).1 (part_number script past n.0 (part_count n.0 past + 1) (shutter_time n.0 past) n k part e) in absurd (false≢true (sym no' ∙ same)))
+    (λ a. absurd (false≢true a), λ e. let same = (Decides-eqb (partial_count n.0 past + 1) k).1 (part_number script past n.0 (partial_count n.0 past + 1) (shutter_time n.0 past) n k part e) in absurd (false≢true (sym no' ∙ same)))

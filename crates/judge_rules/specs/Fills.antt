@@ -16,25 +16,23 @@ use Rattle.trace_model.specs.Picture.{digest_of}
 -- Whether a filled buffer is the one that is due, but for its digest (our own choice): it is proved to say, with the
 -- digest, what `trace_model` says of the entry.
 
-abbrev pub fills_as : Script → List Entry → ℕ → ℕ → ℕ → Option FenceNo → Option Sent → Bool
-fills_as script past n s b f (Some t) = may_deliver script past n s t && (not (is_some f) && (t.buffer.0 == b))
-fills_as script past n s b f None = false
+abbrev pub delivers_as : Script → List Entry → ℕ → ℕ → ℕ → Option Sent → Bool
+delivers_as script past n s b (Some t) = may_deliver script past n s t && (t.buffer.0 == b)
+delivers_as script past n s b None = false
 
--- the buffer is that of the frame's target, which may be delivered, and needs no fence
+-- the buffer is that of the frame's target, which may be delivered
+abbrev pub delivers : Script → List Entry → ℕ → ℕ → ℕ → Bool
+delivers script past n s b = delivers_as script past n s b (target_of n s past)
+
+-- ... and it needs no fence
 abbrev pub fills : Script → List Entry → ℕ → ℕ → ℕ → Option FenceNo → Bool
-fills script past n s b f = fills_as script past n s b f (target_of n s past)
+fills script past n s b f = not (is_some f) && delivers script past n s b
 
 -- ---- early returns
 
-abbrev pub returns_early_as : Script → List Entry → ℕ → ℕ → ℕ → ℕ → Option Sent → Bool
-returns_early_as script past n s b d (Some t) =
-    (script.early && may_deliver script past n s t) && ((next_early past == d) && (t.buffer.0 == b))
-returns_early_as script past n s b d None = false
-
--- the buffer is that of the frame's target, which may be delivered, the script has early returns, and the device fence
--- is the next
+-- ... the script has early returns, and the device fence is the next
 abbrev pub returns_early : Script → List Entry → ℕ → ℕ → ℕ → ℕ → Bool
-returns_early script past n s b d = returns_early_as script past n s b d (target_of n s past)
+returns_early script past n s b d = (script.early && (next_early past == d)) && delivers script past n s b
 
 -- the frame and the stream of an early return
 abbrev pub early_in : Option Entry → Option (FrameNo × StreamIx)

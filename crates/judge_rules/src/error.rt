@@ -84,8 +84,9 @@ fn fails_at_a_send(script: &Script, entries: &[Entry]) -> bool
         .any(|entry| sends_failing(script, entries, entry))
 }
 
+/// Whether the device fails at a frame that was sent.
 #[tactic(auto, using(crate::proofs::RuleLemmas::frames_any))]
-fn fails_at_a_frame(script: &Script, entries: &[Entry]) -> bool
+pub fn fails_at_a_frame(script: &Script, entries: &[Entry]) -> bool
     ensures { result ≡ list_any (may_fail_device_at script.now (reverse entries.now)) (frames (reverse entries.now)) }
 {
     fails_at_a_send(script, entries)

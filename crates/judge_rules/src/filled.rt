@@ -2,13 +2,11 @@
 ghost use Rattle.std.specs.Prelude.{◌≡◌, reverse, find, option_copied};
 ghost use Rattle.trace_model.specs.Entry.{is_early_with};
 ghost use Rattle.trace_model.specs.Filled.{is_sound, may_deliver};
-ghost use Rattle.judge_rules.specs.Fills.{fills_as, fills, returns_early_as, returns_early, early_in, fills_late};
+ghost use Rattle.judge_rules.specs.Fills.{delivers, early_in, fills_late};
 
-use cam_types::{BufferId, FenceNo, FrameNo, Script, StreamIx};
-use judge_entries::entry::is_early_with;
+use cam_types::{BufferId, DeviceFenceNo, FrameNo, Script, StreamIx};
 use judge_entries::fault::{buffer_fault, request_fault};
-use judge_entries::number::next_early;
-use judge_filters::fence::{is_late, is_passed};
+use judge_filters::fence::{early_return, is_late, is_passed};
 use judge_filters::frame::{has_error_request, has_shutter, target_of};
 use judge_filters::open::has_error_buffer;
 use judge_filters::order::earlier_let_pass;
@@ -38,85 +36,22 @@ fn may_deliver(
         && (is_passed(entries, sent.fence) && earlier_let_pass(entries, stream, frame))
 }
 
-/// Whether the frame's target for the stream may come back as this buffer, with this fence.
-fn fills_as(
+/// Whether the buffer is that of the frame's target for the stream, and may come back with its picture.
+pub fn delivers(
     script: &Script,
     entries: &[Entry],
     frame: FrameNo,
     stream: StreamIx,
     buffer: BufferId,
-    fence: Option<FenceNo>,
-    target: Option<Sent>,
 ) -> bool
-    ensures { result ≡ fills_as script.now (reverse entries.now) frame.0 stream.0 buffer.0 fence target }
+    ensures { result ≡ delivers script.now (reverse entries.now) frame.0 stream.0 buffer.0 }
 {
-    match target {
+    match target_of(entries, frame, stream) {
         Some(sent) => {
-            may_deliver(script, entries, frame, stream, sent)
-                && (fence.is_none() && sent.buffer.0 == buffer.0)
+            may_deliver(script, entries, frame, stream, sent) && sent.buffer.0 == buffer.0
         }
         None => false,
     }
-}
-
-/// Whether the buffer is due back with its picture, with the fence.
-pub fn fills(
-    script: &Script,
-    entries: &[Entry],
-    frame: FrameNo,
-    stream: StreamIx,
-    buffer: BufferId,
-    fence: Option<FenceNo>,
-) -> bool
-    ensures { result ≡ fills script.now (reverse entries.now) frame.0 stream.0 buffer.0 fence }
-{
-    let target = target_of(entries, frame, stream);
-    fills_as(script, entries, frame, stream, buffer, fence, target)
-}
-
-/// Whether the frame's target for the stream may come back early as this buffer, with this device fence.
-fn returns_early_as(
-    script: &Script,
-    entries: &[Entry],
-    frame: FrameNo,
-    stream: StreamIx,
-    buffer: BufferId,
-    fence: FenceNo,
-    target: Option<Sent>,
-) -> bool
-    ensures { result ≡ returns_early_as script.now (reverse entries.now) frame.0 stream.0 buffer.0 fence.0 target }
-{
-    match target {
-        Some(sent) => {
-            (script.early && may_deliver(script, entries, frame, stream, sent))
-                && (next_early(entries) == fence.0 as usize && sent.buffer.0 == buffer.0)
-        }
-        None => false,
-    }
-}
-
-/// Whether the buffer is due back early, with the device fence.
-pub fn returns_early(
-    script: &Script,
-    entries: &[Entry],
-    frame: FrameNo,
-    stream: StreamIx,
-    buffer: BufferId,
-    fence: FenceNo,
-) -> bool
-    ensures { result ≡ returns_early script.now (reverse entries.now) frame.0 stream.0 buffer.0 fence.0 }
-{
-    let target = target_of(entries, frame, stream);
-    returns_early_as(script, entries, frame, stream, buffer, fence, target)
-}
-
-fn last_early_with(entries: &[Entry], fence: FenceNo) -> Option<&Entry>
-    ensures { option_copied result ≡ find (is_early_with fence.0) (reverse entries.now) }
-{
-    entries
-        .iter()
-        .rev()
-        .find(|entry| is_early_with(entry, fence))
 }
 
 /// The frame and the stream of an early return.
@@ -130,14 +65,14 @@ fn early_in(entry: Option<&Entry>) -> Option<(FrameNo, StreamIx)>
 }
 
 /// The frame and the stream whose buffer came back early with the device fence.
-pub fn early_with(entries: &[Entry], fence: FenceNo) -> Option<(FrameNo, StreamIx)>
+pub fn early_with(entries: &[Entry], fence: DeviceFenceNo) -> Option<(FrameNo, StreamIx)>
     ensures { result ≡ early_in (find (is_early_with fence.0) (reverse entries.now)) }
 {
-    early_in(last_early_with(entries, fence))
+    early_in(early_return(entries, fence))
 }
 
 /// The frame and the stream whose picture is due with the signal of the device fence.
-pub fn fills_late(entries: &[Entry], fence: FenceNo) -> Option<(FrameNo, StreamIx)>
+pub fn fills_late(entries: &[Entry], fence: DeviceFenceNo) -> Option<(FrameNo, StreamIx)>
     ensures { result ≡ fills_late (reverse entries.now) fence.0 }
 {
     if is_late(entries, fence) {

@@ -1,15 +1,13 @@
-//! When a queued item is dropped.
+//! Which queued item a drop names.
 ghost use Rattle.std.specs.Prelude.{◌≡◌, reverse};
-ghost use Rattle.judge_rules.specs.Rules.{is_named, drops};
+ghost use Rattle.judge_rules.specs.Rules.{is_named};
 
-use cam_types::{FrameNo, RequestId, Script, WaitingItem};
+use cam_types::{FrameNo, RequestId, WaitingItem};
 use judge_entries::number::next_number;
-use judge_filters::queue::first_queued;
-use judge_filters::stopping::is_stopping;
 use trace_model::Entry;
 
 /// Whether the drop of the item, under the next number, has this frame, request and place.
-fn is_named(
+pub(crate) fn is_named(
     entries: &[Entry],
     waiting: Option<WaitingItem>,
     frame: FrameNo,
@@ -23,17 +21,4 @@ fn is_named(
             && (waiting.request.0 == request.0 && waiting.index == item),
         None => false,
     }
-}
-
-/// Whether the drop is due.
-pub fn drops(
-    script: &Script,
-    entries: &[Entry],
-    frame: FrameNo,
-    request: RequestId,
-    item: u32,
-) -> bool
-    ensures { result ≡ drops script.now (reverse entries.now) frame.0 request.0 item }
-{
-    is_stopping(entries) && is_named(entries, first_queued(script, entries), frame, request, item)
 }

@@ -1,29 +1,34 @@
 //! Whether an entry of a kind is allowed after the entries before it: all kinds but calls and sends, and of a filled
 //! buffer and of the signal of a device fence all but the digest.
-ghost use Rattle.std.specs.Prelude.{◌≡◌, ◌↔◌, ◌==◌, ◌+◌, ℕ, List, reverse, IsTrue};
+ghost use Rattle.std.specs.Prelude.{◌≡◌, ◌↔◌, ◌==◌, ◌&&◌, ◌+◌, ℕ, List, reverse, IsTrue};
 ghost use Rattle.cam_types.specs.declared.script.Script.{Script as SomeScript};
 ghost use Rattle.trace_model.specs.Allowed.{IsAllowed};
-ghost use Rattle.trace_model.specs.Partial.{part_count};
+ghost use Rattle.trace_model.specs.Numbers.{next_early};
+ghost use Rattle.trace_model.specs.Partial.{partial_count};
 ghost use Rattle.trace_model.specs.Picture.{digest_of};
 ghost use Rattle.judge_rules.specs.Fills.{is_digest_in};
 
 use crate::buffer::{failed_due, releases, signals_next};
 use crate::client::begin_due;
 use crate::error::{may_fail_buffer, may_fail_device, may_fail_request, may_fail_result};
-use crate::filled::{fills, fills_late, returns_early};
+use crate::filled::{delivers, fills_late};
 use crate::metadata::part_numbered;
-use crate::queued::drops;
+use crate::queued::is_named;
 use crate::same::is_due;
 use crate::sensor::exposes;
-use cam_types::{BufferId, FenceNo, FrameNo, Part, RequestId, Script, StreamIx, Word};
-use judge_entries::number::part_count;
+use cam_types::{
+    BufferId, DeviceFenceNo, FenceNo, FrameNo, PartialResult, RequestId, Script, StreamIx, Word,
+};
+use judge_entries::number::{next_early, partial_count};
+use judge_filters::queue::first_queued;
+use judge_filters::stopping::is_stopping;
 use trace_model::Entry;
 
-/// Whether the number is that of the frame's next metadata result.
+/// Whether the number is that of the frame's next partial result.
 fn is_next_part(entries: &[Entry], frame: FrameNo, number: u8) -> bool
-    ensures { result ≡ (part_count frame.0 (reverse entries.now) + 1 == number) }
+    ensures { result ≡ (partial_count frame.0 (reverse entries.now) + 1 == number) }
 {
-    part_count(entries, frame) as u128 + 1 == number as u128
+    partial_count(entries, frame) as u128 + 1 == number as u128
 }
 
 /// Whether the begin of a command with the word is due.
@@ -43,7 +48,7 @@ pub fn is_dropped_due(
 ) -> bool
     ensures { IsTrue result ↔ IsAllowed script.now (reverse entries.now) (Entry.Dropped frame request item) }
 {
-    drops(script, entries, frame, request, item)
+    is_stopping(entries) && is_named(entries, first_queued(script, entries), frame, request, item)
 }
 
 /// Whether the shutter of the frame at the time is due.
@@ -53,13 +58,13 @@ pub fn is_shutter_due(script: &Script, entries: &[Entry], frame: FrameNo, time: 
     exposes(script, entries, frame, time)
 }
 
-/// Whether the metadata result of the frame is due, with the number and the part.
+/// Whether the partial result of the frame is due, with the number and the part.
 pub fn is_partial_due(
     script: &Script,
     entries: &[Entry],
     frame: FrameNo,
     number: u8,
-    part: Part,
+    part: PartialResult,
 ) -> bool
     ensures { IsTrue result ↔ IsAllowed script.now (reverse entries.now) (Entry.Partial frame number part) }
 {
@@ -87,7 +92,14 @@ pub fn is_fill_due(
         ((IsTrue result × (digest ≡ digest_of script.now (reverse entries.now) frame.0 stream.0)) ↔
         IsAllowed script.now (reverse entries.now) (Entry.Filled frame stream buffer fence digest)) }
 {
-    fills(script, entries, frame, stream, buffer, fence)
+    fence.is_none() && delivers(script, entries, frame, stream, buffer)
+}
+
+/// Whether the script has early returns, and the device fence is the next.
+fn is_next_early(script: &Script, entries: &[Entry], fence: DeviceFenceNo) -> bool
+    ensures { result ≡ (script.now.early && (next_early (reverse entries.now) == fence.0)) }
+{
+    script.early && next_early(entries) == fence.0 as usize
 }
 
 /// Whether the buffer is due back early, with the device fence.
@@ -97,16 +109,16 @@ pub fn is_early_due(
     frame: FrameNo,
     stream: StreamIx,
     buffer: BufferId,
-    fence: FenceNo,
+    fence: DeviceFenceNo,
 ) -> bool
     ensures { IsTrue result ↔ IsAllowed script.now (reverse entries.now) (Entry.Early frame stream buffer fence) }
 {
-    returns_early(script, entries, frame, stream, buffer, fence)
+    is_next_early(script, entries, fence) && delivers(script, entries, frame, stream, buffer)
 }
 
 /// The frame and the stream whose picture is due with the signal of the device fence: with the picture's digest, and
 /// with no other one. None where the signal isn't due with any.
-pub fn late_due(entries: &[Entry], fence: FenceNo) -> Option<(FrameNo, StreamIx)>
+pub fn late_due(entries: &[Entry], fence: DeviceFenceNo) -> Option<(FrameNo, StreamIx)>
     ensures { (script : SomeScript) (digest : List ℕ) →
         (is_digest_in script (reverse entries.now) result digest ↔
         IsAllowed script (reverse entries.now) (Entry.Late fence digest)) }

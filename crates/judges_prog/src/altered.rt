@@ -1,6 +1,9 @@
 //! An entry with one of its parts altered.
 
-use cam_types::{BufferId, FenceNo, Four, FrameNo, Part, Reply, RequestId, StreamIx, Word};
+use cam_types::{
+    BufferId, DeviceFenceNo, FenceNo, Four, FrameNo, PartialResult, Reply, RequestId, StreamIx,
+    Word,
+};
 use trace_model::{Entry, Sent};
 
 /// The most alterations of an entry: an entry has at most so many parts.
@@ -38,6 +41,10 @@ fn next_fence(fence: FenceNo) -> FenceNo {
     FenceNo(fence.0.wrapping_add(1))
 }
 
+fn next_device_fence(fence: DeviceFenceNo) -> DeviceFenceNo {
+    DeviceFenceNo(fence.0.wrapping_add(1))
+}
+
 fn next_request(request: RequestId) -> RequestId {
     RequestId(request.0.wrapping_add(1))
 }
@@ -56,17 +63,17 @@ fn other_digest(digest: [u8; 32]) -> [u8; 32] {
     other
 }
 
-fn other_part(part: Part) -> Part {
+fn other_part(part: PartialResult) -> PartialResult {
     match part {
-        Part::Look { pattern, level } => Part::Look {
+        PartialResult::Look { pattern, level } => PartialResult::Look {
             pattern,
             level: level.wrapping_add(1),
         },
-        Part::Light { exposure, iso } => Part::Light {
+        PartialResult::Light { exposure, iso } => PartialResult::Light {
             exposure,
             iso: iso.wrapping_add(1),
         },
-        Part::Time { timestamp } => Part::Time {
+        PartialResult::Time { timestamp } => PartialResult::Time {
             timestamp: timestamp.wrapping_add(1),
         },
     }
@@ -162,9 +169,12 @@ fn altered_buffer(entry: Entry, number: u8) -> Option<Entry> {
         (Entry::Filled { fence, .. } | Entry::Failed { fence, .. }, 3) => {
             *fence = other_fence(*fence);
         }
-        (Entry::Early { fence, .. }, 3)
-        | (Entry::Release { fence, .. }, 1)
-        | (Entry::Signal { fence } | Entry::Late { fence, .. }, 0) => *fence = next_fence(*fence),
+        (Entry::Release { fence, .. }, 1) | (Entry::Signal { fence }, 0) => {
+            *fence = next_fence(*fence);
+        }
+        (Entry::Early { fence, .. }, 3) | (Entry::Late { fence, .. }, 0) => {
+            *fence = next_device_fence(*fence);
+        }
         (Entry::Filled { digest, .. }, 4) | (Entry::Late { digest, .. }, 1) => {
             *digest = other_digest(*digest);
         }

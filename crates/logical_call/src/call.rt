@@ -1,14 +1,13 @@
 //! `logical`: a script is read and run on two cameras, and what both did is written.
-ghost use Rattle.std.specs.Prelude.{◌≡◌, ◌≢◌, ◌≤◌, IfSome, IsTrue};
-ghost use Rattle.std.specs.Io.KnownBytes.{IsAtEnd};
-ghost use Rattle.cam_types.specs.Script.{is_valid};
-ghost use Rattle.call_parts.specs.Answers.{Tells, TellsBy};
-ghost use Rattle.call_parts.specs.Ends.{CountsSink, CountsSource, ReadsBy};
+ghost use Rattle.std.specs.Prelude.{◌≡◌};
+ghost use Rattle.call_parts.specs.Answers.{OnDone, Tells, TellsBy};
+ghost use Rattle.call_parts.specs.Ends.{KeepsEnds};
 ghost use Rattle.logical_camera.specs.Both.{at_first};
-ghost use Rattle.logical_call.specs.Logical.{IsLogicalWhole, TellsBoth, TellsOfRun, TellsOfScript};
+ghost use Rattle.logical_call.specs.Logical.{IsLogicalWhole, TellsBoth, TellsOfRun};
+ghost use Rattle.call_parts.specs.Status.{status_number};
 
 use crate::text::run_text;
-use call_parts::{ScriptWork, Status, answer, answer_script, refuse_script};
+use call_parts::{ScriptInput, ScriptWork, Status, answer, answer_input, refuse_script};
 use cam_types::{SCRIPT_BYTES, Script};
 use io_edge::{Sink, Source};
 use logical_camera::{
@@ -31,7 +30,11 @@ impl ScriptWork for BothCameras {
     ghost belongs = { λ _. TellsOfScript };
 
     fn answer_script<K: Sink>(&self, alloc: Global, script: Script, sink: &mut K) -> Status {
-        run_script(alloc, &script, sink)
+        match Logical::open(alloc, &script) {
+            Err(LogicalRefused::NotLogical) => refuse_script(alloc, 0, NOT_LOGICAL, sink),
+            Err(LogicalRefused::NoMemory) => Status::NoMemory,
+            Ok(cameras) => run_cameras(alloc, cameras, sink),
+        }
     }
 
     #[tactic(auto, using(crate::proofs::Telling::are_told))]
@@ -44,46 +47,28 @@ pub fn logical_call<S: Source, K: Sink>(alloc: Global, source: &mut S, sink: &mu
     // At status 0 the source was read to its end, its bytes spell a logical script, and what was written is the joint
     // run that the script's picks choose, whole, and nothing else. Both parts are complete and keep the laws, and each
     // item has just one pair.
-    ensures whole { result.number ≡ 0 → IsAtEnd (S.left source.new)
-        × IfSome (S.left source.old) (λ input. IsLogicalWhole input (K.state sink.old) (K.state sink.new)) }
-    // Each status and each text has its cause in the input's meaning: where no end failed and memory was there, the
-    // status and the text are those that belong to it. At status 4 a front of that text is written.
-    ensures tells { Tells TellsBoth (S.left source.old) result.number (K.state sink.old) (K.state sink.new) }
-    // The source's count of faults rose at 3 alone, and the sink's at 4 alone; at 3 and 5 nothing was written. At 0 the
-    // source was read to its end; where there is another answer, too, or it has more than the limit.
-    ensures source { CountsSource result.number (S.faults source.old) (S.faults source.new) }
-    ensures sink { CountsSink result.number (K.state sink.old) (K.state sink.new) }
-    ensures read { ReadsBy SCRIPT_BYTES result.number (S.left source.old) (S.left source.new) }
-    ensures known { result.number ≤ 5 }
-    ensures no_usage { result.number ≢ 2 }
+    ensures whole { OnDone IsLogicalWhole (status_number result) (S.left source.old) (S.left source.new) (K.state sink.old)
+        (K.state sink.new) }
+    // Each status and each text has its cause in the input's meaning.
+    ensures tells { Tells TellsBoth (S.left source.old) (status_number result) (K.state sink.old) (K.state sink.new) }
+    ensures ends { KeepsEnds SCRIPT_BYTES (status_number result) (S.faults source.old) (S.faults source.new) (S.left source.old)
+        (S.left source.new) (K.state sink.old) (K.state sink.new) }
 {
     a_complete_run_keeps_the_laws();
     a_joint_run_is_bounded();
     a_joint_run_has_one_pair_for_each_item();
-    answer_script(alloc, source, sink, &BothCameras)
-}
-
-/// Runs a script on two cameras, where it is logical.
-fn run_script<K: Sink>(alloc: Global, script: &Script, sink: &mut K) -> Status
-    requires { IsTrue (is_valid script.now) }
-    ensures { TellsBy (TellsOfScript script.now) result.number (K.state sink.old) (K.state sink.new) }
-{
-    match Logical::open(alloc, script) {
-        Err(LogicalRefused::NotLogical) => refuse_script(alloc, 0, NOT_LOGICAL, sink),
-        Err(LogicalRefused::NoMemory) => Status::NO_MEMORY,
-        Ok(cameras) => run_cameras(alloc, cameras, sink),
-    }
+    answer_input(alloc, source, sink, SCRIPT_BYTES, &ScriptInput(BothCameras))
 }
 
 /// Runs two cameras to their end, and writes what both did.
 fn run_cameras<K: Sink>(alloc: Global, mut cameras: Logical, sink: &mut K) -> Status
     requires { cameras ≡ at_first cameras.script }
-    ensures { TellsBy (TellsOfRun cameras.script) result.number (K.state sink.old) (K.state sink.new) }
+    ensures { TellsBy (TellsOfRun cameras.script) (status_number result) (K.state sink.old) (K.state sink.new) }
 {
     let text = run_text(alloc, &mut cameras);
     cameras.scrap();
     match text {
-        Ok(text) => answer(sink, text.as_slice(), Status::DONE),
-        Err(_) => Status::NO_MEMORY,
+        Ok(text) => answer(sink, text.as_slice(), Status::Done),
+        Err(_) => Status::NoMemory,
     }
 }

@@ -14,8 +14,11 @@ use Rattle.run_model.specs.State.{State}
 use Rattle.run_model.specs.History.{trace_of, with_entry}
 use Rattle.logical_camera.specs.Both.{Both, camera}
 use Rattle.logical_camera.specs.Pairing.{frame_after, pair_between}
-use Rattle.logical_camera.specs.Turns.{IsOver, MakesChoice, MakesStep, choice, pair_by}
+use Rattle.logical_camera.specs.Turns.{IsOver, IsTurn, MakesChoice, MakesStep, choice, pair_by}
+use Rattle.logical_camera.specs.Whose.{turn_of}
+use Rattle.logical_camera.specs.declared.turn.Turn.TheVariants as turn
 use Rattle.logical_camera.proofs.Stepping.{before-it}
+use Rattle.logical_camera.proofs.Turning.{turn-first, turn-second}
 
 -- both cameras, as a contract sees them
 abbrev pub view : State → State → Both
@@ -41,15 +44,18 @@ pair-second other past (Some e) sides f s = rw (← f, ← s) (of-second e sides
 
 -- ---- steps
 
+-- the trace of the camera that makes a step, before it and with it
+own-traces : (past grown : List Entry) (before now : List Entry) (o : Option Entry) → grown ≡ with_entry o past → before ≡ take (length (reverse past)) (reverse grown) → now ≡ reverse grown → (reverse before ≡ past) × (reverse now ≡ with_entry o past)
+own-traces past grown before now o is hb hn =
+    (ap reverse hb ∙ (ap (λ (t : List Entry). reverse (take (length (reverse past)) (reverse t))) is ∙ before-it o past), ap reverse hn ∙ (reverse-reverse grown ∙ is))
+
 pub step-first : (f s f' : State) (number : ℕ) (entry : Option Entry) (pair : Option Paired) (before first second : List Entry) → MakesChoice f f' number entry → before ≡ take (length (reverse (trace_of f.history))) (reverse (trace_of f'.history)) → first ≡ reverse (trace_of f'.history) → second ≡ reverse (trace_of s.history) → pair ≡ pair_between (reverse before) (reverse second) (reverse first) (reverse second) (frame_after (reverse before) entry) → MakesStep 0 (view f s) (view f' s) number entry pair
 step-first f s f' number entry pair before first second made hb hf hs is =
     let past = trace_of f.history in
     let o = made.move.entry in
-    let grown : trace_of f'.history ≡ with_entry o past = ap (λ (x : State). trace_of x.history) made.left in
-    let before-is : reverse before ≡ past = ap reverse hb ∙ (ap (λ (t : List Entry). reverse (take (length (reverse past)) (reverse t))) grown ∙ before-it o past) in
-    let first-is : reverse first ≡ with_entry o past = ap reverse hf ∙ (reverse-reverse (trace_of f'.history) ∙ grown) in
+    let own = own-traces past (trace_of f'.history) before first o (ap (λ (x : State). trace_of x.history) made.left) hb hf in
     let second-is : reverse second ≡ trace_of s.history = ap reverse hs ∙ reverse-reverse (trace_of s.history) in
-    let whole : pair ≡ pair_between past (trace_of s.history) (with_entry o past) (trace_of s.history) (frame_after past o) = is ∙ rw (before-is, first-is, second-is, made.of) refl in
+    let whole : pair ≡ pair_between past (trace_of s.history) (with_entry o past) (trace_of s.history) (frame_after past o) = is ∙ rw (own.0, own.1, second-is, made.of) refl in
     record {
       move = made.move;
       chosen = made.chosen;
@@ -62,11 +68,9 @@ pub step-second : (f s s' : State) (number : ℕ) (entry : Option Entry) (pair :
 step-second f s s' number entry pair before first second script made hb hf hs is =
     let past = trace_of s.history in
     let o = made.move.entry in
-    let grown : trace_of s'.history ≡ with_entry o past = ap (λ (x : State). trace_of x.history) made.left in
-    let before-is : reverse before ≡ past = ap reverse hb ∙ (ap (λ (t : List Entry). reverse (take (length (reverse past)) (reverse t))) grown ∙ before-it o past) in
-    let second-is : reverse second ≡ with_entry o past = ap reverse hs ∙ (reverse-reverse (trace_of s'.history) ∙ grown) in
+    let own = own-traces past (trace_of s'.history) before second o (ap (λ (x : State). trace_of x.history) made.left) hb hs in
     let first-is : reverse first ≡ trace_of f.history = ap reverse hf ∙ reverse-reverse (trace_of f.history) in
-    let whole : pair ≡ pair_between (trace_of f.history) past (trace_of f.history) (with_entry o past) (frame_after past o) = is ∙ rw (before-is, first-is, second-is, made.of) refl in
+    let whole : pair ≡ pair_between (trace_of f.history) past (trace_of f.history) (with_entry o past) (frame_after past o) = is ∙ rw (own.0, first-is, own.1, made.of) refl in
     record {
       move = made.move;
       chosen = subst (λ (t : Script). choice (record { script = t; history = s.history }) number ≡ Some made.move) script made.chosen;
@@ -75,10 +79,17 @@ step-second f s s' number entry pair before first second script made hb hf hs is
       paired = λ sides are. whole ∙ (pair-second (trace_of f.history) past o sides are.first are.second ∙ ap (λ (e : Option Entry). pair_by 1 e sides) (sym made.of));
     }
 
--- ---- which runs are complete
+-- ---- whose turn it is, by which runs are complete
 
-pub first-done : (f s : State) (b : Bool) → (IsTrue b ↔ IsComplete f.script (trace_of f.history)) → (IsTrue b ↔ IsOver (camera 0 (view f s)))
+first-done : (f s : State) (b : Bool) → (IsTrue b ↔ IsComplete f.script (trace_of f.history)) → (IsTrue b ↔ IsOver (camera 0 (view f s)))
 first-done f s b h = h
 
-pub second-done : (f s : State) (b : Bool) → s.script ≡ without_faults f.script → (IsTrue b ↔ IsComplete s.script (trace_of s.history)) → (IsTrue b ↔ IsOver (camera 1 (view f s)))
+second-done : (f s : State) (b : Bool) → s.script ≡ without_faults f.script → (IsTrue b ↔ IsComplete s.script (trace_of s.history)) → (IsTrue b ↔ IsOver (camera 1 (view f s)))
 second-done f s b script h = subst (λ (t : Script). IsTrue b ↔ IsComplete t (trace_of s.history)) script h
+
+pub turns : (pick : ℕ) (f s : State) (both : Both) (a b : Bool) → view f s ≡ both → s.script ≡ without_faults f.script → (IsTrue a ↔ IsComplete f.script (trace_of f.history)) → (IsTrue b ↔ IsComplete s.script (trace_of s.history)) → (turn_of pick a b ≡ turn.First → IsTurn both pick 0) × (turn_of pick a b ≡ turn.Second → IsTurn both pick 1)
+turns pick f s both a b is script first second =
+    let f-done = first-done f s a first in
+    let s-done = second-done f s b script second in
+    let turns' : (turn_of pick a b ≡ turn.First → IsTurn (view f s) pick 0) × (turn_of pick a b ≡ turn.Second → IsTurn (view f s) pick 1) = (turn-first pick (view f s) a b f-done s-done, turn-second pick (view f s) a b f-done s-done) in
+    subst (λ (v : Both). (turn_of pick a b ≡ turn.First → IsTurn v pick 0) × (turn_of pick a b ≡ turn.Second → IsTurn v pick 1)) is turns'

@@ -7,7 +7,7 @@ use Rattle.cam_types.specs.declared.number.BufferId.{BufferId}
 use Rattle.cam_types.specs.declared.number.FenceNo.{FenceNo}
 use Rattle.cam_types.specs.declared.number.FrameNo.{FrameNo}
 use Rattle.cam_types.specs.declared.number.StreamIx.{StreamIx}
-use Rattle.cam_types.specs.declared.part.Part.{Part}
+use Rattle.cam_types.specs.declared.partial_result.PartialResult.{PartialResult}
 use Rattle.cam_types.specs.declared.script.Script.{Script}
 use Rattle.trace_model.specs.declared.entry.Entry.{Entry}
 use Rattle.trace_model.specs.declared.entry.Entry.TheVariants.{Send, Dropped, Partial, Filled}
@@ -59,7 +59,7 @@ ended-none : (p r q : Bool) → p ≡ false → r ≡ false → q ≡ false → 
 ended-none p r q a b c h = rw (a, b, c) at h
 
 -- no part of it comes
-no-part : (script : Script) (past : List Entry) (n : FrameNo) (k : ℕ) (part : Part) → IsLegal script past → partial_due script past n.0 ≡ Some (Partial n k part) → is_ended n.0 past ≡ true → (k == 3) ≡ false
+no-part : (script : Script) (past : List Entry) (n : FrameNo) (k : ℕ) (part : PartialResult) → IsLegal script past → partial_due script past n.0 ≡ Some (Partial n k part) → is_ended n.0 past ≡ true → (k == 3) ≡ false
 no-part script past n k part legal may ended = elim (cases_Bool (k == 3)) [
   | inl last ↦ (
       let is = part-is script past n k part may in

@@ -13,7 +13,7 @@ ghost use Rattle.logical_camera.specs.Turns.{AnswersStep, HasLine, IsRefused, Is
 
 use crate::camera::Camera;
 use crate::copies::{copied, copied_without_faults};
-use crate::pairing::{pair_by_first, pair_by_second};
+use crate::pairing::pair_after;
 use crate::turn::{Turn, turn_of};
 use crate::{Paired, is_logical};
 use cam_types::{NoMemory, Script};
@@ -110,7 +110,9 @@ impl Logical {
         let seen = self.first.trace().len();
         let entry = self.first.step(u64::from(number));
         let first = self.first.trace();
-        let paired = pair_by_first(entry, &first[..seen], first, self.second.trace());
+        let before = &first[..seen];
+        let second = self.second.trace();
+        let paired = pair_after(entry, before, before, second, first, second);
         LogicalStep::Did {
             camera: 0,
             entry,
@@ -127,7 +129,9 @@ impl Logical {
         let seen = self.second.trace().len();
         let entry = self.second.step(u64::from(number));
         let second = self.second.trace();
-        let paired = pair_by_second(entry, &second[..seen], self.first.trace(), second);
+        let before = &second[..seen];
+        let first = self.first.trace();
+        let paired = pair_after(entry, before, first, before, first, second);
         LogicalStep::Did {
             camera: 1,
             entry,

@@ -9,8 +9,8 @@ ghost use Rattle.logical_camera.specs.Taken.{drops};
 ghost use Rattle.trace_model.specs.Entry.{is_early_with};
 
 use crate::{PairEnd, Paired};
-use cam_types::{FenceNo, Four, FrameNo, StreamIx};
-use judge_entries::entry::is_early_with;
+use cam_types::{DeviceFenceNo, Four, FrameNo, StreamIx};
+use judge_filters::fence::early_return;
 use judge_filters::frame::{is_sent, targets_of};
 use judge_filters::open::{has_part, is_open};
 use trace_model::{Entry, Sent};
@@ -40,14 +40,10 @@ fn is_ended(entries: &[Entry], frame: FrameNo) -> bool
 fn fills(entry: &Entry, frame: FrameNo, stream: StreamIx) -> bool
     ensures { result ≡ fills frame.0 stream.0 entry.now }
 {
-    match entry {
-        Entry::Filled {
-            frame: of,
-            stream: on,
-            ..
-        } => of.0 == frame.0 && on.0 == stream.0,
-        _ => false,
-    }
+    matches!(
+        entry,
+        Entry::Filled { frame: of, stream: on, .. } if of.0 == frame.0 && on.0 == stream.0
+    )
 }
 
 /// Whether the frame's buffer for the stream came back with its picture.
@@ -89,21 +85,11 @@ fn is_whole(entries: &[Entry], frame: FrameNo) -> bool
     has_part(entries, frame, 3) && all_filled(entries, frame)
 }
 
-/// The entry by which a buffer came back early with the device fence.
-fn early_entry(entries: &[Entry], fence: FenceNo) -> Option<&Entry>
-    ensures { option_copied result ≡ find (is_early_with fence.0) (reverse entries.now) }
-{
-    entries
-        .iter()
-        .rev()
-        .find(|entry| is_early_with(entry, fence))
-}
-
 /// The frame of the buffer that came back early with the device fence.
-fn early_frame(entries: &[Entry], fence: FenceNo) -> Option<FrameNo>
+fn early_frame(entries: &[Entry], fence: DeviceFenceNo) -> Option<FrameNo>
     ensures { option_map (λ frame. frame.0) result ≡ early_frame (find (is_early_with fence.0) (reverse entries.now)) }
 {
-    match early_entry(entries, fence) {
+    match early_return(entries, fence) {
         Some(Entry::Early { frame, .. }) => Some(*frame),
         _ => None,
     }
@@ -155,38 +141,21 @@ fn paired(first: &[Entry], second: &[Entry], frame: FrameNo) -> Paired
     }
 }
 
-/// The frame that has ended in the second of the two by the first camera's entry, if it has one; this was the
-/// part of its trace before.
-pub(crate) fn pair_by_first(
+/// The frame that has ended in the second of the two by an entry, if it ends one: `own` is the trace of the entry's
+/// camera before it, and both cameras had the two traces before.
+pub(crate) fn pair_after(
     entry: Option<Entry>,
-    before: &[Entry],
+    own: &[Entry],
+    first_before: &[Entry],
+    second_before: &[Entry],
     first: &[Entry],
     second: &[Entry],
 ) -> Option<Paired>
-    ensures { result ≡ pair_between (reverse before.now) (reverse second.now) (reverse first.now) (reverse second.now)
-        (frame_after (reverse before.now) entry) }
+    ensures { result ≡ pair_between (reverse first_before.now) (reverse second_before.now) (reverse first.now) (reverse second.now)
+        (frame_after (reverse own.now) entry) }
 {
-    let frame = frame_of(before, &entry?)?;
-    if have_ended(first, second, frame) && !have_ended(before, second, frame) {
-        Some(paired(first, second, frame))
-    } else {
-        None
-    }
-}
-
-/// The frame that has ended in the second of the two by the second camera's entry, if it has one; this was the
-/// part of its trace before.
-pub(crate) fn pair_by_second(
-    entry: Option<Entry>,
-    before: &[Entry],
-    first: &[Entry],
-    second: &[Entry],
-) -> Option<Paired>
-    ensures { result ≡ pair_between (reverse first.now) (reverse before.now) (reverse first.now) (reverse second.now)
-        (frame_after (reverse before.now) entry) }
-{
-    let frame = frame_of(before, &entry?)?;
-    if have_ended(first, second, frame) && !have_ended(first, before, frame) {
+    let frame = frame_of(own, &entry?)?;
+    if have_ended(first, second, frame) && !have_ended(first_before, second_before, frame) {
         Some(paired(first, second, frame))
     } else {
         None

@@ -3,11 +3,11 @@ use Rattle.std.proofs.Common.{◌≡◌, ℕ, ◌+◌, ◌^◌, ◌<◌, Bool, t
 use Rattle.std.specs.Prelude.{◌⊎◌, ◌&&◌, pos, negsuc}
 use Rattle.std.proofs.lemmas.Bool.{eqb-true, leb-true, false≢true}
 use Rattle.cam_types.specs.Metadata.{pattern_tag, level_tag, exposure_tag, sensitivity_tag, timestamp_tag}
-use Rattle.cam_types.specs.declared.part.Part.{Part}
-use Rattle.cam_types.specs.declared.part.Part.TheVariants.{Look, Light, Time}
+use Rattle.cam_types.specs.declared.partial_result.PartialResult.{PartialResult}
+use Rattle.cam_types.specs.declared.partial_result.PartialResult.TheVariants.{Look, Light, Time}
 use Rattle.metadata.specs.declared.entry.Entry.{Entry}
 use Rattle.metadata.specs.declared.values.Values.{Values}
-use Rattle.metadata.specs.declared.values.Values.TheVariants.{Bytes, Int32, Int64, Rational}
+use Rattle.metadata.specs.declared.values.Values.TheVariants.{Bytes, Int32, Int64}
 use Rattle.metadata.specs.Entries.{values_at, ascends_from, IsEntry, IsPacked, NumbersFit}
 use Rattle.metadata_rules.specs.Numbers.{one_byte, one_int32, one_int64, byte_entry, int32_entry, int64_entry}
 use Rattle.metadata_rules.specs.Parts.{part_entries, part_number, part_in, PartFits, PatternFits}
@@ -16,35 +16,16 @@ use Rattle.basic_lemmas.proofs.Tests.{and-parts}
 -- ---- one number under a tag
 
 pub byte_is : (o : Option Values) (n : ℕ) → one_byte o ≡ Some n → o ≡ Some (Bytes (n ∷ []))
-byte_is None n h = absurd (cc)
-byte_is (Some (Bytes [])) n h = absurd (cc)
 byte_is (Some (Bytes (m ∷ []))) n h = let e : m ≡ n = cc in ap (λ (k : ℕ). Some (Bytes (k ∷ []))) e
-byte_is (Some (Bytes (m ∷ k ∷ ms))) n h = absurd (cc)
-byte_is (Some (Int32 _)) n h = absurd (cc)
-byte_is (Some (Int64 _)) n h = absurd (cc)
-byte_is (Some (Rational _)) n h = absurd (cc)
+byte_is _ n h = absurd (cc)
 
 pub int32_is : (o : Option Values) (n : ℕ) → one_int32 o ≡ Some n → o ≡ Some (Int32 (pos n ∷ []))
-int32_is None n h = absurd (cc)
-int32_is (Some (Bytes _)) n h = absurd (cc)
-int32_is (Some (Int32 [])) n h = absurd (cc)
 int32_is (Some (Int32 (pos m ∷ []))) n h = let e : m ≡ n = cc in ap (λ (k : ℕ). Some (Int32 (pos k ∷ []))) e
-int32_is (Some (Int32 (negsuc m ∷ []))) n h = absurd (cc)
-int32_is (Some (Int32 (pos m ∷ z ∷ zs))) n h = absurd (cc)
-int32_is (Some (Int32 (negsuc m ∷ z ∷ zs))) n h = absurd (cc)
-int32_is (Some (Int64 _)) n h = absurd (cc)
-int32_is (Some (Rational _)) n h = absurd (cc)
+int32_is _ n h = absurd (cc)
 
 pub int64_is : (o : Option Values) (n : ℕ) → one_int64 o ≡ Some n → o ≡ Some (Int64 (pos n ∷ []))
-int64_is None n h = absurd (cc)
-int64_is (Some (Bytes _)) n h = absurd (cc)
-int64_is (Some (Int32 _)) n h = absurd (cc)
-int64_is (Some (Int64 [])) n h = absurd (cc)
 int64_is (Some (Int64 (pos m ∷ []))) n h = let e : m ≡ n = cc in ap (λ (k : ℕ). Some (Int64 (pos k ∷ []))) e
-int64_is (Some (Int64 (negsuc m ∷ []))) n h = absurd (cc)
-int64_is (Some (Int64 (pos m ∷ z ∷ zs))) n h = absurd (cc)
-int64_is (Some (Int64 (negsuc m ∷ z ∷ zs))) n h = absurd (cc)
-int64_is (Some (Rational _)) n h = absurd (cc)
+int64_is _ n h = absurd (cc)
 
 -- ---- a list of one entry, or of two
 
@@ -108,17 +89,17 @@ int32_entry_is tag n small = record { tag = small; some = omega arith; few = ome
 int64_entry_is : (tag n : ℕ) → tag < 2 ^ 32 → IsEntry (int64_entry tag n)
 int64_entry_is tag n small = record { tag = small; some = omega arith; few = omega arith }
 
-pub part_packed : (p : Part) → IsPacked (part_entries p)
+pub part_packed : (p : PartialResult) → IsPacked (part_entries p)
 part_packed (Look pattern level) = record { ascending = refl; entries = omega arith; area = omega arith; each = (byte_entry_is pattern_tag pattern (omega arith), (int32_entry_is level_tag level (omega arith), tt)) }
 part_packed (Light exposure iso) = record { ascending = refl; entries = omega arith; area = omega arith; each = (int64_entry_is exposure_tag exposure (omega arith), (int32_entry_is sensitivity_tag iso (omega arith), tt)) }
 part_packed (Time timestamp) = record { ascending = refl; entries = omega arith; area = omega arith; each = (int64_entry_is timestamp_tag timestamp (omega arith), tt) }
 
-pub part_numbers : (p : Part) → PatternFits p → PartFits p → NumbersFit (part_entries p)
+pub part_numbers : (p : PartialResult) → PatternFits p → PartFits p → NumbersFit (part_entries p)
 part_numbers (Look pattern level) small fits = ((small, tt), ((record { sfits = fits }, tt), tt))
 part_numbers (Light exposure iso) small fits = ((record { sfits = fits.0 }, tt), ((record { sfits = fits.1 }, tt), tt))
 part_numbers (Time timestamp) small fits = ((record { sfits = fits }, tt), tt)
 
-pub part_again : (p : Part) → part_in (part_number p) (part_entries p) ≡ Some p
+pub part_again : (p : PartialResult) → part_in (part_number p) (part_entries p) ≡ Some p
 unfolding part_in
 part_again (Look pattern level) = refl
 part_again (Light exposure iso) = refl

@@ -3,7 +3,7 @@
 ghost use Rattle.std.specs.Prelude.{◌≡◌, None, Some, Ok};
 ghost use Rattle.cam_types.specs.Metadata.{range_fault};
 ghost use Rattle.cam_types.specs.declared.item.Settings.{Settings as SomeSettings};
-ghost use Rattle.cam_types.specs.declared.part.Part.{Part as APart};
+ghost use Rattle.cam_types.specs.declared.partial_result.PartialResult.{PartialResult as APart};
 ghost use Rattle.metadata.specs.Reading.{list_of};
 ghost use Rattle.metadata.specs.Spelling.{bytes_of};
 ghost use Rattle.metadata_rules.specs.Numbers.{settings_in, settings_entries};

@@ -1,4 +1,4 @@
-//! The camera's tags: ranges of settings, templates, what each of a frame's metadata results says, settings and results
+//! The camera's tags: ranges of settings, templates, what each of a frame's partial results says, settings and results
 //! as packed metadata.
 #![tactic(auto)]
 

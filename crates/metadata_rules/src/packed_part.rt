@@ -1,12 +1,12 @@
-//! The packed form of a metadata result, and what it is read as.
+//! The packed form of a partial result, and what it is read as.
 ghost use Rattle.std.specs.Prelude.{◌≡◌, ◌≢◌, ◌-◌, ◌++◌, length, replicate, IfSome, IfNone};
-ghost use Rattle.cam_types.specs.declared.part.Part.{Part as APart};
+ghost use Rattle.cam_types.specs.declared.partial_result.PartialResult.{PartialResult as APart};
 ghost use Rattle.metadata.specs.Spelling.{bytes_of};
 ghost use Rattle.metadata_rules.specs.Parts.{part_entries, part_in, look_in, light_in, time_in, part_number, PartFits};
 
 use crate::number::{byte_at, int32_at, int64_at};
 use crate::rule::{EXPOSURE, LEVEL, PATTERN, SENSITIVITY, TIMESTAMP};
-use cam_types::Part;
+use cam_types::PartialResult;
 use metadata::Packed;
 
 /// The most bytes that the packed form of a part has.
@@ -61,60 +61,60 @@ fn time_bytes(timestamp: u64) -> [u8; PART_BYTES]
 
 /// The packed form of a part, with no memory taken.
 #[tactic(auto, unfolding(metadata::specs::Spelling::bytes_of, metadata::specs::Spelling::entry_bytes))]
-pub fn part_bytes(part: Part) -> PartBytes
+pub fn part_bytes(part: PartialResult) -> PartBytes
     requires { PartFits part }
     ensures used { result.used ≡ length (bytes_of (part_entries part)) }
     ensures bytes { result.bytes ≡ bytes_of (part_entries part) ++ replicate (PART_BYTES - result.used) 0 }
 {
     match part {
-        Part::Look { pattern, level } => PartBytes {
+        PartialResult::Look { pattern, level } => PartBytes {
             used: 48,
             bytes: look_bytes(pattern, level),
         },
-        Part::Light { exposure, iso } => PartBytes {
+        PartialResult::Light { exposure, iso } => PartBytes {
             used: 56,
             bytes: light_bytes(exposure, iso),
         },
-        Part::Time { timestamp } => PartBytes {
+        PartialResult::Time { timestamp } => PartBytes {
             used: 40,
             bytes: time_bytes(timestamp),
         },
     }
 }
 
-fn look_of(packed: &Packed) -> Option<Part>
+fn look_of(packed: &Packed) -> Option<PartialResult>
     ensures part { result ≡ look_in packed.now }
     ensures some { IfSome result (λ part. (part_number part ≡ 1) × (packed.now ≡ part_entries part)) }
 {
     let pattern = byte_at(packed, PATTERN)?;
     let level = int32_at(packed, LEVEL)?;
     if packed.entries().len() == 2 {
-        Some(Part::Look { pattern, level })
+        Some(PartialResult::Look { pattern, level })
     } else {
         None
     }
 }
 
-fn light_of(packed: &Packed) -> Option<Part>
+fn light_of(packed: &Packed) -> Option<PartialResult>
     ensures part { result ≡ light_in packed.now }
     ensures some { IfSome result (λ part. (part_number part ≡ 2) × (packed.now ≡ part_entries part)) }
 {
     let exposure = int64_at(packed, EXPOSURE)?;
     let iso = int32_at(packed, SENSITIVITY)?;
     if packed.entries().len() == 2 {
-        Some(Part::Light { exposure, iso })
+        Some(PartialResult::Light { exposure, iso })
     } else {
         None
     }
 }
 
-fn time_of(packed: &Packed) -> Option<Part>
+fn time_of(packed: &Packed) -> Option<PartialResult>
     ensures part { result ≡ time_in packed.now }
     ensures some { IfSome result (λ part. (part_number part ≡ 3) × (packed.now ≡ part_entries part)) }
 {
     let timestamp = int64_at(packed, TIMESTAMP)?;
     if packed.entries().len() == 1 {
-        Some(Part::Time { timestamp })
+        Some(PartialResult::Time { timestamp })
     } else {
         None
     }
@@ -122,7 +122,7 @@ fn time_of(packed: &Packed) -> Option<Part>
 
 /// Part `k` of a frame's metadata, where the entries are those of that part.
 #[tactic(auto, unfolding(crate::specs::Parts::part_in))]
-pub fn part_of(k: u8, packed: &Packed) -> Option<Part>
+pub fn part_of(k: u8, packed: &Packed) -> Option<PartialResult>
     ensures part { result ≡ part_in k packed.now }
     ensures some { IfSome result (λ part. (part_number part ≡ k) × (packed.now ≡ part_entries part)) }
     ensures none { IfNone result ((part : APart) → part_number part ≡ k → packed.now ≢ part_entries part) }

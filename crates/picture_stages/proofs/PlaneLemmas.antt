@@ -27,12 +27,13 @@ pair-of-rows values k y =
     let column : k % 320 % 160 ≡ k % 160 = omega arith in
     rw column refl
 
-luma-160 : (values : List ℕ) (x y : ℕ) → at_cell luma values (x / 2 * 2) (y / 2 * 2) ≡ of_cell luma values 160 120 x y
+-- a cell of the sensor is that of a place of a picture
+cell-is : (part : ℕ → ℕ → ℕ → ℕ) (values : List ℕ) (width height x y i j : ℕ) → cell_at x width 160 ≡ i → cell_at y height 120 ≡ j → at_cell part values i j ≡ of_cell part values width height x y
 unfolding at_cell
-luma-160 values x y =
-    let column : cell_at x 160 160 ≡ x / 2 * 2 = omega arith in
-    let row : cell_at y 120 120 ≡ y / 2 * 2 = omega arith in
-    rw (column, row) refl
+cell-is part values width height x y i j column row = rw (column, row) refl
+
+luma-160 : (values : List ℕ) (x y : ℕ) → at_cell luma values (x / 2 * 2) (y / 2 * 2) ≡ of_cell luma values 160 120 x y
+luma-160 values x y = cell-is luma values 160 120 x y (x / 2 * 2) (y / 2 * 2) (omega arith) (omega arith)
 
 -- all rows are written, of cells that are step columns and rows of the sensor apart
 pub cells-all : (part : ℕ → ℕ → ℕ → ℕ) (values : List ℕ) (step width height y : ℕ) (xs : List ℕ) → height ≤ y → y ≤ height → length xs ≡ width * height → ((k : ℕ) → k < y * width → get_or xs k 0 ≡ at_cell part values (k % width * step) (k / width * step)) → xs ≡ plane (λ x z. at_cell part values (x * step) (z * step)) width height
@@ -53,64 +54,37 @@ chroma-all part values step width height xs len each =
     plane-all (λ x z. at_cell part values (x * step) (z * step)) width height xs len (λ k h.
     each k (omega arith) ∙ ap (λ z. at_cell part values (k % width * step) (z * step)) (add-zero (k / width)))
 
--- rows of 80 places are pairs of rows of 40, whose cells are four columns and rows of the sensor apart
-quarter-rows : (part : ℕ → ℕ → ℕ → ℕ) (values : List ℕ) (k : ℕ) → at_cell part values (k % 80 % 40 * 4) (k % 80 / 40 * 4 + k / 80 * 8) ≡ at_cell part values (k % 40 * 4) (k / 40 * 4)
-quarter-rows part values k =
-    let column : k % 80 % 40 * 4 ≡ k % 40 * 4 = omega arith in
-    let row : k % 80 / 40 * 4 + k / 80 * 8 ≡ k / 40 * 4 = omega arith in
-    rw (column, row) refl
+-- all rows are written, at cells that are step columns and rows of the sensor apart
+pairs-all : (values : List ℕ) (step width height : ℕ) (xs : List ℕ) (column row : ℕ → ℕ) → length xs ≡ width * height → ((k : ℕ) → k < width * height → get_or xs k 0 ≡ at_cell luma values (column k) (row k)) → ((k : ℕ) → column k ≡ k % width * step) → ((k : ℕ) → row k ≡ k / width * step) → xs ≡ plane (λ x y. at_cell luma values (x * step) (y * step)) width height
+pairs-all values step width height xs column row len each is-column is-row =
+    plane-all (λ x y. at_cell luma values (x * step) (y * step)) width height xs len (λ k h. each k h ∙ rw (is-column k, is-row k) refl)
 
+-- rows of 80 places are pairs of rows of 40, whose cells are four columns and rows of the sensor apart
 pub quarter-luma-all : (values : List ℕ) (pair : ℕ) (xs : List ℕ) → 15 ≤ pair → length xs ≡ 1200 → ((k : ℕ) → k < pair * 80 → get_or xs k 0 ≡ at_cell luma values (k % 80 % 40 * 4) (k % 80 / 40 * 4 + k / 80 * 8)) → xs ≡ plane (λ x y. at_cell luma values (x * 4) (y * 4)) 40 30
 quarter-luma-all values pair xs all len each =
-    plane-all (λ x y. at_cell luma values (x * 4) (y * 4)) 40 30 xs len (λ k h. each k (omega arith) ∙ quarter-rows luma values k)
+    pairs-all values 4 40 30 xs (λ k. k % 80 % 40 * 4) (λ k. k % 80 / 40 * 4 + k / 80 * 8) len (λ k h. each k (omega arith)) (λ k. omega arith) (λ k. omega arith)
 
 -- rows of 160 places are pairs of rows of 80, whose cells are two columns and rows of the sensor apart
-half-rows : (part : ℕ → ℕ → ℕ → ℕ) (values : List ℕ) (k : ℕ) → at_cell part values (k % 160 % 80 * 2) (k % 160 / 80 * 2 + k / 160 * 4) ≡ at_cell part values (k % 80 * 2) (k / 80 * 2)
-half-rows part values k =
-    let column : k % 160 % 80 * 2 ≡ k % 80 * 2 = omega arith in
-    let row : k % 160 / 80 * 2 + k / 160 * 4 ≡ k / 80 * 2 = omega arith in
-    rw (column, row) refl
-
 pub half-luma-all : (values : List ℕ) (pair : ℕ) (xs : List ℕ) → 30 ≤ pair → length xs ≡ 4800 → ((k : ℕ) → k < pair * 160 → get_or xs k 0 ≡ at_cell luma values (k % 160 % 80 * 2) (k % 160 / 80 * 2 + k / 160 * 4)) → xs ≡ plane (λ x y. at_cell luma values (x * 2) (y * 2)) 80 60
 half-luma-all values pair xs all len each =
-    plane-all (λ x y. at_cell luma values (x * 2) (y * 2)) 80 60 xs len (λ k h. each k (omega arith) ∙ half-rows luma values k)
+    pairs-all values 2 80 60 xs (λ k. k % 160 % 80 * 2) (λ k. k % 160 / 80 * 2 + k / 160 * 4) len (λ k h. each k (omega arith)) (λ k. omega arith) (λ k. omega arith)
 
 -- ---- the pictures of the three sizes
 
 luma-80 : (values : List ℕ) (x y : ℕ) → at_cell luma values (x * 2) (y * 2) ≡ of_cell luma values 80 60 x y
-unfolding at_cell
-luma-80 values x y =
-    let column : cell_at x 80 160 ≡ x * 2 = omega arith in
-    let row : cell_at y 60 120 ≡ y * 2 = omega arith in
-    rw (column, row) refl
+luma-80 values x y = cell-is luma values 80 60 x y (x * 2) (y * 2) (omega arith) (omega arith)
 
 luma-40 : (values : List ℕ) (x y : ℕ) → at_cell luma values (x * 4) (y * 4) ≡ of_cell luma values 40 30 x y
-unfolding at_cell
-luma-40 values x y =
-    let column : cell_at x 40 160 ≡ x * 4 = omega arith in
-    let row : cell_at y 30 120 ≡ y * 4 = omega arith in
-    rw (column, row) refl
+luma-40 values x y = cell-is luma values 40 30 x y (x * 4) (y * 4) (omega arith) (omega arith)
 
 chroma-160 : (part : ℕ → ℕ → ℕ → ℕ) (values : List ℕ) (i j : ℕ) → at_cell part values (i * 2) (j * 2) ≡ of_cell part values 160 120 (2 * i) (2 * j)
-unfolding at_cell
-chroma-160 part values i j =
-    let column : cell_at (2 * i) 160 160 ≡ i * 2 = omega arith in
-    let row : cell_at (2 * j) 120 120 ≡ j * 2 = omega arith in
-    rw (column, row) refl
+chroma-160 part values i j = cell-is part values 160 120 (2 * i) (2 * j) (i * 2) (j * 2) (omega arith) (omega arith)
 
 chroma-80 : (part : ℕ → ℕ → ℕ → ℕ) (values : List ℕ) (i j : ℕ) → at_cell part values (i * 4) (j * 4) ≡ of_cell part values 80 60 (2 * i) (2 * j)
-unfolding at_cell
-chroma-80 part values i j =
-    let column : cell_at (2 * i) 80 160 ≡ i * 4 = omega arith in
-    let row : cell_at (2 * j) 60 120 ≡ j * 4 = omega arith in
-    rw (column, row) refl
+chroma-80 part values i j = cell-is part values 80 60 (2 * i) (2 * j) (i * 4) (j * 4) (omega arith) (omega arith)
 
 chroma-40 : (part : ℕ → ℕ → ℕ → ℕ) (values : List ℕ) (i j : ℕ) → at_cell part values (i * 8) (j * 8) ≡ of_cell part values 40 30 (2 * i) (2 * j)
-unfolding at_cell
-chroma-40 part values i j =
-    let column : cell_at (2 * i) 40 160 ≡ i * 8 = omega arith in
-    let row : cell_at (2 * j) 30 120 ≡ j * 8 = omega arith in
-    rw (column, row) refl
+chroma-40 part values i j = cell-is part values 40 30 (2 * i) (2 * j) (i * 8) (j * 8) (omega arith) (omega arith)
 
 picture-of : (width height : ℕ) (values y b r : List ℕ) → y ≡ plane (of_cell luma values width height) width height → b ≡ plane (λ i j. of_cell chroma_blue values width height (2 * i) (2 * j)) (width / 2) (height / 2) → r ≡ plane (λ i j. of_cell chroma_red values width height (2 * i) (2 * j)) (width / 2) (height / 2) → y ++ (b ++ r) ≡ yuv_picture width height values
 unfolding yuv_picture

@@ -1,6 +1,6 @@
 use Rattle.std.specs.Prelude.{◌≡◌, ℕ, ◌+◌, ◌*◌, ◌/◌, ◌%◌, ◌<◌, ◌≤◌, List, length, slice_index}
 use Rattle.std.specs.List.{All}
-use Rattle.cam_types.specs.Picture.{red_of, green_of, blue_of, luma}
+use Rattle.cam_types.specs.Picture.{red_of, green_of, blue_of, luma, chroma_blue, chroma_red}
 use Rattle.picture_stages.specs.declared.strip.Colours.{Colours}
 use Rattle.picture_stages.specs.declared.strip.Filters.{Filters}
 
@@ -37,3 +37,24 @@ AreWideRows values pair rows = (k : ℕ) → k < length rows →
 abbrev pub AreChromaRows : (ℕ → ℕ → ℕ → ℕ) → List ℕ → ℕ → ℕ → ℕ → List ℕ → Type 0
 AreChromaRows part values step width first rows = (k : ℕ) → k < length rows →
     slice_index rows k ≡ at_cell part values (k % width * step) ((k / width + first) * step)
+
+-- so many pairs of rows of the three planes of a picture of the sensor's size, from a pair on
+abbrev pub IsBand : List ℕ → ℕ → List ℕ → List ℕ → List ℕ → Type 0
+IsBand values first y blue red =
+    AreWideRows values first y
+    × AreChromaRows chroma_blue values 2 80 first blue
+    × AreChromaRows chroma_red values 2 80 first red
+
+-- the planes of a picture of the sensor's size have room for so many pairs of rows
+abbrev pub HaveRoomFor : ℕ → List ℕ → List ℕ → List ℕ → Type 0
+HaveRoomFor pairs y blue red = (length y ≡ pairs * 320) × (length blue ≡ pairs * 80) × (length red ≡ pairs * 80)
+
+-- a readout of the sensor: 160 columns and 120 rows of values between dark and full
+abbrev pub IsReadout : List ℕ → Type 0
+IsReadout values = (length values ≡ 19200) × All (λ v. (64 ≤ v) × (v ≤ 1023)) values
+
+-- eight values, each as far above darkness as that of the sensor's at its place
+pub record IsLane (place : ℕ → ℕ) (values lane : List ℕ) : Type 0 where
+  pub each : (k : ℕ) → k < 8 → slice_index lane k + 64 ≡ slice_index values (place k)
+  pub len : length lane ≡ 8
+  pub range : All (λ v. v ≤ 959) lane

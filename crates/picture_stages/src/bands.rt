@@ -2,7 +2,7 @@
 ghost use Rattle.std.specs.Prelude.{◌≡◌, ◌+◌, ◌*◌, ◌≤◌, length};
 ghost use Rattle.std.specs.List.{All};
 ghost use Rattle.cam_types.specs.Picture.{chroma_blue, chroma_red};
-ghost use Rattle.picture_stages.specs.Cells.{AreWideRows, AreChromaRows};
+ghost use Rattle.picture_stages.specs.Cells.{AreWideRows, AreChromaRows, HaveRoomFor, IsBand, IsReadout};
 ghost use denote.Param.Send.{IsSync};
 
 use crate::wide::write_band;
@@ -44,32 +44,18 @@ pub fn write_bands<R: Threads + Sync>(
     join_mut(
         rt,
         &mut ||
-            requires { IsSync R.row
-                × (length values.now ≡ 19200)
-                × All (λ v. (64 ≤ v) × (v ≤ 1023)) values.now
-                × (first + front ≤ 60)
-                × (length front_luma.now ≡ front * 320)
-                × (length front_blue.now ≡ front * 80)
-                × (length front_red.now ≡ front * 80) }
-            ensures { AreWideRows values.entry.now first front_luma.exit.now
-                × AreChromaRows chroma_blue values.entry.now 2 80 first front_blue.exit.now
-                × AreChromaRows chroma_red values.entry.now 2 80 first front_red.exit.now }
+            requires { IsSync R.row × IsReadout values.now × (first + front ≤ 60)
+                × HaveRoomFor front front_luma.now front_blue.now front_red.now }
+            ensures { IsBand values.entry.now first front_luma.exit.now front_blue.exit.now front_red.exit.now }
         {
             write_bands(
                 rt, before, values, first, front, front_luma, front_blue, front_red,
             )
         },
         &mut ||
-            requires { IsSync R.row
-                × (length values.now ≡ 19200)
-                × All (λ v. (64 ≤ v) × (v ≤ 1023)) values.now
-                × (middle + back ≤ 60)
-                × (length back_luma.now ≡ back * 320)
-                × (length back_blue.now ≡ back * 80)
-                × (length back_red.now ≡ back * 80) }
-            ensures { AreWideRows values.entry.now middle back_luma.exit.now
-                × AreChromaRows chroma_blue values.entry.now 2 80 middle back_blue.exit.now
-                × AreChromaRows chroma_red values.entry.now 2 80 middle back_red.exit.now }
+            requires { IsSync R.row × IsReadout values.now × (middle + back ≤ 60)
+                × HaveRoomFor back back_luma.now back_blue.now back_red.now }
+            ensures { IsBand values.entry.now middle back_luma.exit.now back_blue.exit.now back_red.exit.now }
         {
             write_bands(
                 rt, after, values, middle, back, back_luma, back_blue, back_red,

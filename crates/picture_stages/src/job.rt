@@ -8,12 +8,17 @@ use cam_types::{FrameNo, Readout, Settings};
 use std::marker::Model;
 use std::thread::Threads;
 
+/// A frame, its settings and its readout.
+struct Exposure {
+    frame: FrameNo,
+    settings: Settings,
+    readout: Readout,
+}
+
 /// A frame that the sensor is to expose, with the readout that it may write. It must be spent: it is neither dropped
 /// nor copied, and ends by `expose` or `expose_bands` alone.
 pub struct SensorJob {
-    frame: FrameNo,
-    settings: Settings,
-    scratch: Readout,
+    exposure: Exposure,
 }
 
 impl Model for SensorJob {
@@ -23,17 +28,15 @@ impl Model for SensorJob {
 
     ghost Value = { JobView };
 
-    ghost view = { λ j. record { frame = j.frame; settings = j.settings; fill = None } };
+    ghost view = { λ j. record { frame = j.exposure.frame; settings = j.exposure.settings; fill = None } };
 
-    ghost invariant = { λ j. range_fault j.settings ≡ None };
+    ghost invariant = { λ j. range_fault j.exposure.settings ≡ None };
 }
 
 /// A frame that was exposed. Its readout has the values that the frame and its settings determine. It must be spent:
 /// it is neither dropped nor copied, and ends by `into_parts` alone.
 pub struct ExposedJob {
-    frame: FrameNo,
-    settings: Settings,
-    readout: Readout,
+    exposure: Exposure,
 }
 
 impl Model for ExposedJob {
@@ -43,9 +46,9 @@ impl Model for ExposedJob {
 
     ghost Value = { JobView };
 
-    ghost view = { λ j. record { frame = j.frame; settings = j.settings; fill = None } };
+    ghost view = { λ j. record { frame = j.exposure.frame; settings = j.exposure.settings; fill = None } };
 
-    ghost invariant = { λ j. j.readout ≡ readout_of j.settings j.frame.0 };
+    ghost invariant = { λ j. j.exposure.readout ≡ readout_of j.exposure.settings j.exposure.frame.0 };
 }
 
 impl SensorJob {
@@ -54,11 +57,12 @@ impl SensorJob {
         requires { range_fault settings ≡ None }
         ensures { result ≡ record { frame = frame; settings = settings; fill = None } }
     {
-        SensorJob {
+        let exposure = Exposure {
             frame,
             settings,
-            scratch,
-        }
+            readout: scratch,
+        };
+        SensorJob { exposure }
     }
 
     /// The number of the frame.
@@ -66,24 +70,17 @@ impl SensorJob {
         ensures number { result ≡ self.now.frame }
         ensures no_fill { self.now.fill ≡ None }
     {
-        self.frame
+        self.exposure.frame
     }
 
     /// Exposes the frame.
     pub fn expose(self) -> ExposedJob
         ensures { result ≡ self }
     {
-        let SensorJob {
-            frame,
-            settings,
-            mut scratch,
-        } = self;
-        write_readout(settings, frame, scratch.values_mut());
-        ExposedJob {
-            frame,
-            settings,
-            readout: scratch,
-        }
+        let SensorJob { mut exposure } = self;
+        let values = exposure.readout.values_mut();
+        write_readout(exposure.settings, exposure.frame, values);
+        ExposedJob { exposure }
     }
 
     /// Exposes the frame as `expose` does, its rows in 1 to 8 bands that are written side by side, each by a thread of
@@ -93,17 +90,15 @@ impl SensorJob {
         requires most { bands ≤ 8 }
         ensures { result ≡ self }
     {
-        let SensorJob {
-            frame,
-            settings,
-            mut scratch,
-        } = self;
-        write_readout_bands(rt, settings, frame, bands, scratch.values_mut());
-        ExposedJob {
-            frame,
-            settings,
-            readout: scratch,
-        }
+        let SensorJob { mut exposure } = self;
+        write_readout_bands(
+            rt,
+            exposure.settings,
+            exposure.frame,
+            bands,
+            exposure.readout.values_mut(),
+        );
+        ExposedJob { exposure }
     }
 }
 
@@ -113,7 +108,7 @@ impl ExposedJob {
         ensures number { result ≡ self.now.frame }
         ensures no_fill { self.now.fill ≡ None }
     {
-        self.frame
+        self.exposure.frame
     }
 
     /// The frame, its settings and its readout.
@@ -122,11 +117,12 @@ impl ExposedJob {
         ensures settings { result.1 ≡ self.settings }
         ensures values { result.2 ≡ readout_of self.settings self.frame.0 }
     {
-        let ExposedJob {
+        let ExposedJob { exposure } = self;
+        let Exposure {
             frame,
             settings,
             readout,
-        } = self;
+        } = exposure;
         (frame, settings, readout)
     }
 }

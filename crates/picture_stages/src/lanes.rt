@@ -1,6 +1,7 @@
 //! Parts lines of the sensor's values by lanes, 16 or 32 values at a time, and takes the darkness off them.
-ghost use Rattle.std.specs.Prelude.{◌≡◌, ℕ, ◌+◌, ◌*◌, ◌/◌, ◌%◌, ◌<◌, ◌≤◌, length, slice_index};
+ghost use Rattle.std.specs.Prelude.{◌≡◌, ◌+◌, ◌*◌, ◌/◌, ◌%◌, ◌≤◌, length};
 ghost use Rattle.std.specs.List.{All};
+ghost use Rattle.picture_stages.specs.Cells.{IsLane};
 
 use std::simd::prelude::*;
 
@@ -8,9 +9,7 @@ use std::simd::prelude::*;
 fn above_dark(values: u16x8) -> u16x8
     requires len { length values ≡ 8 }
     requires values { All (λ v. (64 ≤ v) × (v ≤ 1023)) values }
-    ensures each { (k : ℕ) → k < 8 → slice_index result k + 64 ≡ slice_index values k }
-    ensures len { length result ≡ 8 }
-    ensures range { All (λ v. v ≤ 959) result }
+    ensures { IsLane (λ k. k) values result }
 {
     values - u16x8::splat(64)
 }
@@ -19,12 +18,8 @@ fn above_dark(values: u16x8) -> u16x8
 pub fn part_twos(values: &[u16]) -> (u16x8, u16x8)
     requires len { length values.now ≡ 16 }
     requires values { All (λ v. (64 ≤ v) × (v ≤ 1023)) values.now }
-    ensures evens { (k : ℕ) → k < 8 → slice_index result.0 k + 64 ≡ slice_index values.now (k * 2) }
-    ensures odds { (k : ℕ) → k < 8 → slice_index result.1 k + 64 ≡ slice_index values.now (k * 2 + 1) }
-    ensures evens_len { length result.0 ≡ 8 }
-    ensures odds_len { length result.1 ≡ 8 }
-    ensures evens_range { All (λ v. v ≤ 959) result.0 }
-    ensures odds_range { All (λ v. v ≤ 959) result.1 }
+    ensures evens { IsLane (λ k. k * 2) values.now result.0 }
+    ensures odds { IsLane (λ k. k * 2 + 1) values.now result.1 }
 {
     let first = u16x8::from_slice(&values[..8]);
     let second = u16x8::from_slice(&values[8..]);
@@ -36,9 +31,7 @@ pub fn part_twos(values: &[u16]) -> (u16x8, u16x8)
 fn keep_pairs(values: &[u16]) -> u16x8
     requires len { length values.now ≡ 16 }
     requires values { All (λ v. (64 ≤ v) × (v ≤ 1023)) values.now }
-    ensures pairs { (k : ℕ) → k < 8 → slice_index result k + 64 ≡ slice_index values.now (k / 2 * 4 + k % 2) }
-    ensures len { length result ≡ 8 }
-    ensures range { All (λ v. v ≤ 959) result }
+    ensures { IsLane (λ k. k / 2 * 4 + k % 2) values.now result }
 {
     let first = u16x8::from_slice(&values[..8]);
     let second = u16x8::from_slice(&values[8..]);
@@ -50,12 +43,8 @@ fn keep_pairs(values: &[u16]) -> u16x8
 pub fn part_fours(values: &[u16]) -> (u16x8, u16x8)
     requires len { length values.now ≡ 32 }
     requires values { All (λ v. (64 ≤ v) × (v ≤ 1023)) values.now }
-    ensures firsts { (k : ℕ) → k < 8 → slice_index result.0 k + 64 ≡ slice_index values.now (k * 4) }
-    ensures seconds { (k : ℕ) → k < 8 → slice_index result.1 k + 64 ≡ slice_index values.now (k * 4 + 1) }
-    ensures firsts_len { length result.0 ≡ 8 }
-    ensures seconds_len { length result.1 ≡ 8 }
-    ensures firsts_range { All (λ v. v ≤ 959) result.0 }
-    ensures seconds_range { All (λ v. v ≤ 959) result.1 }
+    ensures firsts { IsLane (λ k. k * 4) values.now result.0 }
+    ensures seconds { IsLane (λ k. k * 4 + 1) values.now result.1 }
 {
     let pairs = keep_pairs(&values[..16]);
     let pairs_behind = keep_pairs(&values[16..32]);

@@ -1,5 +1,5 @@
 -- The status that belongs to an input of `check` or `convert` is 0 or 1.
-use Rattle.std.proofs.Common.{◌<◌, ℕ, List, length, Result, Ok, Err, arith, inl, inr}
+use Rattle.std.proofs.Common.{ℕ, List, Result, Ok, Err, arith, inl, inr}
 use Rattle.cam_types.specs.declared.script.Script.{Script}
 use Rattle.text_parts.specs.declared.cause.TextRefused.{TextRefused}
 use Rattle.text_parts.specs.declared.cause.TextRefused.TheVariants.{Bad, NoMemory}
@@ -8,23 +8,19 @@ use Rattle.trace_reader.specs.declared.cause.TraceRefused.{TraceRefused}
 use Rattle.trace_reader.specs.declared.cause.TraceRefused.TheVariants.{Bad as BadTrace, NoMemory as NoTraceMemory}
 use Rattle.script_text.specs.Grammar.{script_of}
 use Rattle.trace_reader.specs.Grammar.{trace_of}
-use Rattle.judge_text.specs.Lines.{refused_trace_text}
 use Rattle.judge_text.specs.Parts.{first_line, script_part, trace_part}
-use Rattle.judge_text.specs.Meaning.{Judges, JudgesBoth, JudgesParts, JudgesTrace, JudgesWhole}
+use Rattle.judge_text.specs.Meaning.{JudgesBoth, JudgesParts, JudgesTrace, JudgesWhole}
 use Rattle.call_parts.specs.Answers.{AreAnswers}
-use Rattle.call_parts.proofs.Meanings.{long_limited, of_limited, of_verdict}
-use Rattle.play_calls.specs.Converting.{Converts, ConvertsInput}
+use Rattle.call_parts.proofs.Meanings.{of_verdict}
+use Rattle.play_calls.specs.Converting.{Converts}
 
 of-meaning : (meaning : Result TraceList TraceRefused) → AreAnswers (Converts meaning)
 of-meaning (Ok trace) wanted text h = omega (arith, h.0)
 of-meaning (Err (BadTrace line cause)) wanted text h = omega (arith, h.0)
 of-meaning (Err NoTraceMemory) wanted text h = absurd h
 
-pub are_converted : (input : List ℕ) → AreAnswers (ConvertsInput input)
-are_converted input = of_limited _ (λ short. Converts (trace_of 1 short)) input (of-meaning (trace_of 1 input))
-
-pub long_converted : (input : List ℕ) → 134217728 < length input → ConvertsInput input 1 (refused_trace_text 0 45)
-long_converted input l = long_limited _ (λ short. Converts (trace_of 1 short)) input l
+pub are_converted : (input : List ℕ) → AreAnswers (Converts (trace_of 1 input))
+are_converted input = of-meaning (trace_of 1 input)
 
 both : (n : ℕ) (script : Script) (trace : TraceList) → AreAnswers (JudgesBoth n script trace)
 both n script trace wanted text (inl h) = let small = of_verdict h.1.verdict in omega (arith, h.1.number, small)
@@ -40,8 +36,5 @@ of-parts n (Ok script) trace wanted text h = of-trace n script trace wanted text
 of-parts n (Err (Bad line cause)) trace wanted text h = omega (arith, h.0)
 of-parts n (Err NoMemory) trace wanted text h = absurd h
 
-pub are_judged : (input : List ℕ) → AreAnswers (Judges input)
-are_judged input = of_limited _ JudgesWhole input (of-parts (first_line input) (script_of (script_part input)) (trace_of (first_line input) (trace_part input)))
-
-pub long_judged : (input : List ℕ) → 134217728 < length input → Judges input 1 (refused_trace_text 0 45)
-long_judged input l = long_limited _ JudgesWhole input l
+pub are_judged : (input : List ℕ) → AreAnswers (JudgesWhole input)
+are_judged input = of-parts (first_line input) (script_of (script_part input)) (trace_of (first_line input) (trace_part input))

@@ -5,6 +5,7 @@ ghost use Rattle.io_edge.specs.States.{Writes};
 ghost use Rattle.call_parts.specs.Answers.{Answers};
 ghost use Rattle.play_calls.specs.Says.{PlaysAs, PlaysBehind};
 ghost use Rattle.call_parts.specs.Texts.{named_profile, text_in};
+ghost use Rattle.call_parts.specs.Status.{status_number};
 
 use call_parts::{Output, Status, named_profile, write_run};
 use cam_types::{NoMemory, Script};
@@ -70,7 +71,7 @@ pub fn prepare(alloc: Global, script: Script) -> Result<Prepared, NoMemory>
 
 /// Plays the run, and writes its trace or its summary. It takes no memory: the status is 0, or 4 where the sink failed.
 pub fn play_prepared<K: Sink>(prepared: Prepared, output: Output, sink: &mut K) -> Status
-    ensures { PlaysAs output prepared result.number (K.state sink.old) (K.state sink.new) }
+    ensures { PlaysAs output prepared (status_number result) (K.state sink.old) (K.state sink.new) }
 {
     play_behind(prepared, &[], output, sink)
 }
@@ -83,7 +84,7 @@ pub fn play_behind<K: Sink>(
     output: Output,
     sink: &mut K,
 ) -> Status
-    ensures { PlaysBehind front.now output prepared result.number (K.state sink.old) (K.state sink.new) }
+    ensures { PlaysBehind front.now output prepared (status_number result) (K.state sink.old) (K.state sink.new) }
 {
     no_job_is_out_at_first();
     let Prepared {
@@ -106,11 +107,11 @@ fn write_behind<K: Sink>(
     sink: &mut K,
 ) -> Status
     requires { writer.old ≡ named_profile service.now.script }
-    ensures { Answers 0 (front.now ++ text_in output service.now.script service.now.history) result.number
+    ensures { Answers 0 (front.now ++ text_in output service.now.script service.now.history) (status_number result)
         (K.state sink.old) (K.state sink.new) }
 {
     match writer.write_front(front, sink) {
         Ok(()) => write_run(writer, service, output, sink),
-        Err(_) => Status::SINK_FAILED,
+        Err(_) => Status::SinkFailed,
     }
 }

@@ -65,7 +65,7 @@ fn answer<R: Threads + Wait + Clock + Sync>(
     let mut source = MemSource::new(input.to_vec(alloc)?, 4_096, Vec::new(alloc));
     let mut sink = MemSink::new(alloc, 20_000, 4_096, Vec::new(alloc))?;
     let status = camera_main(alloc, rt, words, &mut source, &mut sink, gate);
-    Ok((status.number, sink.bytes().to_vec(alloc)?))
+    Ok((status.number(), sink.bytes().to_vec(alloc)?))
 }
 
 /// Where a line that begins so stands in a text.

@@ -10,14 +10,11 @@ use Rattle.reprocess_model.specs.declared.plan.Plan.{Plan}
 use Rattle.reprocess_model.specs.declared.plan.ReCommand.{ReCommand}
 use Rattle.reprocess_model.specs.declared.plan.ReCommand.TheVariants.{Request, Flush}
 use Rattle.text_parts.specs.declared.cause.Cause.{Cause}
-use Rattle.text_parts.specs.declared.cause.Cause.TheVariants.{NotAscii, Version, UnknownWord, Missing, Limit}
-use Rattle.text_parts.specs.LineReading.{at_line, is_comment, is_printable, text_limit}
+use Rattle.text_parts.specs.declared.cause.Cause.TheVariants.{UnknownWord, Limit}
 use Rattle.text_parts.specs.Values.{number, four_numbers}
 use Rattle.text_parts.specs.LineWords.{◌>>=◌, ends, one, behind, few, limited, picks_of}
-use Rattle.text_parts.specs.Lines.{lines_of}
-use Rattle.text_parts.specs.Words.{loose_words}
 use Rattle.text_parts.specs.declared.cause.TextRefused.{TextRefused}
-use Rattle.text_parts.specs.declared.cause.TextRefused.TheVariants.{Bad}
+use Rattle.call_parts.specs.Reading.{Grammar, text_of}
 use Rattle.reprocess_call.specs.Begun.{Begun, begun}
 
 -- ---- words
@@ -141,24 +138,6 @@ with_line b word words =
     else (if bytes_eq word (codes "fault") then fault_line b words
     else later_line b word words))
 
--- the version line: `reprocess 1`
-abbrev pub is_version : List (List ℕ) → Bool
-is_version (first ∷ second ∷ []) = bytes_eq first (codes "reprocess") && bytes_eq second (codes "1")
-is_version _ = false
-
-unfoldable pub after_words : Option Begun → List ℕ → List (List ℕ) → Result (Option Begun) Cause
-after_words None word words = if is_version (word ∷ words) then Ok (Some empty) else Err Version
-after_words (Some b) word words = with_line b word words >>= λ next. Ok (Some next)
-
--- a line of spaces alone, and a comment, are ignored
-abbrev pub after_line : Option Begun → List (List ℕ) → Result (Option Begun) Cause
-after_line before [] = Ok before
-after_line before (word ∷ words) = if is_comment word then Ok before else after_words before word words
-
--- What stands after a line. The causes of one line are tried in the order of their numbers.
-unfoldable pub after : Option Begun → List ℕ → Result (Option Begun) Cause
-after before line = if list_all is_printable line then after_line before (loose_words line) else Err NotAscii
-
 -- ---- the text
 
 -- the plan, where the input and an output stand
@@ -172,20 +151,9 @@ plan_with b None = None
 abbrev pub plan_at : Begun → Option Plan
 plan_at b = plan_with b b.input
 
--- what stands at the end of a text, of which n is the number that a next line would have
-abbrev pub finished : ℕ → Option Plan → Result Plan TextRefused
-finished n (Some plan) = Ok plan
-finished n None = Err (Bad n Missing)
-
-abbrev pub at_end : ℕ → Option Begun → Result Plan TextRefused
-at_end n (Some b) = finished n (plan_at b)
-at_end n None = Err (Bad n Version)
-
--- the lines from number n on, after what stands before them
-unfoldable pub plan_from : Option Begun → ℕ → List (List ℕ) → Result Plan TextRefused
-plan_from before n [] = at_end n before
-plan_from before n (line ∷ lines) = at_line n (after before line) (λ next. plan_from next (n + 1) lines)
+abbrev pub plan_text : Grammar Begun Plan
+plan_text = record { name = codes "reprocess"; begun = empty; with_line = with_line; meant = plan_at }
 
 -- the plan that a text means, or the first line that has a cause, with the first of its causes
-unfoldable pub plan_of : List ℕ → Result Plan TextRefused
-plan_of text = if nat_lt text_limit (length text) then Err (Bad 0 Limit) else plan_from None 1 (lines_of text)
+abbrev pub plan_of : List ℕ → Result Plan TextRefused
+plan_of text = text_of plan_text text

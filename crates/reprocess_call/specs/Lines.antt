@@ -1,4 +1,4 @@
--- How the lines of a run are spelled, and the line that refuses a plan. (docs/FORMATS.md, reprocessing)
+-- How the lines of a run are spelled. (docs/FORMATS.md, reprocessing)
 use Rattle.std.specs.Prelude.{ℕ, List, [], ◌∷◌, ◌++◌, codes, decimal, map}
 use Rattle.std.specs.List.{flat_map}
 use Rattle.hex.specs.Hex.{encode_lower}
@@ -6,8 +6,6 @@ use Rattle.cam_types.specs.Four.{four_list}
 use Rattle.reprocess_model.specs.declared.entry.ReEntry.{ReEntry}
 use Rattle.reprocess_model.specs.declared.entry.ReEntry.TheVariants.{Called, BeginFlush, Flushed, Take, Dropped, Error, Failed, Fill, Input}
 use Rattle.reprocess_model.specs.declared.entry.ReOut.{ReOut}
-use Rattle.text_parts.specs.Causes.{number_of}
-use Rattle.text_parts.specs.declared.cause.Cause.{Cause}
 use Rattle.text_parts.specs.Lines.{line_text}
 
 -- words, each behind a space (32)
@@ -57,8 +55,3 @@ last_line = line_text (codes "end" ∷ [])
 -- the version line, the lines of a run, the oldest first, and `end`
 abbrev pub run_text : List ReEntry → List ℕ
 run_text lines = (first_line ++ flat_map line_of lines) ++ last_line
-
--- `refused reprocess LINE CAUSE`
-abbrev pub refused_text : ℕ → Cause → List ℕ
-refused_text line cause =
-    line_text (codes "refused" ∷ codes "reprocess" ∷ decimal line ∷ decimal (number_of cause) ∷ [])

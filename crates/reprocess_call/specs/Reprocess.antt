@@ -1,14 +1,13 @@
 -- What `reprocess` answers and writes. (docs/FORMATS.md, reprocessing)
-use Rattle.std.specs.Prelude.{◌≡◌, ℕ, List, Result, Ok, reverse}
+use Rattle.std.specs.Prelude.{◌≡◌, ℕ, List, Ok, reverse}
 use Rattle.io_edge.specs.States.{SinkState, Writes}
 use Rattle.call_parts.specs.Answers.{Answers}
-use Rattle.call_parts.specs.Meanings.{OfMeaning}
+use Rattle.call_parts.specs.Reading.{OfText}
 use Rattle.reprocess_model.specs.Run.{IsPlayedRun, IsRun}
 use Rattle.reprocess_model.specs.declared.entry.ReEntry.{ReEntry}
 use Rattle.reprocess_model.specs.declared.plan.Plan.{Plan}
-use Rattle.reprocess_call.specs.Grammar.{plan_of}
-use Rattle.text_parts.specs.declared.cause.TextRefused.{TextRefused}
-use Rattle.reprocess_call.specs.Lines.{refused_text, run_text}
+use Rattle.reprocess_call.specs.Grammar.{plan_of, plan_text}
+use Rattle.reprocess_call.specs.Lines.{run_text}
 
 -- the complete run that a plan's picks choose
 pub record IsWholeRun (plan : Plan) (past : List ReEntry) : Type 0 where
@@ -27,13 +26,9 @@ pub record PlaysPlan (plan : Plan) (status : ℕ) (before after : SinkState) : T
   pub run : IsWholeRun plan past
   pub answers : Answers 0 (run_text (reverse past)) status before after
 
--- the status and the whole text that belong to what an input means
-abbrev pub TellsOfPlan : Result Plan TextRefused → ℕ → List ℕ → Type 0
-TellsOfPlan meaning status told =
-    OfMeaning refused_text (λ plan number said. (number ≡ 0) × IsRunText plan said) meaning status told
-
+-- the status and the whole text that belong to an input
 abbrev pub Reprocesses : List ℕ → ℕ → List ℕ → Type 0
-Reprocesses input status told = TellsOfPlan (plan_of input) status told
+Reprocesses input status told = OfText plan_text IsRunText input status told
 
 -- the input is a plan's text, and what was written is the complete run that the plan's picks choose
 pub record IsReprocessed (input : List ℕ) (before after : SinkState) : Type 0 where

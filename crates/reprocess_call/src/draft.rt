@@ -179,7 +179,7 @@ impl Draft {
     }
 
     /// The plan, where the input and an output stand.
-    pub fn finish(self) -> Option<Plan>
+    pub fn into_plan(self) -> Option<Plan>
         ensures plan { plan_at (begun self.input self.outputs self.faults self.picks self.commands) ≡ result }
         ensures valid { IfSome result (λ plan. IsTrue (is_plan plan)) }
     {

@@ -7,7 +7,6 @@ mod line;
 mod player;
 mod prepared;
 mod reading;
-mod refusal;
 mod run;
 mod word;
 
@@ -15,5 +14,4 @@ pub use call::reprocess_call;
 pub use line::LinePrinter;
 pub use prepared::{Prepared, play_prepared, prepare};
 pub use reading::read;
-pub use refusal::refused_text;
 pub use run::RunWriter;

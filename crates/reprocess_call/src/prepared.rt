@@ -4,6 +4,7 @@ ghost use Rattle.call_parts.specs.Answers.{Answers};
 ghost use Rattle.reprocess_model.specs.Plan.{is_plan};
 ghost use Rattle.reprocess_call.specs.Lines.{run_text};
 ghost use Rattle.reprocess_call.specs.Reprocess.{PlaysPlan};
+ghost use Rattle.call_parts.specs.Status.{status_number};
 
 use crate::RunWriter;
 use crate::player::play;
@@ -45,7 +46,7 @@ pub fn prepare(alloc: Global, plan: Plan) -> Result<Prepared, NoMemory>
 
 /// Plays the run, and writes it. It takes no memory: the status is 0, or 4 where the sink failed.
 pub fn play_prepared<K: Sink>(prepared: Prepared, sink: &mut K) -> Status
-    ensures { PlaysPlan prepared result.number (K.state sink.old) (K.state sink.new) }
+    ensures { PlaysPlan prepared (status_number result) (K.state sink.old) (K.state sink.new) }
 {
     let Prepared {
         mut device,
@@ -59,10 +60,10 @@ pub fn play_prepared<K: Sink>(prepared: Prepared, sink: &mut K) -> Status
 
 /// Writes the lines of a run.
 fn write_lines<K: Sink>(writer: &mut RunWriter, lines: &[ReEntry], sink: &mut K) -> Status
-    ensures { Answers 0 (run_text lines.now) result.number (K.state sink.old) (K.state sink.new) }
+    ensures { Answers 0 (run_text lines.now) (status_number result) (K.state sink.old) (K.state sink.new) }
 {
     match writer.write(lines, sink) {
-        Ok(()) => Status::DONE,
-        Err(_) => Status::SINK_FAILED,
+        Ok(()) => Status::Done,
+        Err(_) => Status::SinkFailed,
     }
 }

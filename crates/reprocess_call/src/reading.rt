@@ -1,32 +1,17 @@
 //! A plan read from its text.
-ghost use Rattle.std.specs.Prelude.{◌≡◌, ◌∷◌, IsTrue, IfOk, Some};
-ghost use Rattle.std.specs.Option.{option_map};
+ghost use Rattle.std.specs.Prelude.{◌≡◌, IsTrue, IfOk};
 ghost use Rattle.reprocess_model.specs.Plan.{is_plan};
 ghost use Rattle.text_parts.specs.Words.{loose_words};
-ghost use Rattle.reprocess_call.specs.Begun.{begun};
-ghost use Rattle.reprocess_call.specs.Grammar.{after as after_in, at_end as at_end_in, after_words as after_words_in, fault_line, flush_line, input_line, is_version as is_version_of, later_line, output_with, pick_line, plan_of, request_line, with_line as with_line_in};
 ghost use Rattle.text_parts.specs.Reader.{Answers, GivesBy};
+ghost use Rattle.reprocess_call.specs.Begun.{begun};
+ghost use Rattle.reprocess_call.specs.Grammar.{fault_line, flush_line, input_line, later_line, output_with, pick_line, plan_of, request_line, with_line};
 
 use crate::draft::Draft;
 use crate::word::{one_output, one_request, one_size};
-use reprocess_model::{PLAN_BYTES, Plan, ReCommand};
+use call_parts::{LineText, read_text};
+use reprocess_model::{Plan, ReCommand};
 use std::alloc::Global;
-use text_parts::{
-    Cause, LineRefused, TextRefused, is_end, is_printable, next_loose_word, one_number, refused,
-    split_line,
-};
-
-/// Whether a line is `reprocess 1`.
-fn is_version(word: &[u8], rest: &[u8]) -> bool
-    ensures { result ≡ is_version_of (word.now ∷ loose_words rest.now) }
-{
-    match next_loose_word(rest) {
-        Some((number, rest)) => {
-            is_end(rest) && (word == b"reprocess".as_slice() && number == b"1".as_slice())
-        }
-        None => false,
-    }
-}
+use text_parts::{Cause, LineRefused, TextRefused, is_end, one_number};
 
 fn with_input(draft: Draft, words: &[u8]) -> Result<Draft, LineRefused>
     ensures { GivesBy (λ d. begun d.input d.outputs d.faults d.picks d.commands) result
@@ -124,9 +109,9 @@ fn with_later_line(draft: Draft, word: &[u8], rest: &[u8]) -> Result<Draft, Line
 
 /// A draft with one more line.
 #[tactic(auto, unfolding(crate::specs::Grammar::with_line))]
-fn with_line(draft: Draft, word: &[u8], rest: &[u8]) -> Result<Draft, LineRefused>
+fn add_line(draft: Draft, word: &[u8], rest: &[u8]) -> Result<Draft, LineRefused>
     ensures { GivesBy (λ d. begun d.input d.outputs d.faults d.picks d.commands) result
-        (with_line_in (begun draft.input draft.outputs draft.faults draft.picks draft.commands) word.now
+        (with_line (begun draft.input draft.outputs draft.faults draft.picks draft.commands) word.now
         (loose_words rest.now)) }
 {
     if word == b"input".as_slice() {
@@ -140,94 +125,46 @@ fn with_line(draft: Draft, word: &[u8], rest: &[u8]) -> Result<Draft, LineRefuse
     }
 }
 
-/// What stands after a line that isn't ignored.
-#[tactic(auto, unfolding(crate::specs::Grammar::after_words))]
-fn after_words(
-    alloc: Global,
-    before: Option<Draft>,
-    word: &[u8],
-    rest: &[u8],
-) -> Result<Option<Draft>, LineRefused>
-    ensures { GivesBy (option_map (λ d. begun d.input d.outputs d.faults d.picks d.commands)) result
-        (after_words_in (option_map (λ d. begun d.input d.outputs d.faults d.picks d.commands) before) word.now
-        (loose_words rest.now)) }
-{
-    match before {
-        Some(draft) => Ok(Some(with_line(draft, word, rest)?)),
-        None => {
-            if is_version(word, rest) {
-                Ok(Some(Draft::new(alloc)))
-            } else {
-                Err(LineRefused::Bad(Cause::Version))
-            }
-        }
+impl LineText for Draft {
+    type Text = Plan;
+
+    ghost use Rattle.std.specs.Prelude.{IsTrue};
+    ghost use Rattle.reprocess_model.specs.Plan.{is_plan};
+    ghost use Rattle.reprocess_call.specs.Begun.{Begun, begun};
+    ghost use Rattle.reprocess_call.specs.Grammar.{plan_text};
+
+    ghost Stage = { Begun };
+
+    ghost stage = { λ d. begun d.input d.outputs d.faults d.picks d.commands };
+
+    ghost grammar = { plan_text };
+
+    ghost is_fit = { λ plan. IsTrue (is_plan plan) };
+
+    fn name() -> &'static str {
+        "reprocess"
+    }
+
+    fn begin(alloc: Global) -> Draft {
+        Draft::new(alloc)
+    }
+
+    fn with_line(self, _alloc: Global, word: &[u8], rest: &[u8]) -> Result<Draft, LineRefused> {
+        add_line(self, word, rest)
+    }
+
+    fn finish(self) -> Option<Plan> {
+        self.into_plan()
     }
 }
 
-/// What stands after a line.
-#[tactic(auto, unfolding(crate::specs::Grammar::after))]
-fn after(alloc: Global, before: Option<Draft>, line: &[u8]) -> Result<Option<Draft>, LineRefused>
-    ensures { GivesBy (option_map (λ d. begun d.input d.outputs d.faults d.picks d.commands)) result
-        (after_in (option_map (λ d. begun d.input d.outputs d.faults d.picks d.commands) before) line.now) }
-{
-    if !is_printable(line) {
-        return Err(LineRefused::Bad(Cause::NotAscii));
-    }
-    match next_loose_word(line) {
-        None | Some(([b'#', ..], _)) => Ok(before),
-        Some((word, rest)) => after_words(alloc, before, word, rest),
-    }
-}
-
-/// What stands at the end of a text.
-fn at_end(line: u32, draft: Option<Draft>) -> Result<Plan, TextRefused>
-    ensures value { result ≡
-        at_end_in line (option_map (λ d. begun d.input d.outputs d.faults d.picks d.commands) draft) }
-    ensures valid { IfOk result (λ plan. IsTrue (is_plan plan)) }
-{
-    let Some(draft) = draft else {
-        return Err(TextRefused::Bad {
-            line,
-            cause: Cause::Version,
-        });
-    };
-    match draft.finish() {
-        Some(plan) => Ok(plan),
-        None => Err(TextRefused::Bad {
-            line,
-            cause: Cause::Missing,
-        }),
-    }
-}
-
-/// Reads the plan of a reprocessing device, as `docs/FORMATS.md` has it. It takes time in the length of the text, and
-/// no memory but the plan's.
-///
-/// A refusal names the first line that has a cause, counted from 1, and the first of its causes. Line 0 stands for a
-/// text of more than 65,536 bytes.
-#[tactic(auto, unfolding(crate::specs::Grammar::plan_of, crate::specs::Grammar::plan_from))]
+/// Reads the plan of a reprocessing device, as `docs/FORMATS.md` has it: `read_text` of `call_parts` says in what time,
+/// and which line a refusal names.
 pub fn read(alloc: Global, bytes: &[u8]) -> Result<Plan, TextRefused>
     // What the text means, unless memory ran out.
     ensures exact { Answers result (plan_of bytes.now) }
     // Only plans within their limits are read.
     ensures valid { IfOk result (λ plan. IsTrue (is_plan plan)) }
 {
-    if bytes.len() > PLAN_BYTES {
-        return Err(TextRefused::Bad {
-            line: 0,
-            cause: Cause::Limit,
-        });
-    }
-    let mut draft = None;
-    let mut number = 1;
-    let mut rest = bytes;
-    while let Some((line, behind)) = split_line(rest) {
-        match after(alloc, draft, line) {
-            Ok(next) => draft = next,
-            Err(why) => return Err(refused(number, why)),
-        }
-        number += 1;
-        rest = behind;
-    }
-    at_end(number, draft)
+    read_text::<Draft>(alloc, bytes)
 }

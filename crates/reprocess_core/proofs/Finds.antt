@@ -4,7 +4,7 @@ use Rattle.cam_types.specs.declared.four.Four.{Four}
 use Rattle.cam_types.specs.declared.number.FrameNo.{FrameNo}
 use Rattle.reprocess_model.specs.declared.entry.InputId.{InputId}
 use Rattle.reprocess_model.specs.declared.entry.ReEntry.{ReEntry}
-use Rattle.reprocess_model.specs.declared.entry.ReEntry.TheVariants.{Called, BeginFlush, Flushed, Take, Dropped, Error, Failed, Fill, Input}
+use Rattle.reprocess_model.specs.declared.entry.ReEntry.TheVariants.{Take, Input}
 use Rattle.reprocess_model.specs.declared.entry.ReOut.{ReOut}
 use Rattle.reprocess_model.specs.declared.plan.Plan.{Plan}
 use Rattle.reprocess_model.specs.declared.step.ReStepName.TheVariants.{TakeNext, ReturnInput}
@@ -26,14 +26,7 @@ use Rattle.reprocess_core.proofs.Places.{home-place, out-place, ticket-place}
 
 take-line : (line : ReEntry) → step_of line ≡ TakeNext → (n : FrameNo) × (i : InputId) × (outs : Four ReOut) × (line ≡ Take n i outs)
 take-line (Take n i outs) h = (n, i, outs, refl)
-take-line (Called i) h = absurd (cc)
-take-line BeginFlush h = absurd (cc)
-take-line (Flushed i) h = absurd (cc)
-take-line (Dropped n) h = absurd (cc)
-take-line (Error n) h = absurd (cc)
-take-line (Failed n s b) h = absurd (cc)
-take-line (Fill n s b digest) h = absurd (cc)
-take-line (Input n i) h = absurd (cc)
+take-line _ h = absurd (cc)
 
 -- the line of a take is one
 pub taken-line : (plan : Plan) (past : List ReEntry) (line : ReEntry) → take_due plan past ≡ Some line → (n : FrameNo) × (i : InputId) × (outs : Four ReOut) × (line ≡ Take n i outs)
@@ -41,14 +34,7 @@ taken-line plan past line h = take-line line (step-of-due plan past TakeNext lin
 
 input-line : (n : FrameNo) (line : ReEntry) → step_of line ≡ ReturnInput n → (i : InputId) × (line ≡ Input n i)
 input-line n (Input m i) h = let same : m ≡ n = cc in (i, rw same refl)
-input-line n (Take m i outs) h = absurd (cc)
-input-line n (Called i) h = absurd (cc)
-input-line n BeginFlush h = absurd (cc)
-input-line n (Flushed i) h = absurd (cc)
-input-line n (Dropped m) h = absurd (cc)
-input-line n (Error m) h = absurd (cc)
-input-line n (Failed m s b) h = absurd (cc)
-input-line n (Fill m s b digest) h = absurd (cc)
+input-line n _ h = absurd (cc)
 
 -- the line of an input's return is one, of the same request
 pub returned-line : (plan : Plan) (past : List ReEntry) (n : FrameNo) (line : ReEntry) → input_due plan past n.0 ≡ Some line → (i : InputId) × (line ≡ Input n i)

@@ -24,7 +24,7 @@ use Rattle.reprocess_model.proofs.Facts.{filling-of}
 use Rattle.reprocess_model.proofs.Held.{input-holds, output-range, output_of-taken, taken-input}
 use Rattle.reprocess_model.proofs.Back.{each-at, input-returned}
 use Rattle.reprocess_model.proofs.Bound.{return-fresh, return-low}
-use Rattle.reprocess_model.proofs.Stuck.{plan-outputs}
+use Rattle.reprocess_model.proofs.Stuck.{accepted-parts}
 use Rattle.reprocess_core.specs.Inputs.{IsTicket}
 use Rattle.reprocess_core.specs.Tickets.{TicketView}
 use Rattle.sha2.specs.Sha256.{sha256}
@@ -79,7 +79,7 @@ fits-at input o spec is fits = subst (λ (x : Option StreamSpec). Fits input x) 
 
 pub output-fits : (plan : Plan) (s : ℕ) (spec : StreamSpec) → is_plan plan ≡ true → at_place plan.outputs s ≡ Some spec → is_output plan.input spec ≡ true
 output-fits plan s spec valid at =
-    let all = fits-all plan.input plan.outputs.a plan.outputs.b plan.outputs.c plan.outputs.d (plan-outputs plan valid) in
+    let all = fits-all plan.input plan.outputs.a plan.outputs.b plan.outputs.c plan.outputs.d (accepted-parts plan valid).outputs in
     elim (cases_Bool (s == 0)) [
       | inl zero' ↦ fits-at plan.input plan.outputs.a spec (rw zero' at at) all.0
       | inr no0 ↦ elim (cases_Bool (s == 1)) [

@@ -14,22 +14,15 @@ use Rattle.reprocess_model.specs.declared.step.ReStepName.TheVariants.{TakeNext,
 use Rattle.reprocess_model.specs.Due.{all_returned, digest_of, drop_of, due, failed_with, fill_with, has_outs, input_with, line_of_command, may_fail, may_fill, step_of, take_line, take_with}
 use Rattle.reprocess_model.specs.Laws.{line_bound}
 use Rattle.reprocess_model.specs.Past.{all_inputs_home, call_count, has_error, input_holder, input_of, is_by, is_stopping, least_input, least_queued, output_holder, output_of}
-use Rattle.reprocess_model.specs.Plan.{are_outputs, command_fits, is_flush, is_plan, is_request, is_yuv}
+use Rattle.reprocess_model.specs.Plan.{is_flush, is_plan, is_request}
 use Rattle.reprocess_model.specs.Run.{IsRun}
 use Rattle.reprocess_model.proofs.Bound.{bounded}
 use Rattle.reprocess_model.proofs.Facts.{when-some}
+use Rattle.reprocess_model.proofs.Stuck.{accepted-parts}
 use Rattle.reprocess_core.specs.State.{IsCourse}
 
 pub few-commands : (plan : Plan) → is_plan plan ≡ true → length plan.commands ≤ 64
-few-commands plan h =
-    let yuv = is_yuv plan.input in
-    let outs = are_outputs plan.input plan.outputs in
-    let faults = nat_le (length plan.faults) 64 in
-    let picks = nat_le (length plan.picks) 1024 in
-    let commands = nat_le (length plan.commands) 64 in
-    let e = and_parts ((((yuv && outs) && faults) && picks) && commands) (list_all command_fits plan.commands) h in
-    let d = and_parts (((yuv && outs) && faults) && picks) commands e.0 in
-    leb-true (length plan.commands) 64 d.1
+few-commands plan h = leb-true (length plan.commands) 64 (accepted-parts plan h).few_commands
 
 pub few-lines : (plan : Plan) (lines : List ReEntry) → is_plan plan ≡ true → IsRun plan (reverse lines) → length lines ≤ 640
 few-lines plan lines valid run =

@@ -1,11 +1,10 @@
 //! What the picture of an output depends on.
 ghost use Rattle.std.specs.Prelude.{◌≡◌, ◌<◌, ◌↔◌, IsTrue};
-ghost use Rattle.digest_memory.specs.Keys.{turn_of};
 ghost use Rattle.reprocess_core.specs.Keys.{key_of};
 
 use crate::ticket::InputTicket;
-use cam_types::{FrameNo, Settings, StreamSpec};
-use digest_memory::PictureKey;
+use cam_types::StreamSpec;
+use digest_memory::{PictureKey, turn_of};
 
 /// What the picture of an output depends on. Outputs with equal keys show equal pictures.
 #[derive(Clone, Copy, PartialEq, Eq, Hash)]
@@ -15,17 +14,6 @@ pub struct OutputKey {
     /// The size of the output in pixels.
     pub width: u32,
     pub height: u32,
-}
-
-/// How far the ramp has moved at the request; 0 for the other patterns.
-fn turn_of(settings: Settings, frame: FrameNo) -> u32
-    ensures { result ≡ turn_of settings frame.0 }
-{
-    if settings.pattern == 0 || settings.pattern == 1 {
-        0
-    } else {
-        frame.0 % 256
-    }
 }
 
 /// What the picture depends on that is made of the ticket's for an output.

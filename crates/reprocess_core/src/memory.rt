@@ -10,12 +10,9 @@ ghost use Rattle.sha2.specs.Sha256.{sha256};
 use crate::key::{OutputKey, is_same_key, key_of};
 use crate::ticket::InputTicket;
 use cam_types::{NoMemory, StreamSpec};
+use digest_memory::{TRIES, tries_of};
 use std::alloc::Global;
-use std::hash::{BuildHasher, BuildHasherDefault, FoldHasher};
 use std::marker::Model;
-
-/// At so many places, one after another, a key may stand. Half the places and more stay free, so that is plenty.
-const TRIES: usize = 64;
 
 /// How many outputs a request has at most.
 const OUTPUTS: usize = 3;
@@ -61,7 +58,7 @@ impl OutputMemory {
     {
         let _yuv = ticket.spec();
         let key = key_of(ticket, to);
-        let (first, end) = tries_of(key, self.places.len());
+        let (first, end) = tries_of(&key, self.places.len());
         find_in(&self.places[first..end], key)
     }
 
@@ -73,22 +70,11 @@ impl OutputMemory {
     {
         let _yuv = ticket.spec();
         let key = key_of(ticket, to);
-        let (first, end) = tries_of(key, self.places.len());
+        let (first, end) = tries_of(&key, self.places.len());
         if let Some(free) = free_place(&self.places[first..end]) {
             self.places[first + free] = Some(Told { key, digest });
         }
     }
-}
-
-/// The first of the places at which the key may stand, of so many in all, and the one behind the last.
-fn tries_of(key: OutputKey, places: usize) -> (usize, usize)
-    ensures order { result.0 ≤ result.1 }
-    ensures within { result.1 ≤ places }
-{
-    let firsts = places.saturating_sub(TRIES) + 1;
-    let hash = BuildHasherDefault::<FoldHasher>::new().hash_one(&key);
-    let first = (hash % firsts as u64) as usize;
-    (first, first + TRIES.min(places - first))
 }
 
 /// Finds a key's digest, before the first place that is free.

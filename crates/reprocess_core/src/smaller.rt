@@ -1,8 +1,8 @@
 //! A YUV picture that is made smaller, into a buffer, with the digest of what was written where that is wanted.
 ghost use Rattle.std.specs.Prelude.{◌≡◌, ◌*◌, ◌/◌, ◌≤◌, ◌++◌, IsTrue, length, take, drop};
 ghost use Rattle.cam_types.specs.Picture.{is_yuv_size};
-ghost use Rattle.reprocess_model.specs.Plan.{is_yuv};
 ghost use Rattle.reprocess_model.specs.Reduce.{reduced, reduced_plane, reduced_to};
+ghost use Rattle.reprocess_core.specs.Outputs.{CanBeMade};
 ghost use Rattle.sha2.specs.Sha256.{sha256};
 
 use crate::plane::write_plane;
@@ -95,13 +95,10 @@ fn write_reduced(input: &[u8], from: StreamSpec, to: StreamSpec, bytes: &mut [u8
 /// Makes a picture smaller: writes the bytes of a picture of `to`, in pixels no larger than `from`, from those of a
 /// picture of `from` into a buffer that shows as many, three for two pixels. It takes no memory.
 pub fn draw_reduced(input: &[u8], from: StreamSpec, to: StreamSpec, out: &mut PixelBuf)
-    requires from_offered { IsTrue (is_yuv from) }
-    requires to_offered { IsTrue (is_yuv to) }
-    requires smaller { to.width ≤ from.width }
+    requires sizes { CanBeMade from to }
     requires len { length input.now ≡ from.width * from.height * 3 / 2 }
     requires room { length out.old.bytes ≡ to.width * to.height * 3 / 2 }
-    ensures picture { out.new ≡
-        record { id = out.old.id; bytes = reduced from to input.now; block = out.old.block } }
+    ensures picture { out.new ≡ record out.old { bytes = reduced from to input.now } }
     ensures len { length out.new.bytes ≡ to.width * to.height * 3 / 2 }
 {
     write_reduced(input, from, to, out.bytes_mut());
@@ -109,13 +106,10 @@ pub fn draw_reduced(input: &[u8], from: StreamSpec, to: StreamSpec, out: &mut Pi
 
 /// Makes a picture smaller as `draw_reduced` does, and answers the SHA-256 of what it wrote. It takes no memory.
 pub fn reduce(input: &[u8], from: StreamSpec, to: StreamSpec, out: &mut PixelBuf) -> [u8; 32]
-    requires from_offered { IsTrue (is_yuv from) }
-    requires to_offered { IsTrue (is_yuv to) }
-    requires smaller { to.width ≤ from.width }
+    requires sizes { CanBeMade from to }
     requires len { length input.now ≡ from.width * from.height * 3 / 2 }
     requires room { length out.old.bytes ≡ to.width * to.height * 3 / 2 }
-    ensures picture { out.new ≡
-        record { id = out.old.id; bytes = reduced from to input.now; block = out.old.block } }
+    ensures picture { out.new ≡ record out.old { bytes = reduced from to input.now } }
     ensures len { length out.new.bytes ≡ to.width * to.height * 3 / 2 }
     ensures digest { result ≡ sha256 (reduced from to input.now) }
 {

@@ -1,5 +1,5 @@
 -- An input comes back after its outputs, so where all inputs are home all outputs are.
-use Rattle.std.proofs.Common.{◌≡◌, ℕ, ◌==◌, ◌<◌, Bool, true, false, ◌&&◌, ◌||◌, List, [], ◌∷◌, Option, Some, None, inl, inr, refl, sym, ap, ◌∙◌, arith, is_some, is_none}
+use Rattle.std.proofs.Common.{◌≡◌, ℕ, ◌==◌, ◌<◌, Bool, true, false, ◌&&◌, ◌||◌, List, [], ◌∷◌, Option, Some, None, inl, inr, refl, sym, ap, ◌∙◌, arith, is_some, is_none, subst}
 use Rattle.std.specs.Option.{option_map}
 use Rattle.std.proofs.lemmas.Bool.{and_parts, and_from, both_ways, cases_Bool, eqb-true, or_cases, false≢true}
 use Rattle.basic_lemmas.proofs.Counts.{count-cons}
@@ -37,25 +37,30 @@ place-passes : {T : Type 0} (o : Option T) (b : Bool) → (is_none o || b) ≡ t
 place-passes None b h k = absurd (false≢true k)
 place-passes (Some x) b h k = h
 
+-- what stands at a place stands at one of the four
+at-one : {T : Type 0} (f : Four T) (P : ℕ → Type 0) (s : ℕ) → (is_some f.a ≡ true → P 0) → (is_some f.b ≡ true → P 1) → (is_some f.c ≡ true → P 2) → (is_some f.d ≡ true → P 3) → is_some (at_place f s) ≡ true → P s
+at-one f P s a b c d h =
+    elim (cases_Bool (s == 0)) [
+      | inl zero' ↦ (let h' = rw zero' at h in subst P (sym (eqb-true s 0 zero')) (a h'))
+      | inr no0 ↦ elim (cases_Bool (s == 1)) [
+        | inl one ↦ (let h' = rw (no0, one) at h in subst P (sym (eqb-true s 1 one)) (b h'))
+        | inr no1 ↦ elim (cases_Bool (s == 2)) [
+          | inl two ↦ (let h' = rw (no0, no1, two) at h in subst P (sym (eqb-true s 2 two)) (c h'))
+          | inr no2 ↦ elim (cases_Bool (s == 3)) [
+            | inl three ↦ (let h' = rw (no0, no1, no2, three) at h in subst P (sym (eqb-true s 3 three)) (d h'))
+            | inr no3 ↦ absurd (let h' = rw (no0, no1, no2, no3) at h in false≢true h')
+          ]
+        ]
+      ]
+    ]
+
 -- what holds at each place holds at one
 pub each-at : {T : Type 0} (f : Four T) (p : ℕ → Bool) (s : ℕ) → each_place f p ≡ true → is_some (at_place f s) ≡ true → p s ≡ true
 each-at f p s k h =
     let x = and_parts (is_none f.a || p 0) ((is_none f.b || p 1) && ((is_none f.c || p 2) && (is_none f.d || p 3))) k in
     let y = and_parts (is_none f.b || p 1) ((is_none f.c || p 2) && (is_none f.d || p 3)) x.1 in
     let z = and_parts (is_none f.c || p 2) (is_none f.d || p 3) y.1 in
-    elim (cases_Bool (s == 0)) [
-      | inl zero' ↦ (let h' = rw zero' at h in rw (eqb-true s 0 zero') (place-passes f.a (p 0) x.0 h'))
-      | inr no0 ↦ elim (cases_Bool (s == 1)) [
-        | inl one ↦ (let h' = rw (no0, one) at h in rw (eqb-true s 1 one) (place-passes f.b (p 1) y.0 h'))
-        | inr no1 ↦ elim (cases_Bool (s == 2)) [
-          | inl two ↦ (let h' = rw (no0, no1, two) at h in rw (eqb-true s 2 two) (place-passes f.c (p 2) z.0 h'))
-          | inr no2 ↦ elim (cases_Bool (s == 3)) [
-            | inl three ↦ (let h' = rw (no0, no1, no2, three) at h in rw (eqb-true s 3 three) (place-passes f.d (p 3) z.1 h'))
-            | inr no3 ↦ absurd (let h' = rw (no0, no1, no2, no3) at h in false≢true h')
-          ]
-        ]
-      ]
-    ]
+    at-one f (λ i. p i ≡ true) s (place-passes f.a (p 0) x.0) (place-passes f.b (p 1) y.0) (place-passes f.c (p 2) z.0) (place-passes f.d (p 3) z.1) h
 
 -- a place that fails
 place-fails : {T : Type 0} (o : Option T) (b : Bool) → (is_none o || b) ≡ false → (is_some o ≡ true) × (b ≡ false)
@@ -138,19 +143,7 @@ served-buffer plan past s k h =
     let x = and_parts (has_out 0 o.a past) (has_out 1 o.b past && (has_out 2 o.c past && has_out 3 o.d past)) k in
     let y = and_parts (has_out 1 o.b past) (has_out 2 o.c past && has_out 3 o.d past) x.1 in
     let z = and_parts (has_out 2 o.c past) (has_out 3 o.d past) y.1 in
-    elim (cases_Bool (s == 0)) [
-      | inl zero' ↦ (let h' = rw zero' at h in rw zero' (served-out past 0 o.a x.0 h'))
-      | inr no0 ↦ elim (cases_Bool (s == 1)) [
-        | inl one ↦ (let h' = rw (no0, one) at h in rw (no0, one) (served-out past 1 o.b y.0 h'))
-        | inr no1 ↦ elim (cases_Bool (s == 2)) [
-          | inl two ↦ (let h' = rw (no0, no1, two) at h in rw (no0, no1, two) (served-out past 2 o.c z.0 h'))
-          | inr no2 ↦ elim (cases_Bool (s == 3)) [
-            | inl three ↦ (let h' = rw (no0, no1, no2, three) at h in rw (no0, no1, no2, three) (served-out past 3 o.d z.1 h'))
-            | inr no3 ↦ absurd (let h' = rw (no0, no1, no2, no3) at h in false≢true h')
-          ]
-        ]
-      ]
-    ]
+    at-one o (λ i. (b : ℕ) × (buffer_at (outs_for plan past) i ≡ Some b)) s (served-out past 0 o.a x.0) (served-out past 1 o.b y.0) (served-out past 2 o.c z.0) (served-out past 3 o.d z.1) h
 
 pub taken-output : (plan : Plan) (n s : ℕ) (past : List ReEntry) → IsRun plan past → is_taken n past ≡ true → is_some (at_place plan.outputs s) ≡ true → (b : ℕ) × (output_of n s past ≡ Some b)
 taken-output plan n s [] run h k = absurd (false≢true h)

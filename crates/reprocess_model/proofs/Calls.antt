@@ -1,7 +1,7 @@
 -- How many commands, requests and flushes are called, against those of the plan.
 use Rattle.std.proofs.Common.{◌≡◌, ℕ, ◌+◌, ◌≤◌, Bool, true, false, ◌&&◌, not, List, [], ◌∷◌, Option, Some, None, inl, inr, refl, sym, arith, length, drop, slice_get, count_by, is_some, if◌then◌else◌, cond}
 use Rattle.std.proofs.lemmas.Bool.{and_parts, cases_Bool, not-true, false≢true}
-use Rattle.basic_lemmas.proofs.Counts.{count-one, count-over, drop-at, place-within}
+use Rattle.basic_lemmas.proofs.Counts.{count-cons, count-one, count-over, drop-at, place-within}
 use Rattle.cam_types.specs.declared.item.Settings.{Settings}
 use Rattle.reprocess_model.specs.declared.entry.ReEntry.{ReEntry}
 use Rattle.reprocess_model.specs.declared.entry.ReEntry.TheVariants.{Called, BeginFlush, Flushed}
@@ -71,39 +71,39 @@ call-more e past h = let more = count-one is_call e past h in omega (arith, more
 call-same : (e : ReEntry) (past : List ReEntry) → is_call e ≡ false → call_count (e ∷ past) ≡ call_count past
 call-same e past h = count-over is_call e past h
 
--- the requests that are called and those that are left are all
-pub requests-left : (plan : Plan) (past : List ReEntry) → IsRun plan past → request_count past + count_by is_request (drop (call_count past) plan.commands) ≡ count_by is_request plan.commands
-requests-left plan [] run = omega arith
-requests-left plan (Called i ∷ past) run =
-    let ih = requests-left plan past run.1 in
-    let at = called-request past (slice_get plan.commands (call_count past)) i run.0 in
-    let left = left-more is_request plan.commands (call_count past) (Request at.0) at.1 in
-    let one = count-one is_called (Called i) past refl in
-    rw (call-more (Called i) past refl) (omega (arith, ih, left, one))
-requests-left plan (Flushed i ∷ past) run =
-    let ih = requests-left plan past run.1 in
-    let at = flushed-flush past (slice_get plan.commands (call_count past)) i run.0 in
-    let left = left-more is_request plan.commands (call_count past) Flush at.command in
-    let none = count-over is_called (Flushed i) past refl in
-    rw (call-more (Flushed i) past refl) (omega (arith, ih, left, none))
-requests-left plan (e ∷ past) run = rw (call-same e past refl, count-over is_called e past refl) (requests-left plan past run.1)
+-- one more command is called
+call-left : (called : ReEntry → Bool) (kind : ReCommand → Bool) (commands : List ReCommand) (e : ReEntry) (past : List ReEntry) (x : ReCommand) → is_call e ≡ true → called e ≡ kind x → slice_get commands (call_count past) ≡ Some x → count_by called past + count_by kind (drop (call_count past) commands) ≡ count_by kind commands → count_by called (e ∷ past) + count_by kind (drop (call_count (e ∷ past)) commands) ≡ count_by kind commands
+call-left called kind commands e past x call same at ih =
+    let left = left-more kind commands (call_count past) x at in
+    let more = count-cons called e past in
+    let both : ◌≡◌ {A = ℕ} (if called e then 1 else 0) (if kind x then 1 else 0) = rw same refl in
+    rw (call-more e past call) (omega (arith, ih, left, more, both))
 
--- and so are the flushes
-pub flushes-left : (plan : Plan) (past : List ReEntry) → IsRun plan past → count_by is_flushed past + count_by is_flush (drop (call_count past) plan.commands) ≡ count_by is_flush plan.commands
-flushes-left plan [] run = omega arith
-flushes-left plan (Called i ∷ past) run =
-    let ih = flushes-left plan past run.1 in
+-- the calls of a kind and the commands of it that are left are all
+kind-left : (called : ReEntry → Bool) (kind : ReCommand → Bool) → ((i : ℕ) (s : Settings) → called (Called i) ≡ kind (Request s)) → ((i : ℕ) → called (Flushed i) ≡ kind Flush) → ((e : ReEntry) → is_call e ≡ false → called e ≡ false) → (plan : Plan) (past : List ReEntry) → IsRun plan past → count_by called past + count_by kind (drop (call_count past) plan.commands) ≡ count_by kind plan.commands
+kind-left called kind requests flushes others plan [] run = omega arith
+kind-left called kind requests flushes others plan (Called i ∷ past) run =
     let at = called-request past (slice_get plan.commands (call_count past)) i run.0 in
-    let left = left-more is_flush plan.commands (call_count past) (Request at.0) at.1 in
-    let none = count-over is_flushed (Called i) past refl in
-    rw (call-more (Called i) past refl) (omega (arith, ih, left, none))
-flushes-left plan (Flushed i ∷ past) run =
-    let ih = flushes-left plan past run.1 in
+    call-left called kind plan.commands (Called i) past (Request at.0) refl (requests i at.0) at.1 (kind-left called kind requests flushes others plan past run.1)
+kind-left called kind requests flushes others plan (Flushed i ∷ past) run =
     let at = flushed-flush past (slice_get plan.commands (call_count past)) i run.0 in
-    let left = left-more is_flush plan.commands (call_count past) Flush at.command in
-    let one = count-one is_flushed (Flushed i) past refl in
-    rw (call-more (Flushed i) past refl) (omega (arith, ih, left, one))
-flushes-left plan (e ∷ past) run = rw (call-same e past refl, count-over is_flushed e past refl) (flushes-left plan past run.1)
+    call-left called kind plan.commands (Flushed i) past Flush refl (flushes i) at.command (kind-left called kind requests flushes others plan past run.1)
+kind-left called kind requests flushes others plan (e ∷ past) run =
+    rw (call-same e past refl, count-over called e past (others e refl)) (kind-left called kind requests flushes others plan past run.1)
+
+pub requests-left : (plan : Plan) (past : List ReEntry) → IsRun plan past → request_count past + count_by is_request (drop (call_count past) plan.commands) ≡ count_by is_request plan.commands
+requests-left = kind-left is_called is_request (λ i s. refl) (λ i. refl) uncalled
+  where
+    uncalled : (e : ReEntry) → is_call e ≡ false → is_called e ≡ false
+    uncalled (Called i) h = absurd (false≢true (sym h))
+    uncalled _ h = refl
+
+pub flushes-left : (plan : Plan) (past : List ReEntry) → IsRun plan past → count_by is_flushed past + count_by is_flush (drop (call_count past) plan.commands) ≡ count_by is_flush plan.commands
+flushes-left = kind-left is_flushed is_flush (λ i s. refl) (λ i. refl) unflushed
+  where
+    unflushed : (e : ReEntry) → is_call e ≡ false → is_flushed e ≡ false
+    unflushed (Flushed i) h = absurd (false≢true (sym h))
+    unflushed _ h = refl
 
 -- a flush that goes on is the next command
 pub stopping-flush : (plan : Plan) (past : List ReEntry) → IsRun plan past → is_stopping past ≡ true → slice_get plan.commands (call_count past) ≡ Some Flush

@@ -110,8 +110,13 @@ outs-three input (Some a) None (Some c) (Some d) h = absurd (false≢true h)
 outs-three input (Some a) (Some b) None (Some d) h = absurd (false≢true h)
 outs-three input (Some a) (Some b) (Some c) (Some d) h = absurd (false≢true h)
 
-pub plan-outputs : (plan : Plan) → is_plan plan ≡ true → are_outputs plan.input plan.outputs ≡ true
-plan-outputs plan h =
+-- what an accepted plan has
+pub record IsAccepted (plan : Plan) : Type 0 where
+  pub outputs : are_outputs plan.input plan.outputs ≡ true
+  pub few_commands : nat_le (length plan.commands) 64 ≡ true
+
+pub accepted-parts : (plan : Plan) → is_plan plan ≡ true → IsAccepted plan
+accepted-parts plan h =
     let yuv = is_yuv plan.input in
     let outs = are_outputs plan.input plan.outputs in
     let faults = nat_le (length plan.faults) 64 in
@@ -121,13 +126,13 @@ plan-outputs plan h =
     let d = and_parts (((yuv && outs) && faults) && picks) commands e.0 in
     let c = and_parts ((yuv && outs) && faults) picks d.0 in
     let b = and_parts (yuv && outs) faults c.0 in
-    (and_parts yuv outs b.0).1
+    record { outputs = (and_parts yuv outs b.0).1; few_commands = d.1 }
 
 pub output-low : (plan : Plan) (s : ℕ) → is_plan plan ≡ true → s < 4 → is_some (at_place plan.outputs s) ≡ true → s < 3
 output-low plan s valid low h =
     elim (cases_eq s 3) [
       | inl three ↦ absurd (
-          let none = outs-three plan.input plan.outputs.a plan.outputs.b plan.outputs.c plan.outputs.d (plan-outputs plan valid) in
+          let none = outs-three plan.input plan.outputs.a plan.outputs.b plan.outputs.c plan.outputs.d (accepted-parts plan valid).outputs in
           let h' = rw (three, none) at h in
           false≢true h'
           )

@@ -8,6 +8,7 @@ use Rattle.std.proofs.lemmas.Bool.{and_parts, cases_eq, false≢true, ne_eqb}
 use Rattle.std.proofs.lemmas.Bool.Decides.{Decides-and, Decides-eqb, Decides-like}
 use Rattle.std.proofs.lemmas.Slice.Eq.{bytes_eq-Decides}
 use Rattle.cam_types.specs.declared.number.BufferId.{BufferId}
+use Rattle.cam_types.specs.declared.number.DeviceFenceNo.{DeviceFenceNo}
 use Rattle.cam_types.specs.declared.number.FenceNo.{FenceNo}
 use Rattle.cam_types.specs.declared.number.FrameNo.{FrameNo}
 use Rattle.cam_types.specs.declared.number.StreamIx.{StreamIx}
@@ -67,35 +68,35 @@ filled_meets script past n s b f digest = fill_by script past n s b f digest (ta
 
 -- ---- early
 
-early_same : (n : FrameNo) (s : StreamIx) (c b : BufferId) (a : ℕ) (d : FenceNo) → c.0 ≡ b.0 → d.0 ≡ a → Early (record { 0 = n.0 }) (record { 0 = s.0 }) c (record { 0 = a }) ≡ Early n s b d
+early_same : (n : FrameNo) (s : StreamIx) (c b : BufferId) (a : ℕ) (d : DeviceFenceNo) → c.0 ≡ b.0 → d.0 ≡ a → Early (record { 0 = n.0 }) (record { 0 = s.0 }) c (record { 0 = a }) ≡ Early n s b d
 early_same n s c b a d x y =
     let k : Early (record { 0 = n.0 }) (record { 0 = s.0 }) (record { 0 = c.0 }) (record { 0 = a }) ≡ Early (record { 0 = n.0 }) (record { 0 = s.0 }) (record { 0 = b.0 }) (record { 0 = d.0 }) = rw (x, y) refl in k
 
-fence_number : (a : ℕ) (d : FenceNo) → record { 0 = a } ≡ d → d.0 ≡ a
-fence_number a d e = sym (ap (λ (z : FenceNo). z.0) e)
+fence_number : (a : ℕ) (d : DeviceFenceNo) → record { 0 = a } ≡ d → d.0 ≡ a
+fence_number a d e = sym (ap (λ (z : DeviceFenceNo). z.0) e)
 
-early_is : (n : FrameNo) (s : StreamIx) (c b : BufferId) (a : ℕ) (d : FenceNo) → IsTrue ((c.0 == b.0) && (d.0 == a)) ↔ (Early (record { 0 = n.0 }) (record { 0 = s.0 }) c (record { 0 = a }) ≡ Early n s b d)
+early_is : (n : FrameNo) (s : StreamIx) (c b : BufferId) (a : ℕ) (d : DeviceFenceNo) → IsTrue ((c.0 == b.0) && (d.0 == a)) ↔ (Early (record { 0 = n.0 }) (record { 0 = s.0 }) c (record { 0 = a }) ≡ Early n s b d)
 early_is n s c b a d =
     Decides-like _ (λ h. early_same n s c b a d h.0 h.1) (λ q. (buffer_number c b (cc), fence_number a d (cc))) (Decides-and _ _ (Decides-eqb c.0 b.0) (Decides-eqb d.0 a))
 
 early_bools : (mine sound out shutter error passed order word fence : Bool) → ((out && (shutter && (sound && (error && (passed && (order && (word && (fence && true)))))))) && mine) ≡ ((word && ((out && (shutter && (sound && error))) && (passed && order))) && (mine && fence))
 early_bools mine sound out shutter error passed order word fence = grind arith
 
-early_by : (script : Script) (past : List Entry) (n : FrameNo) (s : StreamIx) (b : BufferId) (d : FenceNo) (o : Option Sent) → IsTrue ((has_buffer o b.0 && is_at_device_by n.0 s.0 b.0 past) && (has_shutter n.0 past && ((not (request_fault script n.0) && not (buffer_fault script n.0 s.0)) && ((not (has_error_request n.0 past) && not (has_error_buffer n.0 s.0 past)) && (is_passed (fence_in o) past && (each_earlier n.0 (lets_pass past s.0) past && (script.early && ((d.0 == next_early past) && true)))))))) ↔ (early_of script past n.0 s.0 o ≡ Some (Early n s b d))
+early_by : (script : Script) (past : List Entry) (n : FrameNo) (s : StreamIx) (b : BufferId) (d : DeviceFenceNo) (o : Option Sent) → IsTrue ((has_buffer o b.0 && is_at_device_by n.0 s.0 b.0 past) && (has_shutter n.0 past && ((not (request_fault script n.0) && not (buffer_fault script n.0 s.0)) && ((not (has_error_request n.0 past) && not (has_error_buffer n.0 s.0 past)) && (is_passed (fence_in o) past && (each_earlier n.0 (lets_pass past s.0) past && (script.early && ((d.0 == next_early past) && true)))))))) ↔ (early_of script past n.0 s.0 o ≡ Some (Early n s b d))
 early_by script past n s b d None = no_entry (Early n s b d)
 early_by script past n s b d (Some t) =
     by_test _ _ (same_buffer t.buffer.0 b.0 (λ c. is_at_device_by n.0 s.0 c past) _ ∙ early_bools (t.buffer.0 == b.0) (not (request_fault script n.0) && not (buffer_fault script n.0 s.0)) (is_at_device_by n.0 s.0 t.buffer.0 past) (has_shutter n.0 past) (not (has_error_request n.0 past) && not (has_error_buffer n.0 s.0 past)) (is_passed t.fence past) (each_earlier n.0 (lets_pass past s.0) past) script.early (d.0 == next_early past)) (where_test (script.early && may_deliver script past n.0 s.0 t) _ _ _ (early_is n s t.buffer b (next_early past) d))
 
-pub early_meets : (script : Script) (past : List Entry) (n : FrameNo) (s : StreamIx) (b : BufferId) (d : FenceNo) → IsTrue (list_all (λ c. early_holds c script past n.0 s.0 b.0 d.0) early_conditions) ↔ (early_due script past n.0 s.0 ≡ Some (Early n s b d))
+pub early_meets : (script : Script) (past : List Entry) (n : FrameNo) (s : StreamIx) (b : BufferId) (d : DeviceFenceNo) → IsTrue (list_all (λ c. early_holds c script past n.0 s.0 b.0 d.0) early_conditions) ↔ (early_due script past n.0 s.0 ≡ Some (Early n s b d))
 early_meets script past n s b d = early_by script past n s b d (target_of n.0 s.0 past)
 
 -- ---- late
 
-late_same : (d : FenceNo) (e f : List ℕ) → f ≡ e → Late (record { 0 = d.0 }) e ≡ Late d f
+late_same : (d : DeviceFenceNo) (e f : List ℕ) → f ≡ e → Late (record { 0 = d.0 }) e ≡ Late d f
 late_same d e f x =
     let k : Late (record { 0 = d.0 }) e ≡ Late (record { 0 = d.0 }) f = rw x refl in k
 
-late_where : (told : Bool) (d : FenceNo) (e f : List ℕ) → IsTrue (not told && (bytes_eq f e && true)) ↔ ((if told then None else Some (Late (record { 0 = d.0 }) e)) ≡ Some (Late d f))
+late_where : (told : Bool) (d : DeviceFenceNo) (e f : List ℕ) → IsTrue (not told && (bytes_eq f e && true)) ↔ ((if told then None else Some (Late (record { 0 = d.0 }) e)) ≡ Some (Late d f))
 late_where true d e f = no_entry (Late d f)
 late_where false d e f =
     by_test _ _ (grind arith) (Decides-like (bytes_eq f e) (λ h. ap Some (late_same d e f h)) (λ q. sym (cc)) (bytes_eq-Decides f e))
@@ -104,12 +105,12 @@ late_none : (told : Bool) (y : Entry) → IsTrue (not told && (false && true)) �
 late_none true y = no_entry y
 late_none false y = no_entry y
 
-late_by : (script : Script) (past : List Entry) (d : FenceNo) (digest : List ℕ) (o : Option Entry) → IsTrue (is_some o && (not (is_late d.0 past) && (is_late_picture script past digest o && true))) ↔ (late_of script past d.0 o ≡ Some (Late d digest))
+late_by : (script : Script) (past : List Entry) (d : DeviceFenceNo) (digest : List ℕ) (o : Option Entry) → IsTrue (is_some o && (not (is_late d.0 past) && (is_late_picture script past digest o && true))) ↔ (late_of script past d.0 o ≡ Some (Late d digest))
 late_by script past d digest None = no_entry (Late d digest)
 late_by script past d digest (Some (Early n s b f)) = late_where (is_late d.0 past) d (digest_of script past n.0 s.0) digest
 late_by script past d digest (Some e) = late_none (is_late d.0 past) (Late d digest)
 
-pub late_meets : (script : Script) (past : List Entry) (d : FenceNo) (digest : List ℕ) → IsTrue (list_all (λ c. late_holds c script past d.0 digest) late_conditions) ↔ (late_due script past d.0 ≡ Some (Late d digest))
+pub late_meets : (script : Script) (past : List Entry) (d : DeviceFenceNo) (digest : List ℕ) → IsTrue (list_all (λ c. late_holds c script past d.0 digest) late_conditions) ↔ (late_due script past d.0 ≡ Some (Late d digest))
 late_meets script past d digest =
     by_test _ _ (ap (λ (t : Bool). t && (not (is_late d.0 past) && (is_late_picture script past digest (find (is_early_with d.0) past) && true))) (any-found (is_early_with d.0) past)) (late_by script past d digest (find (is_early_with d.0) past))
 

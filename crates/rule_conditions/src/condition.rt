@@ -49,7 +49,7 @@ pub enum Condition {
     /// The time is that of the next shutter.
     ShutterTime,
 
-    // ---- D12: a metadata result
+    // ---- D12: a partial result
     /// The frame has its shutter.
     PartialBehindShutter,
     /// The number is one more than the parts that the frame has, and at most 3.
@@ -96,7 +96,7 @@ pub enum Condition {
     // ---- D14: the error of a request
     /// The frame is open.
     RequestErrorOfOpenFrame,
-    /// There is no metadata result, no buffer and no error of the frame.
+    /// There is no partial result, no buffer and no error of the frame.
     RequestErrorOfBareFrame,
     /// Its cause is a stop, or a request fault of the script.
     RequestErrorHasCause,

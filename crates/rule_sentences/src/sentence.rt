@@ -47,20 +47,19 @@ pub fn sentence_of(condition: Condition) -> &'static str
             "A frame that the script has a device fault for has no shutter",
         Condition::ShutterTime =>
             "The first shutter is at 1 s, each next one later by the last frame's exposure, at least 33333333 ns",
-        Condition::PartialBehindShutter =>
-            "A metadata result comes behind the shutter of its frame",
+        Condition::PartialBehindShutter => "A partial result comes behind the shutter of its frame",
         Condition::PartialNextNumber =>
-            "The metadata results of a frame are 1, 2 and 3, in this order",
+            "The partial results of a frame are 1, 2 and 3, in this order",
         Condition::PartialOfFrame =>
-            "A metadata result has the values of its frame's settings and of its shutter's time",
+            "A partial result has the values of its frame's settings and of its shutter's time",
         Condition::PartialWithoutError =>
-            "No metadata result comes behind the error of its request or of its metadata",
+            "No partial result comes behind the error of its request or of its metadata",
         Condition::PartialWithoutRequestFault =>
-            "A frame that the script has a request fault for has no metadata result",
+            "A frame that the script has a request fault for has no partial result",
         Condition::LastPartWithoutResultFault =>
-            "A frame that the script has a result fault for has no third metadata result",
+            "A frame that the script has a result fault for has no third partial result",
         Condition::LastPartInOrder =>
-            "The last metadata result comes once the metadata of every earlier frame ended",
+            "The last partial result comes once the metadata of every earlier frame ended",
         Condition::DeliveryAtDevice =>
             "A buffer comes back that is at the device by the send of its frame, for its stream",
         Condition::DeliveryBehindShutter =>
@@ -86,7 +85,7 @@ pub fn sentence_of(condition: Condition) -> &'static str
             "The late digest is that of the picture of the buffer that came back with its device fence",
         Condition::RequestErrorOfOpenFrame => "A request error is of an open frame",
         Condition::RequestErrorOfBareFrame =>
-            "A request error is of a frame without a metadata result, a buffer and an error",
+            "A request error is of a frame without a partial result, a buffer and an error",
         Condition::RequestErrorHasCause =>
             "A request error has a cause: a request fault, or a flush, disconnect or device failure behind the send",
         Condition::RequestErrorBehindShutter =>
@@ -100,7 +99,7 @@ pub fn sentence_of(condition: Condition) -> &'static str
         Condition::ResultErrorHasCause =>
             "A result error has a cause: a result fault, or a flush, disconnect or device failure behind the send",
         Condition::ResultErrorBehindSomething =>
-            "Without a fault, a result error comes behind a metadata result, a buffer or an error of its frame",
+            "Without a fault, a result error comes behind a partial result, a buffer or an error of its frame",
         Condition::BufferErrorOfTarget =>
             "A buffer error is of a stream that is a target of its frame",
         Condition::BufferErrorBehindShutter =>
@@ -112,7 +111,7 @@ pub fn sentence_of(condition: Condition) -> &'static str
         Condition::BufferErrorHasCause =>
             "A buffer error has a cause: a fault of it, or a flush, disconnect or device failure behind the send",
         Condition::BufferErrorBehindSomething =>
-            "Without a fault, a buffer error comes behind a metadata result, a buffer or an error of its frame",
+            "Without a fault, a buffer error comes behind a partial result, a buffer or an error of its frame",
         Condition::PartErrorOfStoppedRequest =>
             "A frame with a request fault fails whole, not in part, unless a flush, disconnect or failure stopped it",
         Condition::DeviceErrorNothingStops =>
@@ -248,7 +247,7 @@ pub fn heading_of(rule: RuleName) -> &'static str
         RuleName::D9 => "D9: a send",
         RuleName::D10 => "D10: a drop",
         RuleName::D11 => "D11: a shutter",
-        RuleName::D12 => "D12: a metadata result",
+        RuleName::D12 => "D12: a partial result",
         RuleName::D13 => "D13: a buffer with its picture",
         RuleName::D14 => "D14: an error, and a buffer that comes back in error",
         RuleName::D15 => "D15: the client's entries",

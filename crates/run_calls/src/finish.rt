@@ -5,6 +5,7 @@ ghost use Rattle.turn_lock.specs.Lending.{IsIdle};
 ghost use Rattle.turn_lock.specs.Seats.{fixed_of, view};
 ghost use Rattle.shared_camera.specs.Cameras.{script_of};
 ghost use Rattle.run_calls.specs.Finished.{FinishesAs};
+ghost use Rattle.call_parts.specs.Status.{status_number};
 
 use call_parts::{Status, write_trace};
 use camera_workers::{Gate, run_workers};
@@ -39,7 +40,7 @@ pub fn finish_run<R: Threads + Wait + Clock + Sync, K: Sink, G: Gate + Sync>(
     requires most { workers ≤ 8 }
     // What is written is the whole trace of a run of the script that begins with what the root had seen, is complete
     // and keeps the laws; or at status 4 a front of it.
-    ensures { FinishesAs writer.old (fixed_of script_of shared.turnstile) (view root).seen result.number
+    ensures { FinishesAs writer.old (fixed_of script_of shared.turnstile) (view root).seen (status_number result)
         (K.state sink.old) (K.state sink.new) }
 {
     run_workers(rt, &shared, &mut root, workers, digests, gate);
@@ -65,7 +66,7 @@ pub fn scrap_shared(shared: Shared, root: CamSeat)
 /// Makes the steps that are left of a service of which no job is out, and writes its trace.
 fn settle_and_write<K: Sink>(mut service: Service, writer: &mut TraceWriter, sink: &mut K) -> Status
     requires { AreOut service.script service.history [] }
-    ensures { FinishesAs writer.old service.script (reverse service.history) result.number
+    ensures { FinishesAs writer.old service.script (reverse service.history) (status_number result)
         (K.state sink.old) (K.state sink.new) }
 {
     a_complete_run_keeps_the_laws();

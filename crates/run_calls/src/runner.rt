@@ -1,13 +1,13 @@
 //! `run`: a script is read and run on workers, and its trace written.
-ghost use Rattle.std.specs.Prelude.{◌≡◌, ◌≢◌, ◌≤◌, ◌<◌, ℕ, List, [], IfOk, IfSome, IsTrue, length};
-ghost use Rattle.std.specs.Io.KnownBytes.{IsAtEnd};
+ghost use Rattle.std.specs.Prelude.{◌≡◌, ◌≤◌, ◌<◌, ℕ, List, [], IfOk, IsTrue, length};
 ghost use Rattle.cam_types.specs.Script.{is_valid};
-ghost use Rattle.call_parts.specs.Answers.{AreAnswers, Tells, TellsBy};
-ghost use Rattle.call_parts.specs.Ends.{CountsSink, CountsSource, ReadsBy};
+ghost use Rattle.call_parts.specs.Answers.{AreAnswers, OnDone, Tells, TellsBy};
+ghost use Rattle.call_parts.specs.Ends.{KeepsEnds};
 ghost use Rattle.run_calls.specs.Finished.{FinishesAs};
 ghost use Rattle.run_calls.specs.Running.{IsRunWhole, Runs, SaysOfRun};
 ghost use Rattle.judge_text.specs.Lines.{refused_script_text};
 ghost use Rattle.call_parts.specs.Texts.{named_profile};
+ghost use Rattle.call_parts.specs.Status.{status_number};
 
 use crate::finish::finish_run;
 use call_parts::{Status, named_profile, refuse_script};
@@ -104,7 +104,7 @@ pub fn run_prepared<R: Threads + Wait + Clock + Sync, K: Sink, G: Gate + Sync>(
 ) -> Status
     requires least { 1 ≤ workers }
     requires most { workers ≤ 8 }
-    ensures { FinishesAs (named_profile prepared) prepared [] result.number (K.state sink.old) (K.state sink.new) }
+    ensures { FinishesAs (named_profile prepared) prepared [] (status_number result) (K.state sink.old) (K.state sink.new) }
 {
     let PreparedRun {
         shared,
@@ -145,22 +145,17 @@ pub fn run_call<R: Threads + Wait + Clock + Sync, S: Source, K: Sink, G: Gate + 
     requires most { workers ≤ 8 }
     // The headline: at status 0 the source was read to its end, its bytes spell a script, and what was written is the
     // whole trace of a run of the script, which is complete and keeps the laws, and nothing else.
-    ensures whole { result.number ≡ 0 → IsAtEnd (S.left source.new)
-        × IfSome (S.left source.old) (λ input. IsRunWhole input (K.state sink.old) (K.state sink.new)) }
+    ensures whole { OnDone IsRunWhole (status_number result) (S.left source.old) (S.left source.new) (K.state sink.old)
+        (K.state sink.new) }
     // Each status and each text has its cause in the input's meaning. At status 4 a front of such a text is written.
-    ensures tells { Tells Runs (S.left source.old) result.number (K.state sink.old) (K.state sink.new) }
-    // The source's count of faults rose at 3 alone, and the sink's at 4 alone; at 3 and 5 nothing was written. At 0 the
-    // source was read to its end; where there is another answer, too, or it has more than the limit.
-    ensures source { CountsSource result.number (S.faults source.old) (S.faults source.new) }
-    ensures sink { CountsSink result.number (K.state sink.old) (K.state sink.new) }
-    ensures read { ReadsBy SCRIPT_BYTES result.number (S.left source.old) (S.left source.new) }
-    ensures known { result.number ≤ 5 }
-    ensures no_usage { result.number ≢ 2 }
+    ensures tells { Tells Runs (S.left source.old) (status_number result) (K.state sink.old) (K.state sink.new) }
+    ensures ends { KeepsEnds SCRIPT_BYTES (status_number result) (S.faults source.old) (S.faults source.new) (S.left source.old)
+        (S.left source.new) (K.state sink.old) (K.state sink.new) }
 {
     inputs_are_answered();
     match read_all(alloc, source, SCRIPT_BYTES) {
-        Err(ReadFault::Failed) => Status::SOURCE_FAILED,
-        Err(ReadFault::NoMemory) => Status::NO_MEMORY,
+        Err(ReadFault::Failed) => Status::SourceFailed,
+        Err(ReadFault::NoMemory) => Status::NoMemory,
         Ok(ReadBytes::TooLong) => refuse_script(alloc, 0, Cause::Limit.number(), sink),
         Ok(ReadBytes::Whole(bytes)) => run_text(alloc, rt, bytes.as_slice(), sink, gate, workers),
     }
@@ -177,10 +172,10 @@ fn run_text<R: Threads + Wait + Clock + Sync, K: Sink, G: Gate + Sync>(
 ) -> Status
     requires least { 1 ≤ workers }
     requires most { workers ≤ 8 }
-    ensures { TellsBy (Runs input.now) result.number (K.state sink.old) (K.state sink.new) }
+    ensures { TellsBy (Runs input.now) (status_number result) (K.state sink.old) (K.state sink.new) }
 {
     match script_text::read(alloc, input) {
-        Err(TextRefused::NoMemory) => Status::NO_MEMORY,
+        Err(TextRefused::NoMemory) => Status::NoMemory,
         Err(TextRefused::Bad { line, cause }) => refuse_script(alloc, line, cause.number(), sink),
         Ok(script) => run_script(alloc, rt, script, sink, gate, workers),
     }
@@ -198,10 +193,10 @@ fn run_script<R: Threads + Wait + Clock + Sync, K: Sink, G: Gate + Sync>(
     requires valid { IsTrue (is_valid script) }
     requires least { 1 ≤ workers }
     requires most { workers ≤ 8 }
-    ensures { TellsBy (SaysOfRun script) result.number (K.state sink.old) (K.state sink.new) }
+    ensures { TellsBy (SaysOfRun script) (status_number result) (K.state sink.old) (K.state sink.new) }
 {
     match prepare_run(alloc, script, workers) {
         Ok(prepared) => run_prepared(rt, prepared, sink, gate, workers),
-        Err(_) => Status::NO_MEMORY,
+        Err(_) => Status::NoMemory,
     }
 }

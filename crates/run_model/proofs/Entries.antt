@@ -1,7 +1,7 @@
 -- A legal trace has at most 21 entries for each frame, two for each command, and two more.
 use Rattle.std.proofs.Common.{◌≡◌, ℕ, zero, suc, ◌==◌, ◌+◌, ◌*◌, ◌<◌, ◌≤◌, Bool, true, false, ◌&&◌, ◌||◌, not, List, [], ◌∷◌, Option, Some, None, refl, arith, length, count_by, is_some, nat_lt, if◌then◌else◌}
 use Rattle.std.specs.List.{list_any}
-use Rattle.std.proofs.lemmas.Bool.{and_parts, eq-eqb, false≢true, ltb-true, not-true, or_left, or_parts}
+use Rattle.std.proofs.lemmas.Bool.{and_parts, false≢true, ltb-true, not-true, or_left, or_parts}
 use Rattle.cam_types.specs.declared.number.FrameNo.{FrameNo}
 use Rattle.cam_types.specs.declared.number.StreamIx.{StreamIx}
 use Rattle.cam_types.specs.declared.number.FenceNo.{FenceNo}
@@ -33,9 +33,10 @@ use Rattle.trace_laws.proofs.Shutters.{exposed, shutter-sent}
 use Rattle.trace_laws.proofs.Once.{out-not-returned}
 use Rattle.trace_laws.proofs.Returns.{early-back, early-well, filled-back, filled-well}
 use Rattle.trace_model.specs.Filled.{is_sound}
-use Rattle.run_model.proofs.Lent.{ends-and-lent, is_failed}
+use Rattle.trace_laws.proofs.FenceLemmas.{ends_bounded}
+use Rattle.trace_model.specs.Summary.{is_failed_buffer}
 use Rattle.run_model.proofs.Room.{HasRoom, Slot, is_slot, room-bound, room-taken, room-without, same_slot, slot, taking, used}
-use Rattle.run_model.proofs.Slots.{early-slot, fence-slot, frame-slot, pairs, room-after, slots, slots-few, target-slot}
+use Rattle.run_model.proofs.Slots.{early-slot, fence-slot, frame-slot, pairs, room-after, slots, slots-few, target-slot, pairs-few}
 use Rattle.basic_lemmas.proofs.Lists.{found-any, any-less}
 use Rattle.basic_lemmas.proofs.Tests.{given-where, own-number}
 use Rattle.basic_lemmas.proofs.Counts.{count-cons}
@@ -239,6 +240,10 @@ is_begin _ = false
 abbrev pub one_if : Bool → ℕ
 one_if b = if b then 1 else 0
 
+at_most_one : (b : Bool) → one_if b ≤ 1
+at_most_one true = omega arith
+at_most_one false = omega arith
+
 begin_given : (past : List Entry) (o : Option Command) (e : Entry) → begin_of past o ≡ Some e → is_some (begun past) ≡ false
 begin_given past None e h = absurd (cc)
 begin_given past (Some c) e h =
@@ -261,10 +266,6 @@ begins-few script (Call i w r ∷ past) legal =
     let one = count-cons is_call (Call i w r) past in
     let few = at_most_one (is_some (begun past)) in
     omega (arith, ih, none, one, few)
-  where
-    at_most_one : (b : Bool) → one_if b ≤ 1
-    at_most_one true = omega arith
-    at_most_one false = omega arith
 begins-few script (_ ∷ past) legal = begins-few script past legal.1
 
 device_once : (stopping due : Bool) (e : Entry) → (if not stopping && due then Some ErrorDevice else None) ≡ Some e → stopping ≡ false
@@ -284,7 +285,7 @@ device-few script (ErrorDevice ∷ past) legal =
 device-few script (e ∷ past) legal = device-few script past legal.1
 
 -- every entry takes a slot or is of one of these kinds
-kinds : (e : Entry) → one_if (is_some (entry_slot e)) + (one_if (is_numbering e) + (one_if (is_release e) + (one_if (is_call e) + (one_if (is_begin e) + (one_if (is_failed e) + one_if (is_error_device e)))))) ≡ 1
+kinds : (e : Entry) → one_if (is_some (entry_slot e)) + (one_if (is_numbering e) + (one_if (is_release e) + (one_if (is_call e) + (one_if (is_begin e) + (one_if (is_failed_buffer e) + one_if (is_error_device e)))))) ≡ 1
 kinds (Begin w) = refl
 kinds (Call i w r) = refl
 kinds (Send n r i same targets) = refl
@@ -294,7 +295,7 @@ kinds (Failed n s b f) = refl
 kinds ErrorDevice = refl
 kinds _ = refl
 
-pub all-kinds : (past : List Entry) → length past ≡ taking entry_slot past + (next_number past + (next_fence past + (call_count past + (count_by is_begin past + (count_by is_failed past + count_by is_error_device past)))))
+pub all-kinds : (past : List Entry) → length past ≡ taking entry_slot past + (next_number past + (next_fence past + (call_count past + (count_by is_begin past + (count_by is_failed_buffer past + count_by is_error_device past)))))
 all-kinds [] = refl
 all-kinds (e ∷ past) =
     let ih = all-kinds past in
@@ -304,16 +305,9 @@ all-kinds (e ∷ past) =
     let c = count-cons is_release e past in
     let d = count-cons is_call e past in
     let f = count-cons is_begin e past in
-    let i = count-cons is_failed e past in
+    let i = count-cons is_failed_buffer e past in
     let g = count-cons is_error_device e past in
     omega (arith, ih, k, a, b, c, d, f, g, i)
-
-targets_few : (n : ℕ) (targets : List Sent) → length (pairs of_target n targets) ≡ length targets
-targets_few n [] = refl
-targets_few n (t ∷ targets) = let ih = targets_few n targets in omega (arith, ih)
-
-few_slots : (n : ℕ) (targets : List Sent) → length targets ≤ 4 → length (of_frame n) + length (pairs of_target n targets) ≤ 8
-few_slots n targets few = let each = targets_few n targets in omega (arith, each, few)
 
 pub entries_bounded : (script : Script) (past : List Entry) → IsLegal script past → length past ≤ 21 * frame_bound script + (2 * length script.commands + 2)
 entries_bounded script past legal =
@@ -321,7 +315,7 @@ entries_bounded script past legal =
     let room = room-bound entry_slot past (entry_slots past) (entries-room script past legal) in
     let few = slots-few of_frame of_target of_fence of_early 8 1 1 past few_slots (λ f. refl) (λ d. refl) in
     let numbers = frames_bounded script past legal in
-    let fences = ends-and-lent script past legal in
+    let fences = ends_bounded script past legal in
     let earlies : next_early past ≤ 4 * frame_bound script = earlies_bounded script past legal in
     let calls = calls_bounded script past legal in
     let begins = begins-few script past legal in
@@ -330,6 +324,5 @@ entries_bounded script past legal =
     let two = at_most_one (has_failed past) in
     omega (arith, all, room, few, numbers, fences, earlies, calls, begins, devices, one, two)
   where
-    at_most_one : (b : Bool) → one_if b ≤ 1
-    at_most_one true = omega arith
-    at_most_one false = omega arith
+    few_slots : (n : ℕ) (targets : List Sent) → length targets ≤ 4 → length (of_frame n) + length (pairs of_target n targets) ≤ 8
+    few_slots n targets few = let each = pairs-few of_target 1 (λ m s. refl) n targets in omega (arith, each, few)

@@ -15,7 +15,7 @@ use Rattle.trace_model.specs.Filled.{filled_due, early_due, late_of}
 use Rattle.trace_model.specs.Frames.{frames, shutter_time, target_of, targets_of}
 use Rattle.trace_model.specs.Legal.{IsLegal}
 use Rattle.trace_model.specs.Open.{early_fences, is_open, is_settled}
-use Rattle.trace_model.specs.Partial.{part_count}
+use Rattle.trace_model.specs.Partial.{partial_count}
 use Rattle.trace_model.specs.Picture.{digest_of}
 use Rattle.trace_model.specs.Queue.{first_in, next, queued}
 use Rattle.cam_types.specs.declared.request.Queued.{Queued}
@@ -120,7 +120,7 @@ move-ends script h (ReturnFailed f t) m n s legal k =
     failed_shape (Ends h n s) (trace_of h) f.0 t.0 (target_of f.0 t.0 (trace_of h)) e both.1 (λ u is. out-at h n s f.0 t.0 (not-true' (is_sensor_out h f.0) (is_fill_out h f.0 t.0) both.0) is))
 move-ends script h Shutter m n s legal k = adds-goes h n s Shutter _ m k (λ e d. shutter_shape GoesOn script (trace_of h) (find (may_expose script (trace_of h)) (frames (trace_of h))) e d (λ i. refl))
 move-ends script h (SensorDone f) m n s legal k = rw (adds-none (SensorDone f) (is_sensor_out h f.0) m k).1 tt
-move-ends script h (Partial f) m n s legal k = adds-goes h n s (Partial f) _ m k (λ e d. part_shape GoesOn script (trace_of h) f.0 (part_count f.0 (trace_of h) + 1) (shutter_time f.0 (trace_of h)) e d (λ part. refl))
+move-ends script h (Partial f) m n s legal k = adds-goes h n s (Partial f) _ m k (λ e d. part_shape GoesOn script (trace_of h) f.0 (partial_count f.0 (trace_of h) + 1) (shutter_time f.0 (trace_of h)) e d (λ part. refl))
 move-ends script h (TakeFill f t) m n s legal k = rw (adds-none (TakeFill f t) (may_take_fill script h f.0 t.0) m k).1 tt
 move-ends script h (FillDone f t) m n s legal k = rw (adds-none (FillDone f t) (is_fill_out h f.0 t.0) m k).1 tt
 move-ends script h (Deliver f t) m n s legal k =

@@ -3,7 +3,7 @@ use Rattle.std.proofs.Common.{◌≡◌, ℕ, ◌==◌, ◌+◌, Bool, true, fal
 use Rattle.std.specs.List.{list_any}
 use Rattle.std.proofs.lemmas.Bool.{and_parts, cases_Bool, false≢true}
 use Rattle.std.proofs.lemmas.Bool.Decides.{nat_tests}
-use Rattle.cam_types.specs.declared.part.Part.{Part}
+use Rattle.cam_types.specs.declared.partial_result.PartialResult.{PartialResult}
 use Rattle.cam_types.specs.declared.script.Command.{Command}
 use Rattle.cam_types.specs.declared.script.Script.{Script}
 use Rattle.trace_model.specs.declared.entry.Entry.{Entry}
@@ -22,7 +22,7 @@ use Rattle.trace_model.specs.Frames.{each_earlier, frames, has_error, has_error_
 use Rattle.trace_model.specs.Legal.{IsLegal}
 use Rattle.trace_model.specs.Numbers.{call_count, next_early, next_fence, next_number}
 use Rattle.trace_model.specs.Open.{early_fences, has_error_buffer}
-use Rattle.trace_model.specs.Partial.{may_part, part_count, part_of, partial_due}
+use Rattle.trace_model.specs.Partial.{may_have_partial, partial_count, partial_of, partial_due}
 use Rattle.cam_types.specs.Metadata.{part_at}
 use Rattle.trace_model.specs.Picture.{digest_of}
 use Rattle.trace_model.specs.Place.{is_at_device_by}
@@ -87,13 +87,13 @@ pub shutter_allowed : (script : Script) (past : List Entry) (e : Entry) → shut
 shutter_allowed script past e h =
     shutter_shape (λ d. shutter_due script past ≡ Some d → IsAllowed script past d) script past (find (may_expose script past) (frames past)) e h (λ n k. k) h
 
-pub part_shape : (P : Entry → Type 0) (script : Script) (past : List Entry) (n k : ℕ) (o : Option ℕ) (e : Entry) → part_of script past n k o ≡ Some e → ((part : Part) → P (PartialEntry (record { 0 = n }) k part)) → P e
+pub part_shape : (P : Entry → Type 0) (script : Script) (past : List Entry) (n k : ℕ) (o : Option ℕ) (e : Entry) → partial_of script past n k o ≡ Some e → ((part : PartialResult) → P (PartialEntry (record { 0 = n }) k part)) → P e
 part_shape P script past n k None e h each = absurd (cc)
-part_shape P script past n k (Some time) e h each = by_test P (may_part script past n k) _ e h (λ t. each (part_at k (settings_of script past n) time))
+part_shape P script past n k (Some time) e h each = by_test P (may_have_partial script past n k) _ e h (λ t. each (part_at k (settings_of script past n) time))
 
 pub part_allowed : (script : Script) (past : List Entry) (n : ℕ) (e : Entry) → partial_due script past n ≡ Some e → IsAllowed script past e
 part_allowed script past n e h =
-    part_shape (λ d. partial_due script past n ≡ Some d → IsAllowed script past d) script past n (part_count n past + 1) _ e h (λ part k. k) h
+    part_shape (λ d. partial_due script past n ≡ Some d → IsAllowed script past d) script past n (partial_count n past + 1) _ e h (λ part k. k) h
 
 pub failed_shape : (P : Entry → Type 0) (past : List Entry) (n s : ℕ) (o : Option Sent) (e : Entry) → failed_of past n s o ≡ Some e → ((t : Sent) → P (Failed (record { 0 = n }) (record { 0 = s }) t.buffer (fence_left t.fence past))) → P e
 failed_shape P past n s None e h each = absurd (cc)
@@ -123,15 +123,15 @@ pub by_failing : (P : Entry → Type 0) (b : Bool) (x e : Entry) → (if b then 
 by_failing P true x e h each = absurd (cc)
 by_failing P false x e h each = let same : x ≡ e = cc in rw same at each
 
-late_shape : (P : Entry → Type 0) (script : Script) (past : List Entry) (d : ℕ) (o : Option Entry) (e : Entry) → late_of script past d o ≡ Some e → ((digest : List ℕ) → P (LateEntry (record { 0 = d }) digest)) → P e
-late_shape P script past d None e h each = absurd (cc)
-late_shape P script past d (Some (EarlyEntry n s b f)) e h each =
+pub late-shape : (P : Entry → Type 0) (script : Script) (past : List Entry) (d : ℕ) (o : Option Entry) (e : Entry) → late_of script past d o ≡ Some e → ((digest : List ℕ) → P (LateEntry (record { 0 = d }) digest)) → P e
+late-shape P script past d None e h each = absurd (cc)
+late-shape P script past d (Some (EarlyEntry n s b f)) e h each =
     by_failing P (is_late d past) (LateEntry (record { 0 = d }) (digest_of script past n.0 s.0)) e h (each (digest_of script past n.0 s.0))
-late_shape P script past d (Some _) e h each = absurd (cc)
+late-shape P script past d (Some _) e h each = absurd (cc)
 
 pub late_allowed : (script : Script) (past : List Entry) (d : ℕ) (e : Entry) → late_due script past d ≡ Some e → IsAllowed script past e
 late_allowed script past d e h =
-    late_shape (λ x. late_due script past d ≡ Some x → IsAllowed script past x) script past d (find (is_early_with d) past) e h (λ digest k. k) h
+    late-shape (λ x. late_due script past d ≡ Some x → IsAllowed script past x) script past d (find (is_early_with d) past) e h (λ digest k. k) h
 
 finish_allowed : (script : Script) (past : List Entry) (fences : List ℕ) (e : Entry) → late_with script past fences ≡ Some e → IsAllowed script past e
 finish_allowed script past [] e h = absurd (cc)

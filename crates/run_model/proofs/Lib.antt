@@ -1,7 +1,6 @@
 pub mod Lengths
 pub mod Room
 pub mod Slots
-pub mod Lent
 pub mod Entries
 pub mod Legal
 pub mod Moves

@@ -23,7 +23,7 @@ use Rattle.trace_laws.proofs.Shutters.{shutter-sent}
 use Rattle.run_model.proofs.Entries.{entries_bounded, one_if, target-has}
 use Rattle.run_model.proofs.Legal.{adds, adds-none, runs_legally}
 use Rattle.run_model.proofs.Room.{HasRoom, Slot, is_slot, room-bound, room-taken, room-without, same_slot, slot, taking}
-use Rattle.run_model.proofs.Slots.{frame-slot, pairs, room-after, slots, slots-few, slots-keep, target-slot}
+use Rattle.run_model.proofs.Slots.{frame-slot, pairs, room-after, slots, slots-few, slots-keep, target-slot, pairs-few}
 use Rattle.basic_lemmas.proofs.Lists.{any-less}
 use Rattle.basic_lemmas.proofs.Counts.{count-cons}
 use Rattle.basic_lemmas.proofs.Tests.{own-number}
@@ -168,12 +168,8 @@ all-moves script (m ∷ h) run =
     let b = counted (trace_of h) m.entry in
     omega (arith, ih, k, a, b)
 
-targets_few : (n : ℕ) (targets : List Sent) → length (pairs jobs_of_target n targets) ≡ 2 * length targets
-targets_few n [] = refl
-targets_few n (t ∷ targets) = let ih = targets_few n targets in omega (arith, ih)
-
 few_jobs : (n : ℕ) (targets : List Sent) → length targets ≤ 4 → length (jobs_of_frame n) + length (pairs jobs_of_target n targets) ≤ 9
-few_jobs n targets few = let each = targets_few n targets in omega (arith, each, few)
+few_jobs n targets few = let each = pairs-few jobs_of_target 2 (λ m s. refl) n targets in omega (arith, each, few)
 
 pub moves_few : (script : Script) (h : List Move) → IsRun script h → length h ≤ 30 * frame_bound script + (2 * length script.commands + 2)
 moves_few script h run =

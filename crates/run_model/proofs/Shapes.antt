@@ -4,18 +4,16 @@ use Rattle.cam_types.specs.Four.{four_of}
 use Rattle.cam_types.specs.declared.request.Queued.{Queued}
 use Rattle.cam_types.specs.declared.script.Script.{Script}
 use Rattle.trace_model.specs.declared.entry.Entry.{Entry}
-use Rattle.trace_model.specs.declared.entry.Entry.TheVariants.{Send as SendEntry, Early as EarlyEntry, ErrorBuffer, ErrorDevice, ErrorRequest, ErrorResult, Late as LateEntry}
+use Rattle.trace_model.specs.declared.entry.Entry.TheVariants.{Send as SendEntry, ErrorBuffer, ErrorDevice, ErrorRequest, ErrorResult}
 use Rattle.trace_model.specs.declared.entry.Sent.{Sent}
 use Rattle.trace_model.specs.Errors.{error_request_due, error_result_due, may_fail_buffer}
-use Rattle.trace_model.specs.Fence.{is_late}
-use Rattle.trace_model.specs.Filled.{late_of}
 use Rattle.trace_model.specs.Frames.{targets_of}
 use Rattle.trace_model.specs.Numbers.{next_number}
-use Rattle.trace_model.specs.Picture.{digest_of}
 use Rattle.trace_model.specs.Queue.{next}
 use Rattle.trace_model.specs.Send.{least_targets, mark_of, may_go, send_due, send_next, send_with, targets_in_order}
 use Rattle.run_model.specs.Ready.{error_due, failure_at, first_buffer_error, or_entry}
-use Rattle.run_model.proofs.Legal.{by_failing, by_test}
+use Rattle.run_model.proofs.Legal.{by_test}
+pub use Rattle.run_model.proofs.Legal.{late-shape}
 
 pub or-shape : (P : Entry → Type 0) (a b : Option Entry) (e : Entry) → or_entry a b ≡ Some e → ((d : Entry) → a ≡ Some d → P d) → ((d : Entry) → b ≡ Some d → P d) → P e
 or-shape P (Some x) b e h first second = first e h
@@ -55,8 +53,3 @@ error-shape P script past n e h device request result buffer =
     (λ y i. buffer-shape P script past n (find (λ t. may_fail_buffer script past n t.stream.0) (targets_of n past)) y i buffer)))
 
 -- ---- the signal of a device fence
-
-pub late-shape : (P : Entry → Type 0) (script : Script) (past : List Entry) (d : ℕ) (o : Option Entry) (e : Entry) → late_of script past d o ≡ Some e → ((x : List ℕ) → P (LateEntry (record { 0 = d }) x)) → P e
-late-shape P script past d None e h each = absurd (cc)
-late-shape P script past d (Some (EarlyEntry m u b f)) e h each = by_failing P (is_late d past) (LateEntry (record { 0 = d }) (digest_of script past m.0 u.0)) e h (each (digest_of script past m.0 u.0))
-late-shape P script past d (Some _) e h each = absurd (cc)

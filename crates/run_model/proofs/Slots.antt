@@ -1,10 +1,9 @@
 -- The slots that frames and fences make: some for each frame, for each target, for each fence, and for each device fence.
-use Rattle.std.proofs.Common.{◌≡◌, ℕ, ◌==◌, ◌+◌, ◌*◌, ◌<◌, ◌≤◌, Bool, true, false, List, [], ◌∷◌, ◌++◌, Option, refl, arith, inl, inr, length, length-append}
+use Rattle.std.proofs.Common.{◌≡◌, ℕ, ◌==◌, ◌+◌, ◌*◌, ◌<◌, ◌≤◌, Bool, true, false, List, [], ◌∷◌, ◌++◌, Option, arith, inl, inr, length, length-append}
 use Rattle.std.specs.List.{list_any}
-use Rattle.std.proofs.lemmas.Bool.{cases_Bool, eqb-true, false≢true, or_right}
+use Rattle.std.proofs.lemmas.Bool.{cases_Bool, eqb-true, false≢true}
 use Rattle.std.proofs.lemmas.Bool.Decides.{nat_tests}
 use Rattle.cam_types.specs.Four.{four_list}
-use Rattle.cam_types.specs.declared.four.Four.{Four}
 use Rattle.cam_types.specs.declared.script.Script.{Script}
 use Rattle.trace_model.specs.declared.entry.Entry.{Entry}
 use Rattle.trace_model.specs.declared.entry.Entry.TheVariants.{Send, Dropped, Release, Early}
@@ -17,6 +16,7 @@ use Rattle.trace_laws.proofs.Shapes.{release-is}
 use Rattle.run_model.proofs.Room.{HasRoom, Slot, room-more}
 use Rattle.basic_lemmas.proofs.Counts.{count-cons}
 use Rattle.basic_lemmas.proofs.Lists.{any-first, any-back}
+use Rattle.cam_types.proofs.Fours.{four-few}
 
 abbrev pub pairs : (ℕ → ℕ → List Slot) → ℕ → List Sent → List Slot
 pairs P n [] = []
@@ -29,8 +29,10 @@ slots F P S E (Release _ f ∷ past) = S f.0 ++ slots F P S E past
 slots F P S E (Early _ _ _ d ∷ past) = E d.0 ++ slots F P S E past
 slots F P S E (_ ∷ past) = slots F P S E past
 
-four-few : {T : Type 0} (f : Four T) → length (four_list f) ≤ 4
-four-few f = grind arith
+-- so many for each target are so many times as many
+pub pairs-few : (P : ℕ → ℕ → List Slot) (k : ℕ) → ((n s : ℕ) → length (P n s) ≡ k) → (n : ℕ) (targets : List Sent) → length (pairs P n targets) ≡ k * length targets
+pairs-few P k each n [] = omega arith
+pairs-few P k each n (t ∷ targets) = rw (length-append (P n t.stream.0) (pairs P n targets), each n t.stream.0, pairs-few P k each n targets) (grind arith)
 
 module _ (F : ℕ → List Slot) (P : ℕ → ℕ → List Slot) (S : ℕ → List Slot) (E : ℕ → List Slot) where
   -- no entry takes a slot away

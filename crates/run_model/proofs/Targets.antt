@@ -1,11 +1,11 @@
 -- A fill is of a target of its frame, which keeps its targets; nothing of a frame that wasn't sent is exposed.
-use Rattle.std.proofs.Common.{◌≡◌, ℕ, ◌==◌, true, false, List, [], ◌∷◌, Option, Some, None, refl, sym, ap, ◌∙◌, inl, inr, find}
+use Rattle.std.proofs.Common.{◌≡◌, ℕ, ◌==◌, true, false, List, [], ◌∷◌, Option, Some, None, refl, ap, ◌∙◌, inl, inr, find}
 use Rattle.std.specs.List.{list_any}
 use Rattle.std.proofs.lemmas.Bool.{cases_Bool, false≢true}
 use Rattle.cam_types.specs.declared.script.Script.{Script}
 use Rattle.trace_model.specs.declared.entry.Entry.{Entry}
 use Rattle.trace_model.specs.declared.entry.Sent.{Sent}
-use Rattle.trace_model.specs.Frames.{has_shutter, has_target, is_sent, send_of, target_of, targets_in, targets_of}
+use Rattle.trace_model.specs.Frames.{has_target, is_sent, send_of, target_of, targets_in, targets_of}
 use Rattle.trace_model.specs.Legal.{IsLegal}
 use Rattle.run_model.specs.declared.step.Move.{Move}
 use Rattle.run_model.specs.History.{trace_of, with_entry, is_take_fill}
@@ -18,6 +18,7 @@ use Rattle.run_model.proofs.Legal.{runs_legally}
 use Rattle.trace_laws.proofs.Frames.{sent-once}
 use Rattle.run_model.proofs.Unsent.{done-shot, filled-taken, take-parts, take-ready, taken-done}
 use Rattle.basic_lemmas.proofs.Tests.{not-by}
+pub use Rattle.trace_laws.proofs.Told.{unexposed as dark-next}
 
 send-same : (script : Script) (past : List Entry) (o : Option Entry) (n : ℕ) → IsLegal script (with_entry o past) → is_sent n past ≡ true → send_of n (with_entry o past) ≡ send_of n past
 send-same script past (Some e) n legal sent = rw (sent-once script past e n legal.1 legal.0 sent) refl
@@ -25,12 +26,6 @@ send-same script past None n legal sent = refl
 
 pub targets-same : (script : Script) (past : List Entry) (o : Option Entry) (n : ℕ) → IsLegal script (with_entry o past) → is_sent n past ≡ true → targets_of n (with_entry o past) ≡ targets_of n past
 targets-same script past o n legal sent = ap (λ (e : Option Entry). targets_in e) (send-same script past o n legal sent)
-
-pub dark-next : (script : Script) (past : List Entry) (n : ℕ) → IsLegal script past → is_sent n past ≡ false → has_shutter n past ≡ false
-dark-next script past n legal unsent = elim (cases_Bool (has_shutter n past)) [
-  | inl shot ↦ absurd (false≢true (sym unsent ∙ shutter-sent script past n legal shot))
-  | inr dark ↦ dark
-]
 
 -- ---- a fill is of a target
 

@@ -13,7 +13,7 @@ use Rattle.trace_model.specs.declared.entry.Entry.TheVariants.{Send, Filled, Fai
 use Rattle.trace_model.specs.declared.entry.Sent.{Sent}
 use Rattle.trace_model.specs.Frames.{frames, send_of, targets_of, shutter_time, settings_of, has_error_request}
 use Rattle.trace_model.specs.Open.{is_open, is_settled, has_error_result, has_error_buffer}
-use Rattle.trace_model.specs.Partial.{part_count}
+use Rattle.trace_model.specs.Partial.{partial_count}
 use Rattle.cam_types.specs.Four.{four_of}
 use Rattle.trace_model.specs.Stopping.{is_stopped}
 use Rattle.run_model.specs.declared.step.Move.{Move}
@@ -76,7 +76,7 @@ row_of script h n = let past = trace_of h in record {
   settings = settings_of script past n;
   targets = four_of (map (target_view h n) (targets_of n past));
   shutter = shutter_time n past;
-  parts = part_count n past;
+  parts = partial_count n past;
   request_error = has_error_request n past;
   result_error = has_error_result n past;
   sensor = sensor_place h n;

@@ -1,6 +1,6 @@
 use Rattle.std.specs.Prelude.{ℕ, false, List, [], ◌∷◌}
 use Rattle.cam_types.specs.Four.{four_of}
-use Rattle.cam_types.specs.declared.part.Part.TheVariants.{Time}
+use Rattle.cam_types.specs.declared.partial_result.PartialResult.TheVariants.{Time}
 use Rattle.trace_model.specs.declared.entry.Entry.{Entry}
 use Rattle.trace_model.specs.declared.entry.Entry.TheVariants.{Send, Dropped, Shutter, Partial, ErrorRequest, ErrorResult, Release, Early, Late}
 

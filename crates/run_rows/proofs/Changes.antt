@@ -7,7 +7,7 @@ use Rattle.cam_types.specs.Rows as view
 use Rattle.cam_types.specs.declared.four.Four.{Four}
 use Rattle.cam_types.specs.declared.number.FrameNo.{FrameNo}
 use Rattle.cam_types.specs.declared.number.StreamIx.{StreamIx}
-use Rattle.cam_types.specs.declared.part.Part.{Part}
+use Rattle.cam_types.specs.declared.partial_result.PartialResult.{PartialResult}
 use Rattle.cam_types.specs.declared.row.RowView.{RowView}
 use Rattle.cam_types.specs.declared.row.SensorPlace.TheVariants.{Out as SensorOut}
 use Rattle.cam_types.specs.declared.row.TargetState.{TargetState}
@@ -75,6 +75,12 @@ same-views script h step e n run errors a b c d =
     views-stay (target_view (record { step = step; entry = Some e } ∷ h) n) (target_view h n) (targets_of n (trace_of h))
     (λ t. target-noted h step e n t (target_state h n t.stream.0) (state-stays script h step e n t.stream.0 run (a t.stream.0) (b t.stream.0) (c t.stream.0) (d t.stream.0)) ∙ rw (errors t.stream.0) refl)
 
+-- an entry that touches no buffer and is no shutter
+said-row : (script : Script) (h : List Move) (step : StepName) (e : Entry) (n : ℕ) → IsRun script (record { step = step; entry = Some e } ∷ h) → is_sent n (trace_of h) ≡ true → is_shutter n e ≡ false → ((u : ℕ) → is_error_buffer n u e ≡ false) → ((u : ℕ) → is_ok_return n u e ≡ false) → ((u : ℕ) → is_failed_return n u e ≡ false) → ((u : ℕ) → is_early_return n u e ≡ false) → ((u : ℕ) → settles n u e (early_fences n u (trace_of h)) ≡ false) → row_of script (record { step = step; entry = Some e } ∷ h) n ≡ row_noted script h e n (map (target_view h n) (targets_of n (trace_of h))) (sensor_place h n)
+said-row script h step e n run sent shutter errors a b c d =
+    view-noted script h step e n (map (target_view h n) (targets_of n (trace_of h))) (sensor_place h n) run sent (same-views script h step e n run errors a b c d)
+    (place-noted script h step e n run sent ∙ rw shutter refl)
+
 pub shutter-row : (script : Script) (h : List Move) (step : StepName) (n : FrameNo) (time : ℕ) → IsRun script (record { step = step; entry = Some (ShutterEntry n time) } ∷ h) → is_sent n.0 (trace_of h) ≡ true → row_of script (record { step = step; entry = Some (ShutterEntry n time) } ∷ h) n.0 ≡ exposed time (row_of script h n.0)
 shutter-row script h step n time run sent =
     let past = trace_of h in
@@ -86,40 +92,20 @@ shutter-row script h step n time run sent =
     (same-views script h step e n.0 run (λ u. refl) (λ u. refl) (λ u. refl) (λ u. refl) (λ u. refl)) place
     ∙ rw (own-number n.0) refl
 
-pub part-row : (script : Script) (h : List Move) (step : StepName) (n : FrameNo) (k : ℕ) (part : Part) → IsRun script (record { step = step; entry = Some (PartialEntry n k part) } ∷ h) → is_sent n.0 (trace_of h) ≡ true → row_of script (record { step = step; entry = Some (PartialEntry n k part) } ∷ h) n.0 ≡ with_part k (row_of script h n.0)
-part-row script h step n k part run sent =
-    let past = trace_of h in
-    let e = PartialEntry n k part in
-    view-noted script h step e n.0 (map (target_view h n.0) (targets_of n.0 past)) (sensor_place h n.0) run sent
-    (same-views script h step e n.0 run (λ u. refl) (λ u. refl) (λ u. refl) (λ u. refl) (λ u. refl)) (place-noted script h step e n.0 run sent)
-    ∙ rw (own-number n.0) refl
+pub part-row : (script : Script) (h : List Move) (step : StepName) (n : FrameNo) (k : ℕ) (part : PartialResult) → IsRun script (record { step = step; entry = Some (PartialEntry n k part) } ∷ h) → is_sent n.0 (trace_of h) ≡ true → row_of script (record { step = step; entry = Some (PartialEntry n k part) } ∷ h) n.0 ≡ with_part k (row_of script h n.0)
+part-row script h step n k part run sent = said-row script h step (PartialEntry n k part) n.0 run sent refl (λ u. refl) (λ u. refl) (λ u. refl) (λ u. refl) (λ u. refl) ∙ rw (own-number n.0) refl
 
 pub request-row : (script : Script) (h : List Move) (step : StepName) (n : FrameNo) → IsRun script (record { step = step; entry = Some (ErrorRequest n) } ∷ h) → is_sent n.0 (trace_of h) ≡ true → row_of script (record { step = step; entry = Some (ErrorRequest n) } ∷ h) n.0 ≡ marked RequestError (row_of script h n.0)
-request-row script h step n run sent =
-    let past = trace_of h in
-    let e = ErrorRequest n in
-    view-noted script h step e n.0 (map (target_view h n.0) (targets_of n.0 past)) (sensor_place h n.0) run sent
-    (same-views script h step e n.0 run (λ u. refl) (λ u. refl) (λ u. refl) (λ u. refl) (λ u. refl)) (place-noted script h step e n.0 run sent)
-    ∙ rw (own-number n.0) refl
+request-row script h step n run sent = said-row script h step (ErrorRequest n) n.0 run sent refl (λ u. refl) (λ u. refl) (λ u. refl) (λ u. refl) (λ u. refl) ∙ rw (own-number n.0) refl
 
 pub result-row : (script : Script) (h : List Move) (step : StepName) (n : FrameNo) → IsRun script (record { step = step; entry = Some (ErrorResult n) } ∷ h) → is_sent n.0 (trace_of h) ≡ true → row_of script (record { step = step; entry = Some (ErrorResult n) } ∷ h) n.0 ≡ marked ResultError (row_of script h n.0)
-result-row script h step n run sent =
-    let past = trace_of h in
-    let e = ErrorResult n in
-    view-noted script h step e n.0 (map (target_view h n.0) (targets_of n.0 past)) (sensor_place h n.0) run sent
-    (same-views script h step e n.0 run (λ u. refl) (λ u. refl) (λ u. refl) (λ u. refl) (λ u. refl)) (place-noted script h step e n.0 run sent)
-    ∙ rw (own-number n.0) refl
+result-row script h step n run sent = said-row script h step (ErrorResult n) n.0 run sent refl (λ u. refl) (λ u. refl) (λ u. refl) (λ u. refl) (λ u. refl) ∙ rw (own-number n.0) refl
 
 -- ---- the rows all stop
 
 pub stop-row : (script : Script) (h : List Move) (step : StepName) (e : Entry) (n : ℕ) → IsRun script (record { step = step; entry = Some e } ∷ h) → is_sent n (trace_of h) ≡ true → is_stop e ≡ true → ((x : ℕ) → tells x e ≡ false) → row_of script (record { step = step; entry = Some e } ∷ h) n ≡ marked Stopped (row_of script h n)
-stop-row script h step (Begin word) n run sent stop none =
-    view-noted script h step (Begin word) n (map (target_view h n) (targets_of n (trace_of h))) (sensor_place h n) run sent
-    (same-views script h step (Begin word) n run (λ u. refl) (λ u. refl) (λ u. refl) (λ u. refl) (λ u. refl)) (place-noted script h step (Begin word) n run sent)
-    ∙ rw stop refl
-stop-row script h step ErrorDevice n run sent stop none =
-    view-noted script h step ErrorDevice n (map (target_view h n) (targets_of n (trace_of h))) (sensor_place h n) run sent
-    (same-views script h step ErrorDevice n run (λ u. refl) (λ u. refl) (λ u. refl) (λ u. refl) (λ u. refl)) (place-noted script h step ErrorDevice n run sent)
+stop-row script h step (Begin word) n run sent stop none = said-row script h step (Begin word) n run sent refl (λ u. refl) (λ u. refl) (λ u. refl) (λ u. refl) (λ u. refl) ∙ rw stop refl
+stop-row script h step ErrorDevice n run sent stop none = said-row script h step ErrorDevice n run sent refl (λ u. refl) (λ u. refl) (λ u. refl) (λ u. refl) (λ u. refl)
 stop-row script h step _ n run sent stop none = absurd (false≢true stop)
 
 -- ---- a buffer's error is announced

@@ -16,7 +16,7 @@ use Rattle.trace_model.specs.Faults.{buffer_fault, request_fault, result_fault}
 use Rattle.trace_model.specs.Frames.{each_earlier, has_error_request, has_shutter, has_target, targets_of}
 use Rattle.trace_model.specs.Legal.{IsLegal}
 use Rattle.trace_model.specs.Open.{has_error_buffer, has_error_result, has_something, is_metadata_ended, is_open, is_returned}
-use Rattle.trace_model.specs.Partial.{part_count}
+use Rattle.trace_model.specs.Partial.{partial_count}
 use Rattle.trace_model.specs.Stopping.{is_stopped}
 use Rattle.run_model.specs.declared.step.Move.{Move}
 use Rattle.run_model.specs.History.{trace_of}
@@ -66,7 +66,7 @@ row-announced script h n =
 row-came : (script : Script) (h : List Move) (n : ℕ) → IsLegal script (trace_of h) → came (row_of script h n) ≡ has_something n (trace_of h)
 row-came script h n legal =
     let past = trace_of h in
-    both (λ a b. nat_lt 0 (part_count n past) || (a || (has_error_request n past || (has_error_result n past || b)))) _ _ _ _ (row-back script h n) (row-announced script h n)
+    both (λ a b. nat_lt 0 (partial_count n past) || (a || (has_error_request n past || (has_error_result n past || b)))) _ _ _ _ (row-back script h n) (row-announced script h n)
     ∙ sym (something-reads script past n legal)
   where
     both : (f : Bool → Bool → Bool) (a a' b b' : Bool) → a ≡ a' → b ≡ b' → f a b ≡ f a' b'
@@ -103,7 +103,7 @@ request-open script h n legal open_ =
 result-open : (script : Script) (h : List Move) (n : ℕ) → IsLegal script (trace_of h) → may_fail_result script (trace_of h) n ≡ (fails_in_part (row_of script h n) (faults_of script.faults (row_of script h n)) && (misses_metadata (row_of script h n) (faults_of script.faults (row_of script h n)) && may_end_metadata (rows script h) n))
 result-open script h n legal =
     let past = trace_of h in
-    by (has_shutter n past) _ (not (request_fault script n) || is_stopped n past) (is_metadata_ended n past) (nat_lt (part_count n past) 3) (has_error_result n past) (has_error_request n past) (each_earlier n (λ m. is_metadata_ended m past) past) _ (result_fault script n) (cut past n) _
+    by (has_shutter n past) _ (not (request_fault script n) || is_stopped n past) (is_metadata_ended n past) (nat_lt (partial_count n past) 3) (has_error_result n past) (has_error_request n past) (each_earlier n (λ m. is_metadata_ended m past) past) _ (result_fault script n) (cut past n) _
     (timed-shutter n past) (row-ended script h n legal) (earlier-ended script h n legal) (row-cut script h n legal)
   where
     by : (shot shot' begun ended low e q may may' fault short short' : Bool) → shot ≡ shot' → ended ≡ not (low && (not e && not q)) → may ≡ may' → short' ≡ short → (((shot && begun) && not ended) && (may && (fault || short))) ≡ (((shot' && not q) && begun) && (((low && (not e && not q)) && (fault || short')) && may'))

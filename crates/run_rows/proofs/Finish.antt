@@ -5,7 +5,7 @@ use Rattle.std.proofs.lemmas.Bool.Decides.{nat_tests}
 use Rattle.std.proofs.lemmas.Bool.{and_parts, cases_Bool, eqb-true, false≢true, or_left, or_parts, or_right}
 use Rattle.run_rows.proofs.General.{third}
 use Rattle.cam_types.specs.declared.number.BufferId.{BufferId}
-use Rattle.cam_types.specs.declared.number.FenceNo.{FenceNo}
+use Rattle.cam_types.specs.declared.number.DeviceFenceNo.{DeviceFenceNo}
 use Rattle.cam_types.specs.declared.number.FrameNo.{FrameNo}
 use Rattle.cam_types.specs.declared.number.StreamIx.{StreamIx}
 use Rattle.cam_types.specs.declared.row.RowView.{RowView}
@@ -27,7 +27,7 @@ use Rattle.run_model.specs.Jobs.{is_filled_in, is_taken_in}
 use Rattle.run_model.specs.Ready.{adding, late_with, move_of, where_entry}
 use Rattle.run_model.specs.Rows.{is_early_return, row_of, rows, target_state}
 use Rattle.run_model.specs.Run.{IsRun}
-use Rattle.device_rows.specs.Ready.{is_finish_ready, is_state, passes_at, target_passes}
+use Rattle.device_rows.specs.Ready.{is_finish_ready, is_same_state, passes_at, target_passes}
 use Rattle.device_rows.specs.Rows.{row_at, target_at}
 use Rattle.run_model.proofs.Legal.{runs_legally}
 use Rattle.trace_laws.proofs.Early.{found-early, given, open-until-late, settled-late}
@@ -77,7 +77,7 @@ early-is script past n s d rest legal at =
     by-names : (k n t s : ℕ) → k ≡ n → t ≡ s → EarlyIs script past k t d → EarlyIs script past n s d
     by-names k n t s a b h = rw (a, b) at h
 
-    by : (k : FrameNo) (t : StreamIx) (b : BufferId) (f : FenceNo) → find (is_early_with d) past ≡ Some (Early k t b f) → f.0 ≡ d → ((k.0 == n) && (t.0 == s)) ≡ true → EarlyIs script past n s d
+    by : (k : FrameNo) (t : StreamIx) (b : BufferId) (f : DeviceFenceNo) → find (is_early_with d) past ≡ Some (Early k t b f) → f.0 ≡ d → ((k.0 == n) && (t.0 == s)) ≡ true → EarlyIs script past n s d
     by k t b f found same own =
         let parts = and_parts (k.0 == n) (t.0 == s) own in
         let frame' : k.0 ≡ n = eqb-true k.0 n parts.0 in
@@ -104,11 +104,11 @@ no-fences n s (Early m t b f ∷ past) at = elim (cases_Bool ((m.0 == n) && (t.0
 ]
 no-fences n s (e ∷ past) at = no-fences n s past at
 
-state-is : (script : Script) (h : List Move) (n s : ℕ) → IsRun script h → is_state (target_state h n s) EarlyFilled ≡ ((not (was_ok h n s || was_bad h n s) && was_early h n s) && (not (is_settled n s (trace_of h)) && is_filled_in h n s))
+state-is : (script : Script) (h : List Move) (n s : ℕ) → IsRun script h → is_same_state (target_state h n s) EarlyFilled ≡ ((not (was_ok h n s || was_bad h n s) && was_early h n s) && (not (is_settled n s (trace_of h)) && is_filled_in h n s))
 state-is script h n s run =
     early-filled-by (was_ok h n s) (was_bad h n s) (was_early h n s) (is_settled n s (trace_of h)) (is_taken_in h n s) (is_filled_in h n s) (early-taken script h n s run)
 
-state-none : (script : Script) (h : List Move) (n s : ℕ) → IsRun script h → early_fences n s (trace_of h) ≡ [] → is_state (target_state h n s) EarlyFilled ≡ false
+state-none : (script : Script) (h : List Move) (n s : ℕ) → IsRun script h → early_fences n s (trace_of h) ≡ [] → is_same_state (target_state h n s) EarlyFilled ≡ false
 state-none script h n s run at =
     state-is script h n s run ∙ by (not (was_ok h n s || was_bad h n s)) (was_early h n s) (not (is_settled n s (trace_of h)) && is_filled_in h n s) (no-fences n s (trace_of h) at)
   where
@@ -116,7 +116,7 @@ state-none script h n s run at =
     by true b c h = rw h refl
     by false b c h = refl
 
-state-late : (script : Script) (h : List Move) (n s d : ℕ) → IsRun script h → EarlyIs script (trace_of h) n s d → is_state (target_state h n s) EarlyFilled ≡ (not (is_late d (trace_of h)) && is_filled_in h n s)
+state-late : (script : Script) (h : List Move) (n s d : ℕ) → IsRun script h → EarlyIs script (trace_of h) n s d → is_same_state (target_state h n s) EarlyFilled ≡ (not (is_late d (trace_of h)) && is_filled_in h n s)
 state-late script h n s d run is =
     let past = trace_of h in
     let none = or_parts (was_ok h n s) (was_bad h n s) (brought-kinds n s past ∙ is.brought) in
@@ -159,18 +159,18 @@ where-none true false = refl
 where-none false true = refl
 where-none false false = refl
 
-finish-by : (script : Script) (h : List Move) (n s : ℕ) (fences : List ℕ) → IsRun script h → early_fences n s (trace_of h) ≡ fences → where_entry (is_filled_in h n s) (late_with script (trace_of h) fences) ≡ where_entry (is_state (target_state h n s) EarlyFilled) (finish_entry (digest_of script (trace_of h) n s) fences)
-finish-by script h n s [] run at = where-none (is_filled_in h n s) (is_state (target_state h n s) EarlyFilled)
+finish-by : (script : Script) (h : List Move) (n s : ℕ) (fences : List ℕ) → IsRun script h → early_fences n s (trace_of h) ≡ fences → where_entry (is_filled_in h n s) (late_with script (trace_of h) fences) ≡ where_entry (is_same_state (target_state h n s) EarlyFilled) (finish_entry (digest_of script (trace_of h) n s) fences)
+finish-by script h n s [] run at = where-none (is_filled_in h n s) (is_same_state (target_state h n s) EarlyFilled)
 finish-by script h n s (d ∷ rest) run at =
     let past = trace_of h in
     let is = early-is script past n s d rest (runs_legally script h run) at in
     let one : finish_entry (digest_of script past n s) (d ∷ rest) ≡ Some (Late (record { 0 = d }) (digest_of script past n s)) = ap (λ (fs : List ℕ). finish_entry (digest_of script past n s) fs) (sym at ∙ is.fences) in
     ap (λ (o : Option Entry). where_entry (is_filled_in h n s) o) is.due
-    ∙ (where-late (is_filled_in h n s) (is_late d past) (is_state (target_state h n s) EarlyFilled) (Late (record { 0 = d }) (digest_of script past n s)) (state-late script h n s d run is)
-    ∙ ap (λ (o : Option Entry). where_entry (is_state (target_state h n s) EarlyFilled) o) (sym one))
+    ∙ (where-late (is_filled_in h n s) (is_late d past) (is_same_state (target_state h n s) EarlyFilled) (Late (record { 0 = d }) (digest_of script past n s)) (state-late script h n s d run is)
+    ∙ ap (λ (o : Option Entry). where_entry (is_same_state (target_state h n s) EarlyFilled) o) (sym one))
 
 abbrev pub finish_test : RowView → TargetView → Bool
-finish_test row target = is_state target.state EarlyFilled
+finish_test row target = is_same_state target.state EarlyFilled
 
 finish-open : (script : Script) (h : List Move) (n s : ℕ) → IsRun script h → where_entry (is_filled_in h n s) (late_with script (trace_of h) (early_fences n s (trace_of h))) ≡ where_entry (passes_at (finish_test (row_of script h n)) (target_at s (row_of script h n))) (finish_entry (digest_of script (trace_of h) n s) (early_fences n s (trace_of h)))
 finish-open script h n s run =
@@ -190,9 +190,9 @@ finish_is script h n s run =
 
 -- ---- where it is ready
 
-ready-by : (script : Script) (h : List Move) (n : FrameNo) (s : StreamIx) (fences : List ℕ) → IsRun script h → early_fences n.0 s.0 (trace_of h) ≡ fences → is_some (adding (Finish n s) (where_entry (is_state (target_state h n.0 s.0) EarlyFilled) (finish_entry (digest_of script (trace_of h) n.0 s.0) fences))) ≡ is_state (target_state h n.0 s.0) EarlyFilled
+ready-by : (script : Script) (h : List Move) (n : FrameNo) (s : StreamIx) (fences : List ℕ) → IsRun script h → early_fences n.0 s.0 (trace_of h) ≡ fences → is_some (adding (Finish n s) (where_entry (is_same_state (target_state h n.0 s.0) EarlyFilled) (finish_entry (digest_of script (trace_of h) n.0 s.0) fences))) ≡ is_same_state (target_state h n.0 s.0) EarlyFilled
 ready-by script h n s [] run at = rw (state-none script h n.0 s.0 run at) refl
-ready-by script h n s (d ∷ []) run at = by (is_state (target_state h n.0 s.0) EarlyFilled) (Late (record { 0 = d }) (digest_of script (trace_of h) n.0 s.0))
+ready-by script h n s (d ∷ []) run at = by (is_same_state (target_state h n.0 s.0) EarlyFilled) (Late (record { 0 = d }) (digest_of script (trace_of h) n.0 s.0))
   where
     by : (b : Bool) (e : Entry) → is_some (adding (Finish n s) (where_entry b (Some e))) ≡ b
     by true e = refl
@@ -206,7 +206,7 @@ ready-open : (script : Script) (h : List Move) (n : FrameNo) (s : StreamIx) → 
 ready-open script h n s run =
     let past = trace_of h in
     let fences = early_fences n.0 s.0 past in
-    let state' = is_state (target_state h n.0 s.0) EarlyFilled in
+    let state' = is_same_state (target_state h n.0 s.0) EarlyFilled in
     let test : Option TargetView → Bool = passes_at (finish_test (row_of script h n.0)) in
     sym (by-target script h n.0 s.0 (λ o. is_some (adding (Finish n s) (where_entry (test o) (finish_entry (digest_of script past n.0 s.0) fences)))) (λ o. is_some o && state') (λ at. refl) (λ t at. sym (ready-by script h n s fences run refl)))
     ∙ by-target script h n.0 s.0 test (λ o. is_some o && state') (λ at. refl) (λ t at. refl)

@@ -39,8 +39,7 @@ use Rattle.basic_lemmas.proofs.Lists.{any-never}
 use Rattle.run_model.proofs.Entries.{open-sent}
 use Rattle.run_model.proofs.Legal.{runs_legally}
 use Rattle.trace_laws.proofs.Frames.{unsent-next}
-use Rattle.trace_laws.proofs.Told.{buffer-tells, no-time, none-of, not-stopped, partial-tells, request-tells, result-tells, return-tells, tells, untold}
-use Rattle.run_model.proofs.Targets.{dark-next}
+use Rattle.trace_laws.proofs.Told.{buffer-tells, no-time, none-of, not-stopped, partial-tells, request-tells, result-tells, return-tells, tells, untold, unexposed}
 use Rattle.run_model.proofs.Unsent.{not-done, not-filled, not-taken}
 use Rattle.state_facts.specs.Turns.{settings_next}
 use Rattle.state_facts.proofs.Items.{IsNext, is-next}
@@ -84,7 +83,7 @@ fresh-state script h step n r i same targets u run unsent =
     let past = trace_of h in
     let legal = runs_legally script h run.1 in
     let here = is-here h n.0 u (none-of script past n.0 (returns_target n.0 u) legal unsent (return-tells n.0 u)) in
-    let dark = dark-next script past n.0 legal unsent in
+    let dark = unexposed script past n.0 legal unsent in
     state-noted script h step (SendEntry n r i same targets) n.0 u run
     ∙ rw (here.ok, here.bad, here.early, not-taken script h n.0 u run.1 dark, not-filled script h n.0 u run.1 dark) refl
 
@@ -93,7 +92,7 @@ fresh-place script h step n r i same targets run unsent =
     let past = trace_of h in
     let e = SendEntry n r i same targets in
     let m : Move = record { step = step; entry = Some e } in
-    let dark = dark-next script past n.0 (runs_legally script h run.1) unsent in
+    let dark = unexposed script past n.0 (runs_legally script h run.1) unsent in
     let quiet = not-silent script h step e run.0 in
     let idle : is_any_fill_out (m ∷ h) n.0 ≡ false = any-never (λ t. is_fill_out (m ∷ h) n.0 t.stream.0) (targets_of n.0 (trace_of (m ∷ h))) (λ t. rw (no-take step n.0 t.stream.0 quiet, not-taken script h n.0 t.stream.0 run.1 dark) refl) in
     rw (dark, no-sensor step n.0 quiet, not-done script h n.0 run.1 dark, idle) refl

@@ -4,7 +4,8 @@ use Rattle.std.specs.List.{list_all, list_any}
 use Rattle.std.specs.Option.{option_map}
 use Rattle.std.proofs.lemmas.Bool.{and_parts, cases_Bool, false≢true}
 use Rattle.std.proofs.lemmas.List.{reverse-append}
-use Rattle.std.proofs.lemmas.List.Folds.{list_all-append, list_any-append}
+use Rattle.std.proofs.lemmas.List.Folds.{list_all-append}
+use Rattle.basic_lemmas.proofs.Shared.{and-turned}
 
 pub find-where : {X : Type 0} (s p q : X → Bool) (xs : List X) → ((x : X) → s x ≡ true → p x ≡ q x) → list_all s xs ≡ true → find p xs ≡ find q xs
 find-where s p q [] same all = refl
@@ -19,13 +20,7 @@ pub all-reverse : {X : Type 0} (p : X → Bool) (xs : List X) → list_all p (re
 all-reverse p [] = refl
 all-reverse {X} p (x ∷ xs) =
     ap (λ (ys : List X). list_all p ys) (reverse-append (x ∷ []) xs)
-    ∙ (list_all-append p (reverse xs) (x ∷ []) ∙ (ap (λ b. b && (p x && true)) (all-reverse p xs) ∙ turned (list_all p xs) (p x)))
-  where
-    turned : (a b : Bool) → (a && (b && true)) ≡ (b && a)
-    turned true true = refl
-    turned true false = refl
-    turned false true = refl
-    turned false false = refl
+    ∙ (list_all-append p (reverse xs) (x ∷ []) ∙ (ap (λ b. b && (p x && true)) (all-reverse p xs) ∙ and-turned (list_all p xs) (p x)))
 
 pub map-if : {X Y : Type 0} (f : X → Y) (b : Bool) (x : X) → option_map f (if b then Some x else None) ≡ (if b then Some (f x) else None)
 map-if f true x = refl

@@ -15,7 +15,7 @@ use Rattle.trace_model.specs.Fence.{is_passed}
 use Rattle.trace_model.specs.Filled.{filled_due, early_due}
 use Rattle.trace_model.specs.Frames.{frames, is_sent, shutter_time, target_of}
 use Rattle.trace_model.specs.Open.{early_fences}
-use Rattle.trace_model.specs.Partial.{part_count}
+use Rattle.trace_model.specs.Partial.{partial_count}
 use Rattle.trace_model.specs.Queue.{first_in, next, queued}
 use Rattle.cam_types.specs.declared.number.FenceNo.{FenceNo}
 use Rattle.cam_types.specs.declared.request.Queued.{Queued}
@@ -84,7 +84,7 @@ move-behind script h (ReturnFailed f t) m k =
     failed_shape (Behind h (ReturnFailed f t)) (trace_of h) f.0 t.0 (target_of f.0 t.0 (trace_of h)) e both.1 (λ u. both.0))
 move-behind script h Shutter m k = adds-behind h Shutter _ m k (λ e d. shutter_shape (Behind h Shutter) script (trace_of h) (find (may_expose script (trace_of h)) (frames (trace_of h))) e d (λ i. tt))
 move-behind script h (SensorDone f) m k = rw (adds-none (SensorDone f) (is_sensor_out h f.0) m k).1 tt
-move-behind script h (Partial f) m k = adds-behind h (Partial f) _ m k (λ e d. part_shape (Behind h (Partial f)) script (trace_of h) f.0 (part_count f.0 (trace_of h) + 1) (shutter_time f.0 (trace_of h)) e d (λ part. tt))
+move-behind script h (Partial f) m k = adds-behind h (Partial f) _ m k (λ e d. part_shape (Behind h (Partial f)) script (trace_of h) f.0 (partial_count f.0 (trace_of h) + 1) (shutter_time f.0 (trace_of h)) e d (λ part. tt))
 move-behind script h (TakeFill f t) m k = rw (adds-none (TakeFill f t) (may_take_fill script h f.0 t.0) m k).1 tt
 move-behind script h (FillDone f t) m k = rw (adds-none (FillDone f t) (is_fill_out h f.0 t.0) m k).1 tt
 move-behind script h (Deliver f t) m k =

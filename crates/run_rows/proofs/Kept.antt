@@ -3,7 +3,7 @@ use Rattle.std.proofs.Common.{◌≡◌, ◌⊎◌, ℕ, ◌==◌, ◌+◌, Bool
 use Rattle.std.specs.List.{list_any}
 use Rattle.std.proofs.lemmas.Bool.{and_from, and_parts, both_ways, cases_Bool, eq-eqb, eqb-true, false≢true, not-true, or_left, or_right, or_parts}
 use Rattle.cam_types.specs.declared.number.BufferId.{BufferId}
-use Rattle.cam_types.specs.declared.number.FenceNo.{FenceNo}
+use Rattle.cam_types.specs.declared.number.DeviceFenceNo.{DeviceFenceNo}
 use Rattle.cam_types.specs.declared.number.FrameNo.{FrameNo}
 use Rattle.cam_types.specs.declared.number.StreamIx.{StreamIx}
 use Rattle.cam_types.specs.declared.script.Command.{Command}
@@ -20,13 +20,12 @@ use Rattle.trace_laws.specs.Settled.{has_fence, settles}
 use Rattle.state_facts.proofs.Settled.{not-settled}
 use Rattle.trace_laws.proofs.Shutters.{exposed, no-request}
 use Rattle.state_facts.proofs.Caused.{caused}
-use Rattle.run_rows.proofs.Runs.{runs_legally}
 use Rattle.trace_model.specs.Errors.{error_request_due, error_result_due, failed_due, failed_of, may_fail_buffer}
 use Rattle.trace_model.specs.Filled.{early_due, early_of, filled_due, filled_of, is_sound, late_of}
 use Rattle.trace_model.specs.Frames.{frames, has_error, has_shutter, shutter_time, target_of, targets_of}
 use Rattle.trace_model.specs.Legal.{IsLegal}
 use Rattle.trace_model.specs.Open.{early_fences, has_something, is_open, is_returned, is_settled}
-use Rattle.trace_model.specs.Partial.{part_count, part_of, partial_due}
+use Rattle.trace_model.specs.Partial.{partial_count, partial_of, partial_due}
 use Rattle.trace_model.specs.Queue.{first_in, next, queued}
 use Rattle.cam_types.specs.declared.request.Queued.{Queued}
 use Rattle.cam_types.specs.declared.request.WaitingItem.{WaitingItem}
@@ -45,6 +44,7 @@ use Rattle.run_rows.proofs.NeverStuckJobs.{silent_test, where_test}
 use Rattle.basic_lemmas.proofs.Lists.{any-where}
 use Rattle.trace_laws.proofs.Settled.{fence-frame, settled-noted}
 use Rattle.run_model.proofs.Unsent.{taken-done, filled-taken}
+use Rattle.run_model.proofs.Legal.{runs_legally}
 
 abbrev any_in : (Entry → Bool) → Option Entry → Bool
 any_in p None = false
@@ -76,6 +76,10 @@ in_more p q (Some e) more h = more e h
 
 -- ---- which steps do so
 
+where_tested : (p : Entry → Bool) (t : Bool) (x : Entry) → any_in p (if t then Some x else None) ≡ true → p x ≡ true
+where_tested p true x h = h
+where_tested p false x h = absurd (false≢true h)
+
 tested : (p : Entry → Bool) (t : Bool) (x : Entry) → p x ≡ false → any_in p (if t then Some x else None) ≡ false
 tested p true x h = h
 tested p false x h = refl
@@ -105,7 +109,7 @@ module _ (n s : ℕ) (fences : List ℕ) where
   no_shutter script past None = refl
   no_shutter script past (Some m) = refl
 
-  no_part : (script : Script) (past : List Entry) (m k : ℕ) (o : Option ℕ) → back (part_of script past m k o) ≡ false
+  no_part : (script : Script) (past : List Entry) (m k : ℕ) (o : Option ℕ) → back (partial_of script past m k o) ≡ false
   no_part script past m k None = refl
   no_part script past m k (Some time) = tested (affects n s fences) _ _ refl
 
@@ -134,29 +138,17 @@ module _ (n s : ℕ) (fences : List ℕ) where
 
   filled_own : (script : Script) (past : List Entry) (m u : ℕ) (o : Option Sent) → back (filled_of script past m u o) ≡ true → ((m == n) && (u == s)) ≡ true
   filled_own script past m u None h = absurd (false≢true h)
-  filled_own script past m u (Some t) h = by _ _ h
-    where
-      by : (t : Bool) (x : Entry) → any_in (affects n s fences) (if t then Some x else None) ≡ true → affects n s fences x ≡ true
-      by true x h = h
-      by false x h = absurd (false≢true h)
+  filled_own script past m u (Some t) h = where_tested (affects n s fences) _ _ h
 
   failed_own : (past : List Entry) (m u : ℕ) (o : Option Sent) → back (failed_of past m u o) ≡ true → ((m == n) && (u == s)) ≡ true
   failed_own past m u None h = absurd (false≢true h)
-  failed_own past m u (Some t) h = by _ _ h
-    where
-      by : (t : Bool) (x : Entry) → any_in (affects n s fences) (if t then Some x else None) ≡ true → affects n s fences x ≡ true
-      by true x h = h
-      by false x h = absurd (false≢true h)
+  failed_own past m u (Some t) h = where_tested (affects n s fences) _ _ h
 
   early_own : (script : Script) (past : List Entry) (m u : ℕ) (o : Option Sent) → back (early_of script past m u o) ≡ true → ((m == n) && (u == s)) ≡ true
   early_own script past m u None h = absurd (false≢true h)
-  early_own script past m u (Some t) h = by _ _ h
-    where
-      by : (t : Bool) (x : Entry) → any_in (affects n s fences) (if t then Some x else None) ≡ true → affects n s fences x ≡ true
-      by true x h = h
-      by false x h = absurd (false≢true h)
+  early_own script past m u (Some t) h = where_tested (affects n s fences) _ _ h
 
-  late_own : (script : Script) (past : List Entry) (d : ℕ) (o : Option Entry) → find (is_early_with d) past ≡ o → back (late_of script past d o) ≡ true → (k : FrameNo) × (t : StreamIx) × (b : BufferId) × (f : FenceNo) × (find (is_early_with d) past ≡ Some (EarlyEntry k t b f)) × (has_fence d fences ≡ true)
+  late_own : (script : Script) (past : List Entry) (d : ℕ) (o : Option Entry) → find (is_early_with d) past ≡ o → back (late_of script past d o) ≡ true → (k : FrameNo) × (t : StreamIx) × (b : BufferId) × (f : DeviceFenceNo) × (find (is_early_with d) past ≡ Some (EarlyEntry k t b f)) × (has_fence d fences ≡ true)
   late_own script past d None at h = absurd (false≢true h)
   late_own script past d (Some (EarlyEntry k t b f)) at h =
       elim (cases_Bool (is_late d past)) [
@@ -232,6 +224,13 @@ module _ (script : Script) (h : List Move) (m : Move) (n s : ℕ) (legal : IsLeg
   not_silent : (step : StepName) (t : Bool) → silent step t ≡ Some m → any_in (affects n s (early_fences n s (trace_of h))) m.entry ≡ true → GivesBack h n s (early_fences n s (trace_of h)) step m.entry
   not_silent step t made back = let back' : false ≡ true = rw (silent_entry step t m made) at back in absurd (false≢true back')
 
+  -- an entry of a target that does so is of this one
+  of_target : (step : StepName) (k : FrameNo) (t : StreamIx) (test : Bool) (due : Option Entry) → adding step (where_entry test due) ≡ Some m → (any_in (affects n s (early_fences n s (trace_of h))) due ≡ true → ((k.0 == n) && (t.0 == s)) ≡ true) → any_in (affects n s (early_fences n s (trace_of h))) m.entry ≡ true → (k.0 ≡ n) × (t.0 ≡ s) × (test ≡ true)
+  of_target step k t test due made own back =
+      let back' = rw (added_entry step (where_entry test due) m made) at back in
+      let same = and_parts (k.0 == n) (t.0 == s) (own (where_back (affects n s (early_fences n s (trace_of h))) test due back')) in
+      (eqb-true k.0 n same.0, eqb-true t.0 s same.1, where_test step test due m made)
+
   gives_back : (step : StepName) → move_of script h step ≡ Some m → any_in (affects n s (early_fences n s (trace_of h))) m.entry ≡ true → GivesBack h n s (early_fences n s (trace_of h)) step m.entry
   gives_back Send made back = not_back Send (send_due script (trace_of h)) made (no_send n s (early_fences n s (trace_of h)) script (trace_of h) (next script (trace_of h))) back
   gives_back (Release b) made back = not_back (Release b) (release_due (trace_of h) b.0) made (tested (affects n s (early_fences n s (trace_of h))) _ _ refl) back
@@ -254,35 +253,23 @@ module _ (script : Script) (h : List Move) (m : Move) (n s : ℕ) (legal : IsLeg
       }
   gives_back Shutter made back = not_back Shutter (shutter_due script (trace_of h)) made (no_shutter n s (early_fences n s (trace_of h)) script (trace_of h) (find (may_expose script (trace_of h)) (frames (trace_of h)))) back
   gives_back (SensorDone k) made back = absurd (let none : false ≡ true = rw (silent_entry (SensorDone k) (is_sensor_out h k.0) m made) at back in false≢true none)
-  gives_back (Partial k) made back = not_back (Partial k) (partial_due script (trace_of h) k.0) made (no_part n s (early_fences n s (trace_of h)) script (trace_of h) k.0 (part_count k.0 (trace_of h) + 1) (shutter_time k.0 (trace_of h))) back
+  gives_back (Partial k) made back = not_back (Partial k) (partial_due script (trace_of h) k.0) made (no_part n s (early_fences n s (trace_of h)) script (trace_of h) k.0 (partial_count k.0 (trace_of h) + 1) (shutter_time k.0 (trace_of h))) back
   gives_back (TakeFill k t) made back = not_silent (TakeFill k t) (may_take_fill script h k.0 t.0) made back
   gives_back (FillDone k t) made back = not_silent (FillDone k t) (is_fill_out h k.0 t.0) made back
   gives_back (Deliver k t) made back =
-      let o = where_entry (is_filled_in h k.0 t.0) (filled_due script (trace_of h) k.0 t.0) in
-      let back' = rw (added_entry (Deliver k t) o m made) at back in
-      let own = filled_own n s (early_fences n s (trace_of h)) script (trace_of h) k.0 t.0 (target_of k.0 t.0 (trace_of h)) (where_back (affects n s (early_fences n s (trace_of h))) (is_filled_in h k.0 t.0) (filled_due script (trace_of h) k.0 t.0) back') in
-      let same = and_parts (k.0 == n) (t.0 == s) own in
-      let test = where_test (Deliver k t) (is_filled_in h k.0 t.0) (filled_due script (trace_of h) k.0 t.0) m made in
-      record { cause = Ended (rw (← eqb-true k.0 n same.0, ← eqb-true t.0 s same.1) test); sensor = refl; taken = refl; filled = refl }
+      let of = of_target (Deliver k t) k t (is_filled_in h k.0 t.0) (filled_due script (trace_of h) k.0 t.0) made (filled_own n s (early_fences n s (trace_of h)) script (trace_of h) k.0 t.0 (target_of k.0 t.0 (trace_of h))) back in
+      record { cause = Ended (rw (← of.0, ← of.1) of.2); sensor = refl; taken = refl; filled = refl }
   gives_back (Early k t) made back =
-      let o = where_entry (is_fill_out h k.0 t.0) (early_due script (trace_of h) k.0 t.0) in
-      let back' = rw (added_entry (Early k t) o m made) at back in
-      let own = early_own n s (early_fences n s (trace_of h)) script (trace_of h) k.0 t.0 (target_of k.0 t.0 (trace_of h)) (where_back (affects n s (early_fences n s (trace_of h))) (is_fill_out h k.0 t.0) (early_due script (trace_of h) k.0 t.0) back') in
-      let same = and_parts (k.0 == n) (t.0 == s) own in
-      let test = where_test (Early k t) (is_fill_out h k.0 t.0) (early_due script (trace_of h) k.0 t.0) m made in
+      let of = of_target (Early k t) k t (is_fill_out h k.0 t.0) (early_due script (trace_of h) k.0 t.0) made (early_own n s (early_fences n s (trace_of h)) script (trace_of h) k.0 t.0 (target_of k.0 t.0 (trace_of h))) back in
       record {
-        cause = Lent (rw (← eqb-true k.0 n same.0, ← eqb-true t.0 s same.1) test) (rw (added_entry (Early k t) o m made) (early_settles script (trace_of h) k.0 t.0 n s (early_fences n s (trace_of h)) (target_of k.0 t.0 (trace_of h)) (is_fill_out h k.0 t.0)));
+        cause = Lent (rw (← of.0, ← of.1) of.2) (rw (added_entry (Early k t) (where_entry (is_fill_out h k.0 t.0) (early_due script (trace_of h) k.0 t.0)) m made) (early_settles script (trace_of h) k.0 t.0 n s (early_fences n s (trace_of h)) (target_of k.0 t.0 (trace_of h)) (is_fill_out h k.0 t.0)));
         sensor = refl;
         taken = refl;
         filled = refl;
       }
   gives_back (Finish k t) made back =
-      let o = where_entry (is_filled_in h k.0 t.0) (finish_due script (trace_of h) k.0 t.0) in
-      let back' = rw (added_entry (Finish k t) o m made) at back in
-      let own = finish_own script (trace_of h) k.0 t.0 n s (early_fences k.0 t.0 (trace_of h)) legal refl (where_back (affects n s (early_fences n s (trace_of h))) (is_filled_in h k.0 t.0) (finish_due script (trace_of h) k.0 t.0) back') in
-      let same = and_parts (k.0 == n) (t.0 == s) own in
-      let test = where_test (Finish k t) (is_filled_in h k.0 t.0) (finish_due script (trace_of h) k.0 t.0) m made in
-      record { cause = Ended (rw (← eqb-true k.0 n same.0, ← eqb-true t.0 s same.1) test); sensor = refl; taken = refl; filled = refl }
+      let of = of_target (Finish k t) k t (is_filled_in h k.0 t.0) (finish_due script (trace_of h) k.0 t.0) made (finish_own script (trace_of h) k.0 t.0 n s (early_fences k.0 t.0 (trace_of h)) legal refl) back in
+      record { cause = Ended (rw (← of.0, ← of.1) of.2); sensor = refl; taken = refl; filled = refl }
 
 -- ---- a fill that is out
 

@@ -29,8 +29,6 @@ pub mod Agree
 pub mod Standing
 pub mod Sending
 pub mod Given
-pub mod Due
-mod Runs
 mod OpenSteps
 mod Named
 mod Stuck

@@ -22,7 +22,7 @@ use Rattle.trace_model.specs.Entry.{is_error_buffer, is_error_request, is_error_
 use Rattle.trace_model.specs.Frames.{frames, has_error_request, has_shutter, is_sent, send_of, settings_of, shutter_time, targets_of}
 use Rattle.trace_model.specs.Legal.{IsLegal}
 use Rattle.trace_model.specs.Open.{all_settled, early_fences, has_error_buffer, has_error_result, is_metadata_ended, is_open, is_settled}
-use Rattle.trace_model.specs.Partial.{part_count}
+use Rattle.trace_model.specs.Partial.{partial_count}
 use Rattle.trace_model.specs.Stopping.{is_stopped}
 use Rattle.run_model.specs.declared.step.Move.{Move}
 use Rattle.run_model.specs.declared.step.StepName.{StepName}
@@ -39,7 +39,7 @@ use Rattle.trace_laws.proofs.Done.{closed-stays}
 use Rattle.trace_laws.proofs.Frames.{sent-once}
 use Rattle.trace_laws.proofs.Settled.{settled-noted}
 use Rattle.trace_laws.proofs.Told.{buffer-tells, request-tells, result-tells, tells}
-use Rattle.trace_laws.specs.Times.{note_parts, note_time}
+use Rattle.trace_laws.specs.Times.{partials_after, note_time}
 use Rattle.trace_laws.proofs.Times.{parts-noted, parts-other, time-noted, time-other}
 use Rattle.state_facts.proofs.Accepted.{settings-kept}
 use Rattle.basic_lemmas.proofs.Lists.{all-agree, all-mapped, any-behind, any-agree}
@@ -121,7 +121,7 @@ row_noted script h e n vs p = record {
   settings = settings_of script (trace_of h) n;
   targets = four_of vs;
   shutter = note_time e n (shutter_time n (trace_of h));
-  parts = note_parts e n (part_count n (trace_of h));
+  parts = partials_after e n (partial_count n (trace_of h));
   request_error = is_error_request n e || has_error_request n (trace_of h);
   result_error = is_error_result n e || has_error_result n (trace_of h);
   sensor = p;
@@ -227,7 +227,7 @@ untouched script h step e n run sent none going free =
     target-noted h step e n t (target_state h n s) (state-stays script h step e n s run (not-by (is_ok_return n s e) (tells n e) (ok-tells n s e) none) (not-by (is_failed_return n s e) (tells n e) (bad-tells n s e) none) (not-by (is_early_return n s e) (tells n e) (early-tells n s e) none) (free s))
     ∙ rw (not-by (is_error_buffer n s e) (tells n e) (buffer-tells n s e) none) refl))
     (place-noted script h step e n run sent ∙ rw shutter refl)
-    ∙ rw (time-other e n (shutter_time n past) none, parts-other e n (part_count n past) none, request, result, going) refl
+    ∙ rw (time-other e n (shutter_time n past) none, parts-other e n (partial_count n past) none, request, result, going) refl
 
 -- ---- a row after a step that adds no entry
 

@@ -1,8 +1,9 @@
 -- While a frame is open some step is ready: one of the least open frame, or one that it waits for.
 use Rattle.std.proofs.Common.{◌≡◌, ℕ, ◌==◌, Bool, true, false, ◌&&◌, ◌||◌, List, [], ◌∷◌, Option, Some, None, refl, sym, ◌∙◌, inl, inr, find, is_some}
-use Rattle.std.specs.List.{list_any, list_all}
-use Rattle.std.proofs.lemmas.Bool.{and_from, both_ways, cases_Bool, eq-eqb, eqb-true, false≢true, or_left, or_right, or_parts}
+use Rattle.std.specs.List.{list_any}
+use Rattle.std.proofs.lemmas.Bool.{and_from, both_ways, cases_Bool, eq-eqb, eqb-true, false≢true, or_left, or_parts}
 use Rattle.cam_types.specs.declared.number.BufferId.{BufferId}
+use Rattle.cam_types.specs.declared.number.DeviceFenceNo.{DeviceFenceNo}
 use Rattle.cam_types.specs.declared.number.FenceNo.{FenceNo}
 use Rattle.cam_types.specs.declared.number.FrameNo.{FrameNo}
 use Rattle.cam_types.specs.declared.number.StreamIx.{StreamIx}
@@ -25,7 +26,7 @@ use Rattle.state_facts.proofs.OpenRows.{frame-among}
 use Rattle.state_facts.proofs.Settled.{fence-given}
 use Rattle.state_facts.proofs.Fences.{is_given, target-given}
 use Rattle.state_facts.proofs.Least.{IsAwaited, IsLeast}
-use Rattle.state_facts.proofs.Open.{MayFill, MayReturn, NextOf, Device, Request, Result, Buffer, Expose, Part, Return, Fill, Await, next-of}
+use Rattle.state_facts.proofs.Open.{MayFill, MayReturn, NextOf, Device, Request, Result, Buffer, Expose, PartialResult, Return, Fill, Await, next-of}
 use Rattle.run_model.specs.declared.step.Move.{Move}
 use Rattle.run_model.specs.declared.step.StepName.{StepName}
 use Rattle.run_model.specs.declared.step.StepName.TheVariants.{Signal, Fail, ReturnFailed, Shutter, SensorDone, Partial, TakeFill, FillDone, Deliver, Finish}
@@ -35,7 +36,8 @@ use Rattle.run_model.specs.Ready.{adding, error_due, failure_at, finish_due, whe
 use Rattle.run_model.specs.Run.{IsRun}
 use Rattle.run_rows.proofs.Kept.{lent-taken}
 use Rattle.run_rows.proofs.Named.{GoesOn}
-use Rattle.basic_lemmas.proofs.Lists.{any-where, all-where, any-at, found-passes, any-found}
+use Rattle.basic_lemmas.proofs.Lists.{any-where, any-at, found-passes, any-found}
+use Rattle.run_rows.proofs.Errors.{own-stream}
 
 abbrev frame_no : ℕ → FrameNo
 frame_no n = record { 0 = n }
@@ -56,10 +58,6 @@ added step (Some e) h = refl
 added step None h = absurd (false≢true h)
 
 -- each target is one of the frame's
-among_itself : (ts : List Sent) → list_all (λ u. list_any (λ t. t.stream.0 == u.stream.0) ts) ts ≡ true
-among_itself [] = refl
-among_itself (t ∷ ts) = and_from _ _ (or_left (t.stream.0 == t.stream.0) (list_any (λ u. u.stream.0 == t.stream.0) ts) (eq-eqb t.stream.0 t.stream.0 refl)) (all-where (λ u. list_any (λ x. x.stream.0 == u.stream.0) ts) (λ u. list_any (λ x. x.stream.0 == u.stream.0) (t ∷ ts)) ts (λ u h. or_right (t.stream.0 == u.stream.0) (list_any (λ x. x.stream.0 == u.stream.0) ts) h) (among_itself ts))
-
 -- ---- the device fence of a buffer that came back early
 
 -- what came back was brought, or has a device fence
@@ -92,7 +90,7 @@ finish-some script past n s back none late =
     let found = found-early past d (fence-given n s d past own) in
     rw some.2 (by d found.0 found.1 found.2 found.3 found.4 not'.0)
   where
-    by : (d : ℕ) (k : FrameNo) (t : StreamIx) (b : BufferId) (f : FenceNo) → find (is_early_with d) past ≡ Some (Early k t b f) → is_late d past ≡ false → is_some (late_due script past d) ≡ true
+    by : (d : ℕ) (k : FrameNo) (t : StreamIx) (b : BufferId) (f : DeviceFenceNo) → find (is_early_with d) past ≡ Some (Early k t b f) → is_late d past ≡ false → is_some (late_due script past d) ≡ true
     by d k t b f found open' = rw (found, open') refl
 
 module _ (script : Script) (h : List Move) (n : ℕ) (run : IsRun script h) (legal : IsLegal script (trace_of h)) (sent : is_sent n (trace_of h) ≡ true) where
@@ -130,7 +128,7 @@ module _ (script : Script) (h : List Move) (n : ℕ) (run : IsRun script h) (leg
   takes s t may passed untaken =
       elim (cases_Bool (is_sensor_done_in h n)) [
         | inl done ↦ elim (cases_Bool (is_any_fill_out h n)) [
-          | inl some ↦ one-of-all (GoesOn script h) (λ u. has_target n u.stream.0 (trace_of h)) (λ u. is_fill_out h n u.stream.0) (targets_of n (trace_of h)) (λ u has out. fill_out u.stream.0 has out) (among_itself (targets_of n (trace_of h))) some
+          | inl some ↦ one-of-all (GoesOn script h) (λ u. has_target n u.stream.0 (trace_of h)) (λ u. is_fill_out h n u.stream.0) (targets_of n (trace_of h)) (λ u has out. fill_out u.stream.0 has out) (own-stream (targets_of n (trace_of h))) some
           | inr none ↦ (TakeFill (frame_no n) (stream_ix s), rw (may.still, may.sound, may.owed.out, untaken, done, none, may.owed.at, passed) refl, and_from _ _ sent may.owed.has)
         ]
         | inr waits ↦ sensor_out (rw (may.shutter, waits) refl)
@@ -182,7 +180,7 @@ module _ (script : Script) (h : List Move) (n : ℕ) (run : IsRun script h) (leg
   by_next (Result may) = fails (or_second (failure_at script (trace_of h) n) _ (or_second (error_request_due script (trace_of h) n) _ (or_first (error_result_due script (trace_of h) n) _ (rw may refl))))
   by_next (Buffer s t owes may) = fails (or_second (failure_at script (trace_of h) n) _ (or_second (error_request_due script (trace_of h) n) _ (or_second (error_result_due script (trace_of h) n) _ (least_error s owes.has may))))
   by_next (Expose may) = exposes may
-  by_next (Part some) = (Partial (frame_no n), added (Partial (frame_no n)) (partial_due script (trace_of h) n) some, sent)
+  by_next (PartialResult some) = (Partial (frame_no n), added (Partial (frame_no n)) (partial_due script (trace_of h) n) some, sent)
   by_next (Return s t may) = returns s t may
   by_next (Fill s t may) = fills s t may
   by_next (Await s waits) = awaits s waits

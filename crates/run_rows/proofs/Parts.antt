@@ -10,7 +10,7 @@ use Rattle.trace_model.specs.Faults.{request_fault, result_fault}
 use Rattle.trace_model.specs.Frames.{each_earlier, has_error_request, shutter_time}
 use Rattle.trace_model.specs.Legal.{IsLegal}
 use Rattle.trace_model.specs.Open.{has_error_result, is_metadata_ended}
-use Rattle.trace_model.specs.Partial.{may_part, part_count, part_of, partial_due}
+use Rattle.trace_model.specs.Partial.{may_have_partial, partial_count, partial_of, partial_due}
 use Rattle.run_model.specs.declared.step.Move.{Move}
 use Rattle.run_model.specs.History.{trace_of}
 use Rattle.run_model.specs.Rows.{row_of, rows}
@@ -30,7 +30,7 @@ pub row-ended : (script : Script) (h : List Move) (n : ℕ) → IsLegal script (
 row-ended script h n legal =
     let past = trace_of h in
     ap (λ b. b || (has_error_result n past || has_error_request n past)) (part-within script past n 3 legal)
-    ∙ by (part_count n past) (has_error_result n past) (has_error_request n past)
+    ∙ by (partial_count n past) (has_error_result n past) (has_error_request n past)
   where
     by : (k : ℕ) (e q : Bool) → (is_within 3 k || (e || q)) ≡ not (nat_lt k 3 && (not e && not q))
     by k e q = grind (arith, nat_tests)
@@ -62,21 +62,21 @@ may-by q e f g k x =
         and-same true y = refl
         and-same false y = refl
 
-part-may : (script : Script) (h : List Move) (n : ℕ) → IsLegal script (trace_of h) → may_part script (trace_of h) n (part_count n (trace_of h) + 1) ≡ may_send_part script.faults (rows script h) (row_of script h n)
+part-may : (script : Script) (h : List Move) (n : ℕ) → IsLegal script (trace_of h) → may_have_partial script (trace_of h) n (partial_count n (trace_of h) + 1) ≡ may_send_part script.faults (rows script h) (row_of script h n)
 part-may script h n legal =
     let past = trace_of h in
-    may-by (has_error_request n past) (has_error_result n past) (request_fault script n) (result_fault script n) (part_count n past) (each_earlier n (λ m. is_metadata_ended m past) past)
-    ∙ ap (λ b. ((nat_lt (part_count n past) 3 && (not (has_error_result n past) && not (has_error_request n past))) && not (request_fault script n)) && (not (part_count n past == 2) || (not (result_fault script n) && b))) (earlier-ended script h n legal)
+    may-by (has_error_request n past) (has_error_result n past) (request_fault script n) (result_fault script n) (partial_count n past) (each_earlier n (λ m. is_metadata_ended m past) past)
+    ∙ ap (λ b. ((nat_lt (partial_count n past) 3 && (not (has_error_result n past) && not (has_error_request n past))) && not (request_fault script n)) && (not (partial_count n past == 2) || (not (result_fault script n) && b))) (earlier-ended script h n legal)
 
-part-open : (script : Script) (h : List Move) (n : ℕ) (o : Option ℕ) → IsLegal script (trace_of h) → part_of script (trace_of h) n (part_count n (trace_of h) + 1) o ≡ option_map (part_entry n) (part_with script.faults (rows script h) (row_of script h n) o)
+part-open : (script : Script) (h : List Move) (n : ℕ) (o : Option ℕ) → IsLegal script (trace_of h) → partial_of script (trace_of h) n (partial_count n (trace_of h) + 1) o ≡ option_map (part_entry n) (part_with script.faults (rows script h) (row_of script h n) o)
 part-open script h n None legal = refl
 part-open script h n (Some time) legal =
     if-same _ _ _ (part-may script h n legal)
-    ∙ sym (map-if (part_entry n) (may_send_part script.faults (rows script h) (row_of script h n)) (part_count n (trace_of h) + 1, part_at (part_count n (trace_of h) + 1) (row_of script h n).settings time))
+    ∙ sym (map-if (part_entry n) (may_send_part script.faults (rows script h) (row_of script h n)) (partial_count n (trace_of h) + 1, part_at (partial_count n (trace_of h) + 1) (row_of script h n).settings time))
 
 pub part_is : (script : Script) (h : List Move) (n : ℕ) → IsRun script h → partial_due script (trace_of h) n ≡ option_map (part_entry n) (next_part script.faults (rows script h) n)
 part_is script h n run =
     let legal = runs_legally script h run in
-    by-row script h n (λ row. option_map (part_entry n) (ready.part_of script.faults (rows script h) row)) (partial_due script (trace_of h) n)
+    by-row script h n (λ row. option_map (part_entry n) (ready.partial_of script.faults (rows script h) row)) (partial_due script (trace_of h) n)
     (λ open_. part-open script h n (shutter_time n (trace_of h)) legal)
     (λ closed. part-closed script (trace_of h) n legal closed)

@@ -2,7 +2,7 @@
 use Rattle.std.proofs.Common.{◌≡◌, ℕ, zero, suc, ◌+◌, ◌==◌, true, List, [], ◌∷◌, Option, Some, None, refl, sym, ap, ◌∙◌, inl, inr, length, slice_get, take}
 use Rattle.std.proofs.lemmas.Bool.{cases_Bool, false≢true}
 use Rattle.cam_types.specs.Metadata.{range_fault}
-use Rattle.cam_types.specs.Refusals.{item_refusal, items_refusal, list_refusal, or_else, targets_refusal, with_value}
+use Rattle.cam_types.specs.Refusals.{item_refusal, items_refusal, list_refusal, targets_refusal, with_value}
 use Rattle.cam_types.specs.declared.item.Item.{Item}
 use Rattle.cam_types.specs.declared.number.RequestId.{RequestId}
 use Rattle.cam_types.specs.declared.reply.Reply.{Reply}
@@ -27,11 +27,7 @@ use Rattle.trace_laws.proofs.Refusals.{refuses, refusal-refuses}
 use Rattle.trace_laws.proofs.Frames.{sent-once}
 use Rattle.state_facts.proofs.Accepted.{settings-kept}
 use Rattle.state_facts.proofs.Items.{IsNext, is-next}
-use Rattle.trace_laws.proofs.Accepted.{no-value}
-
-or-none : (a b : Option Reply) → or_else a b ≡ None → (a ≡ None) × (b ≡ None)
-or-none None b h = (refl, h)
-or-none (Some r) b h = absurd (cc)
+use Rattle.cam_types.proofs.RefusalLemmas.{no-value, or-none}
 
 pub items-in-range : (n i : ℕ) (items : List Item) → items_refusal n i items ≡ None → (k : ℕ) (item : Item) → slice_get items k ≡ Some item → range_fault item.settings ≡ None
 items-in-range n i [] h k item at = absurd (cc)

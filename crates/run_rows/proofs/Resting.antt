@@ -1,17 +1,13 @@
 -- While no frame is open no fill is out.
-use Rattle.std.proofs.Common.{◌≡◌, ℕ, ◌==◌, true, false, ◌&&◌, not, List, [], ◌∷◌, Option, Some, None, refl, ◌∙◌, inl, inr, is_some}
+use Rattle.std.proofs.Common.{◌≡◌, ℕ, ◌==◌, true, false, not, List, [], ◌∷◌, Option, Some, None, refl, ◌∙◌, inl, inr, is_some}
 use Rattle.std.specs.List.{list_all, list_any}
 use Rattle.std.proofs.lemmas.Bool.{and_parts, both_ways, cases_Bool, eqb-true, false≢true}
 use Rattle.cam_types.specs.declared.script.Script.{Script}
 use Rattle.trace_model.specs.declared.entry.Entry.{Entry}
-use Rattle.trace_model.specs.declared.entry.Entry.TheVariants.{Send as SendEntry}
 use Rattle.trace_model.specs.declared.entry.Sent.{Sent}
 use Rattle.trace_model.specs.Entry.{sends}
-use Rattle.trace_model.specs.Filled.{is_sound}
-use Rattle.trace_model.specs.Frames.{has_shutter, has_target, is_sent, send_of, target_of, targets_in, targets_of}
-use Rattle.trace_model.specs.Legal.{IsLegal}
-use Rattle.trace_model.specs.Open.{all_settled, is_open, is_quiet, is_returned, is_settled}
-use Rattle.trace_laws.proofs.BufferSends.{not-the-next, send-number}
+use Rattle.trace_model.specs.Frames.{has_shutter, has_target, is_sent, send_of, targets_in, targets_of}
+use Rattle.trace_model.specs.Open.{all_settled, is_quiet, is_returned, is_settled}
 use Rattle.state_facts.proofs.OpenRows.{IsDone}
 use Rattle.state_facts.proofs.Settled.{not-settled}
 use Rattle.trace_laws.proofs.Printed.{one-of-all}
@@ -19,17 +15,14 @@ use Rattle.trace_laws.proofs.Shutters.{shutter-sent}
 use Rattle.state_facts.proofs.Targets.{has_some, sent-targets}
 use Rattle.state_facts.proofs.Quiet.{quiet-done}
 use Rattle.run_model.specs.declared.step.Move.{Move}
-use Rattle.run_model.specs.declared.step.StepName.{StepName}
-use Rattle.run_model.specs.declared.step.StepName.TheVariants.{TakeFill}
-use Rattle.run_model.specs.History.{is_take_fill, trace_of, with_entry}
-use Rattle.run_model.specs.Jobs.{is_filled_in, is_fill_out, is_sensor_done_in, is_sensor_out, is_taken_in, is_readout_home}
-use Rattle.run_model.specs.Ready.{may_take_fill, move_of, target_is_passed}
+use Rattle.run_model.specs.History.{trace_of}
+use Rattle.run_model.specs.Jobs.{is_filled_in, is_fill_out, is_sensor_done_in, is_sensor_out, is_taken_in}
 use Rattle.run_model.specs.Run.{IsRun}
-use Rattle.run_rows.proofs.NeverStuckJobs.{silent_test}
 use Rattle.run_rows.specs.StuckLaws.{FillsKeepBuffers, NoFillAtRest, NoSensorAtRest, SensorKeepsBuffers}
 use Rattle.run_rows.proofs.Kept.{fill-kept, sensor-kept}
-use Rattle.run_rows.proofs.Runs.{runs_legally}
 use Rattle.basic_lemmas.proofs.Lists.{any-found}
+use Rattle.run_model.proofs.Legal.{runs_legally}
+use Rattle.run_model.proofs.Targets.{taken_target}
 
 target_sent : (past : List Entry) (n s : ℕ) → has_target n s past ≡ true → is_sent n past ≡ true
 target_sent past n s has = any-found (sends n) past ∙ by (send_of n past) has
@@ -37,36 +30,6 @@ target_sent past n s has = any-found (sends n) past ∙ by (send_of n past) has
     by : (o : Option Entry) → list_any (λ t. t.stream.0 == s) (targets_in o) ≡ true → is_some o ≡ true
     by None h = absurd (false≢true h)
     by (Some e) h = refl
-
-target_kept : (script : Script) (past : List Entry) (o : Option Entry) (n s : ℕ) → IsLegal script (with_entry o past) → has_target n s past ≡ true → has_target n s (with_entry o past) ≡ true
-target_kept script past None n s legal has = has
-target_kept script past (Some (SendEntry m r i same targets)) n s legal has =
-    let other = not-the-next script past m.0 n legal.1 (send-number script past m.0 r.0 i same targets legal.0) (target_sent past n s has) in
-    rw other has
-target_kept script past (Some e) n s legal has = has
-
-passed_some : (past : List Entry) (o : Option Sent) → target_is_passed past o ≡ true → is_some o ≡ true
-passed_some past None h = absurd (false≢true h)
-passed_some past (Some t) h = refl
-
-taken_target : (script : Script) (h : List Move) (step : StepName) (m : Move) (n s : ℕ) → move_of script h step ≡ Some m → is_take_fill n s step ≡ true → has_target n s (trace_of h) ≡ true
-taken_target script h (TakeFill k t) m n s made at =
-    let may = silent_test (TakeFill k t) (may_take_fill script h k.0 t.0) m made in
-    let same = and_parts (k.0 == n) (t.0 == s) at in
-    let first = and_parts (is_open k.0 (trace_of h) && (is_sound script (trace_of h) k.0 t.0 && not (is_returned k.0 t.0 (trace_of h)))) ((not (is_taken_in h k.0 t.0) && (is_readout_home h k.0)) && target_is_passed (trace_of h) (target_of k.0 t.0 (trace_of h))) may in
-    let second = and_parts (not (is_taken_in h k.0 t.0) && (is_readout_home h k.0)) (target_is_passed (trace_of h) (target_of k.0 t.0 (trace_of h))) first.1 in
-    let has : has_target k.0 t.0 (trace_of h) ≡ true = any-found (λ u. u.stream.0 == t.0) (targets_of k.0 (trace_of h)) ∙ passed_some (trace_of h) (target_of k.0 t.0 (trace_of h)) second.1 in
-    rw (← eqb-true k.0 n same.0, ← eqb-true t.0 s same.1) has
-taken_target script h _ m n s made at = absurd (false≢true at)
-
-pub taken-target : (script : Script) (h : List Move) (n s : ℕ) → IsRun script h → is_taken_in h n s ≡ true → has_target n s (trace_of h) ≡ true
-taken-target script [] n s run taken = absurd (false≢true taken)
-taken-target script (m ∷ h) n s run taken =
-    let legal = runs_legally script (m ∷ h) run in
-    target_kept script (trace_of h) m.entry n s legal (elim (cases_Bool (is_take_fill n s m.step)) [
-      | inl now ↦ taken_target script h m.step m n s run.0 now
-      | inr other ↦ (let taken' = rw other at taken in taken-target script h n s run.1 taken')
-    ])
 
 -- the device is done with each target of a frame that is done
 done_settled : (past : List Entry) (n s : ℕ) → IsDone past n → has_target n s past ≡ true → is_settled n s past ≡ true
@@ -76,7 +39,7 @@ pub no-fill : (script : Script) (h : List Move) (n s : ℕ) → IsRun script h �
 no-fill script h n s run quiet =
     elim (cases_Bool (is_fill_out h n s)) [
       | inl out ↦ (
-          let has = taken-target script h n s run (and_parts (is_taken_in h n s) (not (is_filled_in h n s)) out).0 in
+          let has = taken_target script h n s run (and_parts (is_taken_in h n s) (not (is_filled_in h n s)) out).0 in
           let done = quiet-done (trace_of h) n quiet (target_sent (trace_of h) n s has) in
           let back = done_settled (trace_of h) n s done has in
           absurd (both_ways (is_settled n s (trace_of h)) (fill-kept script h n s run out) back)

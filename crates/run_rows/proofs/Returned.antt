@@ -4,6 +4,7 @@ use Rattle.std.specs.List.{list_any}
 use Rattle.std.proofs.lemmas.Bool.{and_parts, cases_Bool, eq-eqb, eqb-true, false≢true, or_parts}
 use Rattle.run_rows.proofs.General.{third}
 use Rattle.cam_types.specs.declared.number.BufferId.{BufferId}
+use Rattle.cam_types.specs.declared.number.DeviceFenceNo.{DeviceFenceNo}
 use Rattle.cam_types.specs.declared.number.FenceNo.{FenceNo}
 use Rattle.cam_types.specs.declared.number.FrameNo.{FrameNo}
 use Rattle.cam_types.specs.declared.number.StreamIx.{StreamIx}
@@ -78,7 +79,7 @@ failed-row script h step n s b f run sent =
 
 -- ---- early
 
-early-state : (script : Script) (h : List Move) (step : StepName) (n : FrameNo) (s : StreamIx) (b : BufferId) (d : FenceNo) → IsRun script (record { step = step; entry = Some (EarlyEntry n s b d) } ∷ h) → is_fill_out h n.0 s.0 ≡ true → target_state (record { step = step; entry = Some (EarlyEntry n s b d) } ∷ h) n.0 s.0 ≡ ReturnedEarly
+early-state : (script : Script) (h : List Move) (step : StepName) (n : FrameNo) (s : StreamIx) (b : BufferId) (d : DeviceFenceNo) → IsRun script (record { step = step; entry = Some (EarlyEntry n s b d) } ∷ h) → is_fill_out h n.0 s.0 ≡ true → target_state (record { step = step; entry = Some (EarlyEntry n s b d) } ∷ h) n.0 s.0 ≡ ReturnedEarly
 early-state script h step n s b d run out =
     let e = EarlyEntry n s b d in
     let past = trace_of h in
@@ -90,7 +91,7 @@ early-state script h step n s b d run out =
     by : (own ok bad early settled out filled : Bool) → own ≡ true → ok ≡ false → bad ≡ false → settled ≡ false → out ≡ true → state_by ok bad (own || early) settled out filled ≡ ReturnedEarly
     by own ok bad early settled out filled a b c d e = rw (a, b, c, d, e) refl
 
-pub early-row : (script : Script) (h : List Move) (step : StepName) (n : FrameNo) (s : StreamIx) (b : BufferId) (d : FenceNo) → IsRun script (record { step = step; entry = Some (EarlyEntry n s b d) } ∷ h) → is_fill_out h n.0 s.0 ≡ true → is_sent n.0 (trace_of h) ≡ true → row_of script (record { step = step; entry = Some (EarlyEntry n s b d) } ∷ h) n.0 ≡ gone_early s (row_of script h n.0)
+pub early-row : (script : Script) (h : List Move) (step : StepName) (n : FrameNo) (s : StreamIx) (b : BufferId) (d : DeviceFenceNo) → IsRun script (record { step = step; entry = Some (EarlyEntry n s b d) } ∷ h) → is_fill_out h n.0 s.0 ≡ true → is_sent n.0 (trace_of h) ≡ true → row_of script (record { step = step; entry = Some (EarlyEntry n s b d) } ∷ h) n.0 ≡ gone_early s (row_of script h n.0)
 early-row script h step n s b d run out sent =
     let e = EarlyEntry n s b d in
     let m : Move = record { step = step; entry = Some e } in
@@ -109,7 +110,7 @@ pub record LateOf (h : List Move) (n s d : ℕ) : Type 0 where
   pub early : was_early h n s ≡ true
   pub only : (m u : ℕ) → has_fence d (early_fences m u (trace_of h)) ≡ true → (n ≡ m) × (s ≡ u)
 
-pub late-of : (script : Script) (h : List Move) (step : StepName) (n s : ℕ) (d : FenceNo) (x : List ℕ) → IsRun script (record { step = step; entry = Some (LateEntry d x) } ∷ h) → FinishOf h n s d.0 → LateOf h n s d.0
+pub late-of : (script : Script) (h : List Move) (step : StepName) (n s : ℕ) (d : DeviceFenceNo) (x : List ℕ) → IsRun script (record { step = step; entry = Some (LateEntry d x) } ∷ h) → FinishOf h n s d.0 → LateOf h n s d.0
 late-of script h step n s d x run finish =
     let past = trace_of h in
     let legal = runs_legally script (record { step = step; entry = Some (LateEntry d x) } ∷ h) run in
@@ -117,7 +118,7 @@ late-of script h step n s d x run finish =
     let k : FrameNo = is.0 in
     let t : StreamIx = is.1 in
     let b : BufferId = is.2 in
-    let f : FenceNo = is.3 in
+    let f : DeviceFenceNo = is.3 in
     let found : find (is_early_with d.0) past ≡ Some (EarlyEntry k t b f) = is.4 in
     let own : has_fence d.0 (early_fences n s past) ≡ true = ap (λ (fs : List ℕ). has_fence d.0 fs) finish.fences ∙ rw (own-number d.0) refl in
     let at = same k.0 t.0 n s (fence-frame script past d.0 k t b f n s legal.1 found own) in
@@ -147,7 +148,7 @@ late-apart h n s d u is other = elim (cases_Bool (has_fence d (early_fences n u 
   | inr no' ↦ no'
 ]
 
-late-state : (script : Script) (h : List Move) (step : StepName) (n s : ℕ) (d : FenceNo) (x : List ℕ) → IsRun script (record { step = step; entry = Some (LateEntry d x) } ∷ h) → LateOf h n s d.0 → target_state (record { step = step; entry = Some (LateEntry d x) } ∷ h) n s ≡ ReturnedOk
+late-state : (script : Script) (h : List Move) (step : StepName) (n s : ℕ) (d : DeviceFenceNo) (x : List ℕ) → IsRun script (record { step = step; entry = Some (LateEntry d x) } ∷ h) → LateOf h n s d.0 → target_state (record { step = step; entry = Some (LateEntry d x) } ∷ h) n s ≡ ReturnedOk
 late-state script h step n s d x run is =
     state-noted script h step (LateEntry d x) n s run
     ∙ by (was_ok h n s) (was_bad h n s) (was_early h n s) (has_fence d.0 (early_fences n s (trace_of h))) (is_settled n s (trace_of h)) (is_fill_out h n s) (is_filled_in h n s) is.bad is.early is.own
@@ -156,7 +157,7 @@ late-state script h step n s d x run is =
     by true bad early has settled out filled a b c = refl
     by false bad early has settled out filled a b c = rw (a, b, c) refl
 
-pub late-row : (script : Script) (h : List Move) (step : StepName) (n s : ℕ) (t : StreamIx) (d : FenceNo) (x : List ℕ) → IsRun script (record { step = step; entry = Some (LateEntry d x) } ∷ h) → s ≡ t.0 → LateOf h n s d.0 → is_sent n (trace_of h) ≡ true → row_of script (record { step = step; entry = Some (LateEntry d x) } ∷ h) n ≡ delivered t (row_of script h n)
+pub late-row : (script : Script) (h : List Move) (step : StepName) (n s : ℕ) (t : StreamIx) (d : DeviceFenceNo) (x : List ℕ) → IsRun script (record { step = step; entry = Some (LateEntry d x) } ∷ h) → s ≡ t.0 → LateOf h n s d.0 → is_sent n (trace_of h) ≡ true → row_of script (record { step = step; entry = Some (LateEntry d x) } ∷ h) n ≡ delivered t (row_of script h n)
 late-row script h step n s t d x run at is sent =
     let e = LateEntry d x in
     let m : Move = record { step = step; entry = Some e } in

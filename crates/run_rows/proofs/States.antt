@@ -20,25 +20,15 @@ use Rattle.run_model.specs.Rows.{is_early_return, is_failed_return, is_ok_return
 use Rattle.run_model.specs.Run.{IsRun}
 use Rattle.trace_laws.proofs.Once.{settled-returned}
 use Rattle.device_rows.specs.Ready as ready
-use Rattle.device_rows.specs.Ready.{is_state}
+use Rattle.device_rows.specs.Ready.{is_same_state}
 use Rattle.run_model.proofs.Unsent.{filled-taken}
 use Rattle.basic_lemmas.proofs.Lists.{any-or, any-agree}
-use Rattle.basic_lemmas.proofs.Tests.{or-false}
+use Rattle.basic_lemmas.proofs.Tests.{or-false, or-crossed-three}
 
 -- ---- how a buffer came back
 
 back-step : (n s : ℕ) (e : Entry) (a b c : Bool) → ((is_ok_return n s e || a) || ((is_failed_return n s e || b) || (is_early_return n s e || c))) ≡ ((is_ok_return n s e || (is_failed_return n s e || is_early_return n s e)) || (a || (b || c)))
-back-step n s e a b c = crossed (is_ok_return n s e) a (is_failed_return n s e) b (is_early_return n s e) c
-  where
-    crossed : (p a q b r c : Bool) → ((p || a) || ((q || b) || (r || c))) ≡ ((p || (q || r)) || (a || (b || c)))
-    crossed true a q b r c = refl
-    crossed false true true b r c = refl
-    crossed false true false b true c = refl
-    crossed false true false b false c = refl
-    crossed false false true b r c = refl
-    crossed false false false true true c = refl
-    crossed false false false true false c = refl
-    crossed false false false false r c = refl
+back-step n s e a b c = or-crossed-three (is_ok_return n s e) a (is_failed_return n s e) b (is_early_return n s e) c
 
 return-kinds : (n s : ℕ) (e : Entry) → (is_ok_return n s e || (is_failed_return n s e || is_early_return n s e)) ≡ returns_target n s e
 return-kinds n s (Filled m t b f d) = or-false ((m.0 == n) && (t.0 == s))
@@ -94,7 +84,7 @@ settled-by false false false false true filled h k = refl
 settled-by false false false false false true h k = refl
 settled-by false false false false false false h k = refl
 
-waiting-by : (ok bad given settled taken filled : Bool) → (filled ≡ true → taken ≡ true) → is_state (state_by ok bad given settled (taken && not filled) filled) Waiting ≡ (not (ok || (bad || given)) && not taken)
+waiting-by : (ok bad given settled taken filled : Bool) → (filled ≡ true → taken ≡ true) → is_same_state (state_by ok bad given settled (taken && not filled) filled) Waiting ≡ (not (ok || (bad || given)) && not taken)
 waiting-by true bad given settled taken filled h = refl
 waiting-by false true given settled taken filled h = refl
 waiting-by false false true true taken filled h = refl
@@ -106,7 +96,7 @@ waiting-by false false false settled true false h = refl
 waiting-by false false false settled false true h = absurd (false≢true (h refl))
 waiting-by false false false settled false false h = refl
 
-out-by : (ok bad given settled out filled : Bool) → is_state (state_by ok bad given settled out filled) Out ≡ (not (ok || (bad || given)) && out)
+out-by : (ok bad given settled out filled : Bool) → is_same_state (state_by ok bad given settled out filled) Out ≡ (not (ok || (bad || given)) && out)
 out-by true bad given settled out filled = refl
 out-by false true given settled out filled = refl
 out-by false false true true out filled = refl
@@ -116,7 +106,7 @@ out-by false false false settled true filled = refl
 out-by false false false settled false true = refl
 out-by false false false settled false false = refl
 
-filled-by : (ok bad given settled taken filled : Bool) → is_state (state_by ok bad given settled (taken && not filled) filled) IsFilled ≡ (not (ok || (bad || given)) && filled)
+filled-by : (ok bad given settled taken filled : Bool) → is_same_state (state_by ok bad given settled (taken && not filled) filled) IsFilled ≡ (not (ok || (bad || given)) && filled)
 filled-by true bad given settled taken filled = refl
 filled-by false true given settled taken filled = refl
 filled-by false false true true taken filled = refl
@@ -128,7 +118,7 @@ filled-by false false false settled true false = refl
 filled-by false false false settled false true = refl
 filled-by false false false settled false false = refl
 
-pub early-filled-by : (ok bad given settled taken filled : Bool) → (given ≡ true → taken ≡ true) → is_state (state_by ok bad given settled (taken && not filled) filled) EarlyFilled ≡ ((not (ok || bad) && given) && (not settled && filled))
+pub early-filled-by : (ok bad given settled taken filled : Bool) → (given ≡ true → taken ≡ true) → is_same_state (state_by ok bad given settled (taken && not filled) filled) EarlyFilled ≡ ((not (ok || bad) && given) && (not settled && filled))
 early-filled-by true bad given settled taken filled h = refl
 early-filled-by false true given settled taken filled h = refl
 early-filled-by false false true true taken filled h = refl
@@ -165,16 +155,16 @@ state-settled h n s =
 not-back : (h : List Move) (n s : ℕ) (b : Bool) → (not (was_ok h n s || (was_bad h n s || was_early h n s)) && b) ≡ (not (is_returned n s (trace_of h)) && b)
 not-back h n s b = ap (λ r. not r && b) (returned-kinds n s (trace_of h))
 
-pub state-waiting : (script : Script) (h : List Move) (n s : ℕ) → IsRun script h → is_state (target_state h n s) Waiting ≡ (not (is_returned n s (trace_of h)) && not (is_taken_in h n s))
+pub state-waiting : (script : Script) (h : List Move) (n s : ℕ) → IsRun script h → is_same_state (target_state h n s) Waiting ≡ (not (is_returned n s (trace_of h)) && not (is_taken_in h n s))
 state-waiting script h n s run =
     waiting-by (was_ok h n s) (was_bad h n s) (was_early h n s) (is_settled n s (trace_of h)) (is_taken_in h n s) (is_filled_in h n s) (filled-taken script h n s run)
     ∙ not-back h n s (not (is_taken_in h n s))
 
-pub state-out : (h : List Move) (n s : ℕ) → is_state (target_state h n s) Out ≡ (not (is_returned n s (trace_of h)) && is_fill_out h n s)
+pub state-out : (h : List Move) (n s : ℕ) → is_same_state (target_state h n s) Out ≡ (not (is_returned n s (trace_of h)) && is_fill_out h n s)
 state-out h n s =
     out-by (was_ok h n s) (was_bad h n s) (was_early h n s) (is_settled n s (trace_of h)) (is_fill_out h n s) (is_filled_in h n s) ∙ not-back h n s (is_fill_out h n s)
 
-pub state-filled : (h : List Move) (n s : ℕ) → is_state (target_state h n s) IsFilled ≡ (not (is_returned n s (trace_of h)) && is_filled_in h n s)
+pub state-filled : (h : List Move) (n s : ℕ) → is_same_state (target_state h n s) IsFilled ≡ (not (is_returned n s (trace_of h)) && is_filled_in h n s)
 state-filled h n s =
     filled-by (was_ok h n s) (was_bad h n s) (was_early h n s) (is_settled n s (trace_of h)) (is_taken_in h n s) (is_filled_in h n s) ∙ not-back h n s (is_filled_in h n s)
 

@@ -3,12 +3,12 @@
 use Rattle.std.proofs.Common.{◌≡◌, ℕ, ◌==◌, Bool, true, false, ◌&&◌, ◌||◌, not, List, [], ◌∷◌, ◌++◌, Option, Some, None, refl, sym, ap, ◌∙◌, inl, inr, filter, is_some, slice_get, if◌then◌else◌}
 use Rattle.std.proofs.lemmas.List.{append-nil}
 use Rattle.std.specs.List.{list_all, list_any}
-use Rattle.std.proofs.lemmas.Bool.{and_parts, cases_Bool, eqb-true, false≢true, or_right, not-true}
+use Rattle.std.proofs.lemmas.Bool.{and_parts, cases_Bool, false≢true, or_right}
 use Rattle.cam_types.specs.Four.{four_list}
 use Rattle.cam_types.specs.Refusals.{refused}
 use Rattle.cam_types.specs.declared.reply.Made.{Made}
 use Rattle.cam_types.specs.declared.reply.Reply.{Reply}
-use Rattle.cam_types.specs.declared.reply.Reply.TheVariants.{Ok as Accepted, Configured}
+use Rattle.cam_types.specs.declared.reply.Reply.TheVariants.{Ok as Accepted}
 use Rattle.cam_types.specs.declared.request.Queued.{Queued}
 use Rattle.cam_types.specs.declared.request.WaitingItem.{WaitingItem}
 use Rattle.cam_types.specs.declared.script.Command.{Command}
@@ -25,7 +25,7 @@ use Rattle.trace_model.specs.Configuration.{buffers_of, configures, is_configure
 use Rattle.trace_model.specs.Drop.{drop_of}
 use Rattle.trace_model.specs.Entry.{is_refusal, is_stop_word}
 use Rattle.trace_model.specs.Fence.{fence_of, is_same_fence}
-use Rattle.trace_model.specs.Frames.{frames, is_sent}
+use Rattle.trace_model.specs.Frames.{is_sent}
 use Rattle.trace_model.specs.Legal.{IsLegal}
 use Rattle.trace_model.specs.Numbers.{call_count}
 use Rattle.trace_model.specs.Open.{is_open, is_quiet}
@@ -35,17 +35,18 @@ use Rattle.trace_model.specs.Reply.{reply}
 use Rattle.trace_model.specs.Send.{fits_next, takes_from_pool}
 use Rattle.trace_model.specs.Stopping.{has_failed, is_stopped, is_stopping, stops_by}
 use Rattle.trace_model.proofs.LawLemmas.{sends-from-pool}
-use Rattle.basic_lemmas.proofs.Lists.{all-where-both, any-behind}
+use Rattle.basic_lemmas.proofs.Lists.{any-behind}
 use Rattle.run_model.proofs.Entries.{open-sent}
 use Rattle.state_facts.proofs.Awaited.{begun-word, begins_first}
 use Rattle.state_facts.proofs.Stopped.{stopping-stops}
 use Rattle.state_facts.proofs.Targets.{has_some, sent-targets}
 use Rattle.trace_laws.proofs.Done.{closed-stays}
-use Rattle.trace_laws.proofs.Frames.{sent-listed}
 use Rattle.trace_laws.proofs.Told.{not-stopped}
 use Rattle.state_facts.proofs.Rest.{none_waits}
-use Rattle.trace_laws.proofs.BufferSends.{frames-sent}
 use Rattle.basic_lemmas.proofs.Tests.{own-number}
+use Rattle.state_facts.proofs.Made.{no-made}
+use Rattle.state_facts.proofs.Quiet.{quiet-stays}
+pub use Rattle.state_facts.proofs.Quiet.{quiet-closed}
 
 -- ---- a call that is due
 
@@ -79,11 +80,6 @@ pub record HasNothing (script : Script) (past : List Entry) : Type 0 where
   pub quiet : is_quiet past ≡ true
   pub empty : queued script past ≡ []
   pub none : repeating script past ≡ None
-
-quiet-stays : (script : Script) (past : List Entry) (e : Entry) → IsLegal script (e ∷ past) → is_quiet past ≡ true → list_all (λ n. not (is_open n (e ∷ past))) (frames past) ≡ true
-quiet-stays script past e legal quiet =
-    all-where-both (λ n. is_sent n past) (λ n. not (is_open n past)) (λ n. not (is_open n (e ∷ past))) (frames past)
-    (λ n sent closed. ap not (closed-stays script past e n legal sent (not-true (is_open n past) closed))) (frames-sent past) quiet
 
 -- what a closing command's answer says: all was done
 pub answered : (began refused over : Bool) → (began && (refused || over)) ≡ true → refused ≡ false → over ≡ true
@@ -177,11 +173,6 @@ closed-nothing script (e ∷ past) legal closed =
 
 -- ---- a frame is sent to a service that is configured
 
-no-made : (past : List Entry) → is_configured past ≡ false → made past ≡ []
-no-made [] h = refl
-no-made (Call i w (Configured each) ∷ past) h = absurd (false≢true (sym h))
-no-made (e ∷ past) h = no-made past h
-
 none-taken : (past : List Entry) (ts : List Sent) → made past ≡ [] → has_some ts ≡ true → list_all (takes_from_pool past) ts ≡ true → ⊥
 none-taken past [] none some all = false≢true some
 none-taken past (t ∷ ts) none some all =
@@ -215,19 +206,6 @@ stop-over : (script : Script) (past : List Entry) (c : Command) → is_stop_word
 stop-over script past Flush word over = (and_parts (is_quiet past) (is_empty (queued script past)) over).0
 stop-over script past Disconnect word over = (and_parts (is_quiet past) (is_empty (queued script past)) over).0
 stop-over script past _ word over = absurd (false≢true word)
-
-pub quiet-closed : (past : List Entry) (n : ℕ) → is_quiet past ≡ true → is_open n past ≡ true → ⊥
-quiet-closed past n quiet open_ =
-    false≢true (sym (ap not open_) ∙ at-all (λ m. not (is_open m past)) (frames past) n quiet (sent-listed past n (open-sent n past open_)))
-  where
-    at-all : (p : ℕ → Bool) (xs : List ℕ) (x : ℕ) → list_all p xs ≡ true → list_any (λ m. m == x) xs ≡ true → p x ≡ true
-    at-all p [] x all has = absurd (false≢true has)
-    at-all p (y ∷ xs) x all has =
-        let parts = and_parts (p y) (list_all p xs) all in
-        elim (cases_Bool (y == x)) [
-          | inl here ↦ ap p (sym (eqb-true y x here)) ∙ parts.0
-          | inr other ↦ (let has' = rw other at has in at-all p xs x parts.1 has')
-        ]
 
 call-quiet : (script : Script) (past : List Entry) (i : ℕ) (w : Word) (r : Reply) (n : ℕ) (o : Option Word) → IsLegal script past → call_due script past ≡ Some (Call i w r) → begun past ≡ o → stops_by o ≡ true → has_failed past ≡ false → is_open n past ≡ true → ⊥
 call-quiet script past i w r n None legal due at stops sound open_ = false≢true stops

@@ -32,7 +32,8 @@ use Rattle.trace_laws.proofs.Refusals.{refuses, refusal-refuses}
 use Rattle.state_facts.proofs.Served.{offered, serves, some_of}
 use Rattle.state_facts.proofs.Targets.{next_by}
 use Rattle.run_model.proofs.Entries.{open-sent}
-use Rattle.run_rows.proofs.Stopped.{answered, call-is, open-before, quiet-closed}
+use Rattle.run_rows.proofs.Stopped.{answered, call-is, open-before}
+use Rattle.state_facts.proofs.Quiet.{quiet-closed}
 
 -- the stream is one of the configuration's
 abbrev pub is_offered : Script → List Entry → Sent → Bool

@@ -25,7 +25,7 @@ use Rattle.run_model.specs.Run.{IsRun}
 use Rattle.run_rows.specs.StuckLaws.{HasCandidates, NeverStuck, NeverWaitsIdly, is_of_job}
 use Rattle.run_rows.proofs.Named.{GoesOn, some-candidate}
 use Rattle.run_rows.proofs.OpenSteps.{added, open-goes-on, or_first, or_second}
-use Rattle.run_rows.proofs.Runs.{runs_legally}
+use Rattle.run_model.proofs.Legal.{runs_legally}
 
 module _ (script : Script) (h : List Move) (can : IsAble script.profile) (run : IsRun script h) (legal : IsLegal script (trace_of h)) where
   by_rest : is_quiet (trace_of h) ≡ true → all_in_pool (trace_of h) ≡ true → is_all_signalled (trace_of h) ≡ true → RestOf script (trace_of h) → IsComplete script (trace_of h) ⊎ GoesOn script h

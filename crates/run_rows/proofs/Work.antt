@@ -28,7 +28,6 @@ use Rattle.trace_laws.proofs.Shutters.{exposed, request_is_error}
 use Rattle.trace_laws.specs.Settled.{settles}
 use Rattle.trace_laws.proofs.Settled.{settled-noted}
 use Rattle.run_model.specs.RunMoves.{by_entry}
-use Rattle.run_model.proofs.Targets.{dark-next}
 use Rattle.run_model.proofs.Unsent.{done-shot, filled-taken, taken-done}
 use Rattle.trace_laws.proofs.Done.{closed-is}
 use Rattle.trace_laws.proofs.Once.{settled-returned}
@@ -38,6 +37,7 @@ use Rattle.run_rows.proofs.Jobs.{FinishedBy, early-taken, move-behind, ok-filled
 use Rattle.run_rows.proofs.Returned.{late-of}
 use Rattle.run_rows.proofs.States.{place-out, returned-kinds, state_by, was_bad, was_early, was_ok}
 use Rattle.state_facts.proofs.Caused.{failed_cause, buffer_error}
+use Rattle.trace_laws.proofs.Told.{unexposed}
 
 -- ---- a failed buffer comes after an error of its frame
 
@@ -162,7 +162,7 @@ sensor-closed script h n run closed =
     let legal = runs_legally script h run in
     elim (cases_Bool (is_sent n past)) [
       | inl sent ↦ (let first = first-settled past n (targets_of n past) (sent-targets script past n legal sent) (closed-is past n sent closed).1 in settled-still script h n first.0 run first.1)
-      | inr unsent ↦ rw (dark-next script past n legal unsent) refl
+      | inr unsent ↦ rw (unexposed script past n legal unsent) refl
     ]
 
 -- ---- the sensor's job

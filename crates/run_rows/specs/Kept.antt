@@ -9,8 +9,16 @@ use Rattle.cam_types.specs.declared.row.TargetState.{TargetState}
 use Rattle.cam_types.specs.declared.row.TargetState.TheVariants.{Filled, EarlyFilled, ReturnedOk}
 use Rattle.device_rows.specs.Jobs.{is_fill_out}
 use Rattle.device_rows.specs.Kept.{is_made, is_with_fill, rise_from}
+use Rattle.cam_types.specs.declared.script.Script.{Script}
+use Rattle.run_model.specs.declared.step.Move.{Move}
+use Rattle.run_model.specs.Run.{IsRun}
+use Rattle.run_model.specs.Rows.{rows}
 
 -- What the rows of a run meet, which the device asks of those that it is given.
+
+-- each row of a run passes the test
+abbrev pub EachRow : (RowView → Bool) → Script → List Move → Type 0
+EachRow test script h = IsRun script h → list_all test (rows script h) ≡ true
 
 -- no frame is open
 abbrev pub is_no_row : List RowView → Bool
@@ -46,7 +54,7 @@ has_streams streams row = rise_from 0 streams (four_list row.targets)
 abbrev pub is_in_range : RowView → Bool
 is_in_range row = is_none (range_fault row.settings)
 
--- at most three metadata results were sent (camera3.h, partial_result_count)
+-- at most three partial results were sent (camera3.h, partial_result_count)
 abbrev pub has_few_parts : RowView → Bool
 has_few_parts row = nat_le row.parts 3
 

@@ -21,4 +21,4 @@ pub use rows::{
     rows_are_as_they_were_sent, sensor_jobs_are_read, sent_rows_are_fresh,
 };
 pub use steps::each_move_changes_the_rows;
-pub use stuck_laws::{a_run_is_never_stuck, jobs_are_of_open_frames, runs_are_legal};
+pub use stuck_laws::{a_run_is_never_stuck, jobs_are_of_open_frames};

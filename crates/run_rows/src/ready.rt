@@ -25,7 +25,7 @@ pub fn shutters_are_read()
         ≡ option_map (shutter_entry (next_time script (trace_of h))) (shutter_row script.faults (rows script h)) }
 {}
 
-/// The metadata result of a frame that is due is the next part that the rows name.
+/// The partial result of a frame that is due is the next part that the rows name.
 #[tactic(auto, using(crate::proofs::Parts::part_is))]
 pub fn metadata_is_read()
     ensures { (script : SomeScript) (h : List SomeMove) (n : ℕ) → IsRun script h →

@@ -1,7 +1,6 @@
 //! Laws on the rows of a run as they stand: functions that do nothing, and whose contracts hold of every script and
 //! every run of it.
 ghost use Rattle.std.specs.Prelude.{◌≡◌, ◌≤◌, ◌∷◌, ℕ, List, Bool, Some, is_some, length, true};
-ghost use Rattle.std.specs.List.{list_all};
 ghost use Rattle.cam_types.specs.declared.four.Four.{Four as SomeFour};
 ghost use Rattle.cam_types.specs.declared.job.FillTarget.{FillTarget as SomeTarget};
 ghost use Rattle.cam_types.specs.declared.job.JobView.{JobView as SomeJob};
@@ -19,7 +18,7 @@ ghost use Rattle.run_model.specs.declared.step.Move.{Move as SomeMove};
 ghost use Rattle.run_rows.specs.Changes.{fresh_row};
 ghost use Rattle.state_facts.specs.Turns.{settings_next};
 ghost use Rattle.trace_model.specs.Queue.{next};
-ghost use Rattle.run_rows.specs.Kept.{IsSound, are_below, are_stopped_with, frames_rise, has_few_parts, has_given_fences, has_its_readout, has_pictures_late, has_some_target, has_streams, is_in_range, is_no_row};
+ghost use Rattle.run_rows.specs.Kept.{EachRow, IsSound, are_below, are_stopped_with, frames_rise, has_few_parts, has_given_fences, has_its_readout, has_pictures_late, has_some_target, has_streams, is_in_range, is_no_row};
 ghost use Rattle.trace_model.specs.Configuration.{streams};
 ghost use Rattle.trace_model.specs.Numbers.{next_fence};
 ghost use Rattle.trace_model.specs.Open.{is_quiet, open_count};
@@ -74,29 +73,22 @@ pub fn frames_are_in_order()
 {}
 
 /// Each row has a target, its streams rise and are the configuration's, its acquire fences were released, its settings
-/// are in their ranges, and at most three metadata results of it were sent.
+/// are in their ranges, and at most three partial results of it were sent.
 #[tactic(auto, using(crate::proofs::Counted::targets_is, crate::proofs::Counted::streams_is, crate::proofs::Given::fences_is, crate::proofs::Counted::range_is, crate::proofs::Counted::parts_is))]
 pub fn rows_are_as_they_were_sent()
-    ensures targets { (script : SomeScript) (h : List SomeMove) → IsRun script h →
-        list_all has_some_target (rows script h) ≡ true }
-    ensures streams { (script : SomeScript) (h : List SomeMove) → IsRun script h →
-        list_all (has_streams (length (streams script (trace_of h)))) (rows script h) ≡ true }
-    ensures fences { (script : SomeScript) (h : List SomeMove) → IsRun script h →
-        list_all (has_given_fences (next_fence (trace_of h))) (rows script h) ≡ true }
-    ensures range { (script : SomeScript) (h : List SomeMove) → IsRun script h →
-        list_all is_in_range (rows script h) ≡ true }
-    ensures parts { (script : SomeScript) (h : List SomeMove) → IsRun script h →
-        list_all has_few_parts (rows script h) ≡ true }
+    ensures targets { (script : SomeScript) (h : List SomeMove) → EachRow has_some_target script h }
+    ensures streams { (script : SomeScript) (h : List SomeMove) → EachRow (has_streams (length (streams script (trace_of h)))) script h }
+    ensures fences { (script : SomeScript) (h : List SomeMove) → EachRow (has_given_fences (next_fence (trace_of h))) script h }
+    ensures range { (script : SomeScript) (h : List SomeMove) → EachRow is_in_range script h }
+    ensures parts { (script : SomeScript) (h : List SomeMove) → EachRow has_few_parts script h }
 {}
 
 /// A stage has the readout of a frame exactly where it fills a buffer of it, and one alone, and a buffer has its
 /// picture only once the sensor's work on the frame is done.
 #[tactic(auto, using(crate::proofs::Agree::readout_is, crate::proofs::Agree::pictures_is))]
 pub fn places_agree()
-    ensures readout { (script : SomeScript) (h : List SomeMove) → IsRun script h →
-        list_all has_its_readout (rows script h) ≡ true }
-    ensures pictures { (script : SomeScript) (h : List SomeMove) → IsRun script h →
-        list_all has_pictures_late (rows script h) ≡ true }
+    ensures readout { (script : SomeScript) (h : List SomeMove) → EachRow has_its_readout script h }
+    ensures pictures { (script : SomeScript) (h : List SomeMove) → EachRow has_pictures_late script h }
 {}
 
 /// The row of a frame that is sent is one of which nothing began; it has a target, its streams rise and are the

@@ -2,13 +2,7 @@
 ghost use Rattle.std.specs.Prelude.{List};
 ghost use Rattle.cam_types.specs.declared.script.Script.{Script as SomeScript};
 ghost use Rattle.run_model.specs.declared.step.Move.{Move as SomeMove};
-ghost use Rattle.run_rows.specs.StuckLaws.{FillsKeepBuffers, HasCandidates, NeverStuck, NeverWaitsIdly, NoFillAtRest, NoSensorAtRest, RunsLegally, SensorKeepsBuffers};
-
-/// The trace of a run is legal.
-#[tactic(auto, using(crate::proofs::Runs::runs_legally))]
-pub fn runs_are_legal()
-    ensures { (script : SomeScript) (h : List SomeMove) → RunsLegally script h }
-{}
+ghost use Rattle.run_rows.specs.StuckLaws.{FillsKeepBuffers, HasCandidates, NeverStuck, NeverWaitsIdly, NoFillAtRest, NoSensorAtRest, SensorKeepsBuffers};
 
 /// A run of a valid script never gets stuck: it is complete, or some step is ready. Where no job is out, some step
 /// other than giving one back is.

@@ -28,65 +28,17 @@ use Rattle.script_text.proofs.AgainValues.{spec-again, spec-word, item-again, it
 
 -- ---- what a line means
 
-no-fault : (w : Word) → bytes_eq (word_text w) (codes "fault") ≡ false
-no-fault Configure = refl
-no-fault Once = refl
-no-fault Burst = refl
-no-fault Repeat = refl
-no-fault Stop = refl
-no-fault Wait = refl
-no-fault Await = refl
-no-fault Flush = refl
-no-fault Close = refl
-no-fault Disconnect = refl
+-- a command's word is none of the others that begin a line, and begins no comment
+record NoOther (w : Word) : Type 0 where
+  fault : bytes_eq (word_text w) (codes "fault") ≡ false
+  early : bytes_eq (word_text w) (codes "early") ≡ false
+  device : bytes_eq (word_text w) (codes "device") ≡ false
+  pick : bytes_eq (word_text w) (codes "pick") ≡ false
+  comment : is_comment (word_text w) ≡ false
 
-no-early : (w : Word) → bytes_eq (word_text w) (codes "early") ≡ false
-no-early Configure = refl
-no-early Once = refl
-no-early Burst = refl
-no-early Repeat = refl
-no-early Stop = refl
-no-early Wait = refl
-no-early Await = refl
-no-early Flush = refl
-no-early Close = refl
-no-early Disconnect = refl
-
-no-device : (w : Word) → bytes_eq (word_text w) (codes "device") ≡ false
-no-device Configure = refl
-no-device Once = refl
-no-device Burst = refl
-no-device Repeat = refl
-no-device Stop = refl
-no-device Wait = refl
-no-device Await = refl
-no-device Flush = refl
-no-device Close = refl
-no-device Disconnect = refl
-
-no-pick : (w : Word) → bytes_eq (word_text w) (codes "pick") ≡ false
-no-pick Configure = refl
-no-pick Once = refl
-no-pick Burst = refl
-no-pick Repeat = refl
-no-pick Stop = refl
-no-pick Wait = refl
-no-pick Await = refl
-no-pick Flush = refl
-no-pick Close = refl
-no-pick Disconnect = refl
-
-no-comment : (w : Word) → is_comment (word_text w) ≡ false
-no-comment Configure = refl
-no-comment Once = refl
-no-comment Burst = refl
-no-comment Repeat = refl
-no-comment Stop = refl
-no-comment Wait = refl
-no-comment Await = refl
-no-comment Flush = refl
-no-comment Close = refl
-no-comment Disconnect = refl
+no-other : (w : Word) → NoOther w
+no-other Configure = record { fault = refl; early = refl; device = refl; pick = refl; comment = refl }
+no-other _ = record { fault = refl; early = refl; device = refl; pick = refl; comment = refl }
 
 number-here : (n : ℕ) → ltb n (2 ^ 32) ≡ true → number (decimal n) ≡ Some n
 number-here n h = number-again (2 ^ 32) n (ltb-true _ _ h) (omega arith)
@@ -144,7 +96,7 @@ command-again command.Disconnect h = refl
 
 pub command-line-again : (v : ℕ) (c : Command) → command_fits c ≡ true → line_of v (word_text (word_of c)) (arguments_of c) ≡ Ok (CommandLine c)
 unfolding line_of other_line
-command-line-again v c h = rw (no-fault (word_of c), no-pick (word_of c), no-early (word_of c), no-device (word_of c), word-again (word_of c), command-again c h) refl
+command-line-again v c h = let o = no-other (word_of c) in rw (o.fault, o.pick, o.early, o.device, word-again (word_of c), command-again c h) refl
 
 -- ---- the words of a line
 
@@ -187,4 +139,4 @@ pub command-words : (c : Command) → command_fits c ≡ true → list_all is_wo
 command-words c h = and_from _ _ (a-word (word_of c)) (arguments-words c h)
 
 pub command-no-comment : (c : Command) → is_comment (word_text (word_of c)) ≡ false
-command-no-comment c = no-comment (word_of c)
+command-no-comment c = (no-other (word_of c)).comment

@@ -88,8 +88,7 @@ stream-plain s f =
 -- a format doesn't begin like an input stream
 no-input : (f : Format) (rest : List ℕ) → starts_with nat_eq (format_text f ++ rest) (codes "in:") ≡ false
 no-input Raw16 rest = refl
-no-input Yuv rest = refl
-no-input (Other n) rest = refl
+no-input _ rest = refl
 
 spec-step : (b : Bool) (s : StreamSpec) → s.input ≡ b → FitsStream s → spec_of (cond b (codes "in:") [] ++ stream_text s) ≡ Some s
 unfolding spec_of

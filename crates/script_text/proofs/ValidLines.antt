@@ -79,19 +79,14 @@ items-fit (i ∷ items) h w =
     let q = and_parts (item_within i) (list_all item_within items) w in
     and_from _ _ (then_true (item_within i) (item_fits i) p.0 q.0) (items-fit items p.1 q.1)
 
-burst-step : (o : Option (List Item)) (c : Command) → ((xs : List Item) → o ≡ Some xs → list_all may_fit xs ≡ true) → (good o >>= λ xs. Ok (command.Burst xs)) ≡ Ok c → within c ≡ true → command_fits c ≡ true
-burst-step None c each h w = absurd (cc)
-burst-step (Some xs) c each h w =
-    let e : command.Burst xs ≡ c = cc in
-    let p = and_parts (leb (length xs) 32) (list_all item_within xs) (ap within e ∙ w) in
-    ap command_fits (sym e) ∙ and_from _ _ p.0 (items-fit xs (each xs refl) p.1)
-
-repeat-step : (o : Option (List Item)) (c : Command) → ((xs : List Item) → o ≡ Some xs → list_all may_fit xs ≡ true) → (good o >>= λ xs. Ok (command.Repeat xs)) ≡ Ok c → within c ≡ true → command_fits c ≡ true
-repeat-step None c each h w = absurd (cc)
-repeat-step (Some xs) c each h w =
-    let e : command.Repeat xs ≡ c = cc in
-    let p = and_parts (leb (length xs) 8) (list_all item_within xs) (ap within e ∙ w) in
-    ap command_fits (sym e) ∙ and_from _ _ p.0 (items-fit xs (each xs refl) p.1)
+-- a command of items within a limit
+items-step : (make : List Item → Command) (limit : ℕ) → ((xs : List Item) → within (make xs) ≡ leb (length xs) limit && list_all item_within xs) → ((xs : List Item) → command_fits (make xs) ≡ leb (length xs) limit && list_all item_fits xs) →
+    (o : Option (List Item)) (c : Command) → ((xs : List Item) → o ≡ Some xs → list_all may_fit xs ≡ true) → (good o >>= λ xs. Ok (make xs)) ≡ Ok c → within c ≡ true → command_fits c ≡ true
+items-step make limit asks fits None c each h w = absurd (cc)
+items-step make limit asks fits (Some xs) c each h w =
+    let e : make xs ≡ c = cc in
+    let p = and_parts (leb (length xs) limit) (list_all item_within xs) (sym (asks xs) ∙ (ap within e ∙ w)) in
+    ap command_fits (sym e) ∙ (fits xs ∙ and_from _ _ p.0 (items-fit xs (each xs refl) p.1))
 
 once-step : (words : List (List ℕ)) (c : Command) → (one item_of words >>= λ i. Ok (command.Once i)) ≡ Ok c → within c ≡ true → command_fits c ≡ true
 once-step [] c h w = absurd (cc)
@@ -111,8 +106,8 @@ command-fits : (word : Word) (words : List (List ℕ)) (c : Command) → command
 unfolding command_of
 command-fits Configure words c h w = configure-step (all_of spec_of words) c (all-fit spec_of spec_fits spec-fits words) h w
 command-fits Once words c h w = once-step words c h w
-command-fits Burst words c h w = burst-step (all_of item_of words) c (all-fit item_of may_fit item-may-fit words) h w
-command-fits Repeat words c h w = repeat-step (all_of item_of words) c (all-fit item_of may_fit item-may-fit words) h w
+command-fits Burst words c h w = items-step command.Burst 32 (λ xs. refl) (λ xs. refl) (all_of item_of words) c (all-fit item_of may_fit item-may-fit words) h w
+command-fits Repeat words c h w = items-step command.Repeat 8 (λ xs. refl) (λ xs. refl) (all_of item_of words) c (all-fit item_of may_fit item-may-fit words) h w
 command-fits Stop words c h w = ends-step command.Stop words c refl h
 command-fits Wait words c h w = ends-step command.Wait words c refl h
 command-fits Await words c h w = await-step words c h

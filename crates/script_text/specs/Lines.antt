@@ -35,13 +35,17 @@ at_least_one (Some k) = if k == 0 then None else Some k
 abbrev pub awaited : List ℕ → Option ℕ
 awaited word = at_least_one (number word)
 
+-- two words, with their values
+abbrev pub two : {A B : Type 0} → (List ℕ → Option A) → (List ℕ → Option B) → List (List ℕ) → Result (A × B) Cause
+two front back [] = Err Missing
+two front back (word ∷ words) = do
+  x ← good (front word)
+  y ← one back words
+  Ok (x, y)
+
 -- `N S`
 unfoldable pub frame_and_stream : List (List ℕ) → Result (ℕ × ℕ) Cause
-frame_and_stream [] = Err Missing
-frame_and_stream (frame ∷ words) = do
-  n ← good (number frame)
-  s ← one stream words
-  Ok (n, s)
+frame_and_stream words = two number stream words
 
 -- `fault` and these words
 unfoldable pub fault_of : List (List ℕ) → Result Fault Cause
@@ -60,11 +64,7 @@ profile_number word = number_within 1 profile_limit word
 
 -- `RAW YUV`
 unfoldable pub raw_and_yuv : List (List ℕ) → Result (ℕ × ℕ) Cause
-raw_and_yuv [] = Err Missing
-raw_and_yuv (raw ∷ words) = do
-  r ← good (profile_number raw)
-  y ← one profile_number words
-  Ok (r, y)
+raw_and_yuv words = two profile_number profile_number words
 
 -- `device` and these words: `DEPTH RAW YUV`
 unfoldable pub device_of : List (List ℕ) → Result Profile Cause

@@ -117,31 +117,17 @@ impl Draft {
             return Err(LineRefused::Bad(Cause::Missing));
         }
         let Draft {
-            script: Script {
-                version,
-                profile,
-                early,
-                faults,
-                picks,
-                commands,
-            },
+            mut script,
             devices,
             awaited,
             is_closed,
         } = self;
-        let picks = with_picks(picks, words, PICK_LIMIT)?;
-        if commands.len() > 0 {
+        script.picks = with_picks(script.picks, words, PICK_LIMIT)?;
+        if script.commands.len() > 0 {
             return Err(LineRefused::Bad(Cause::FaultAfterCommand));
         }
         Ok(Draft {
-            script: Script {
-                version,
-                profile,
-                early,
-                faults,
-                picks,
-                commands,
-            },
+            script,
             devices,
             awaited,
             is_closed,

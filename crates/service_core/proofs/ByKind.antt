@@ -5,7 +5,8 @@ use Rattle.cam_types.specs.declared.script.Script.{Script}
 use Rattle.run_model.specs.declared.step.Kind.TheVariants as kind
 use Rattle.run_model.specs.declared.step.StepName.TheVariants.{Signal}
 use Rattle.service_parts.specs.Parts.{Parts}
-use Rattle.service_core.specs.Candidates.{all_kinds, candidates_by, is_ready_by, ready_in, steps_of_kind, unsignalled}
+use Rattle.service_core.specs.Candidates.{all_kinds, candidates_by, is_ready_by, ready_in, steps_of_kind}
+use Rattle.service_state.specs.Serving.{unsignalled}
 use Rattle.service_core.proofs.Lists.{keeps-unmarked, kept-apart}
 use Rattle.service_core.proofs.Unready.{signal-ready}
 

@@ -1,5 +1,5 @@
 -- The signals that are ready are those of the fences that aren't signalled.
-use Rattle.std.proofs.Common.{◌≡◌, ℕ, ◌+◌, Bool, true, false, List, [], ◌∷◌, Some, refl, sym, ap, ◌∙◌, length, map, slice_get}
+use Rattle.std.proofs.Common.{◌≡◌, ℕ, List, Some, sym, ap, ◌∙◌, length, slice_get}
 use Rattle.std.specs.Option.{option_map}
 use Rattle.std.proofs.lemmas.List.{length-map}
 use Rattle.std.proofs.lemmas.Option.{slice_get-map}
@@ -9,7 +9,6 @@ use Rattle.run_model.specs.declared.step.Kind.TheVariants as kind
 use Rattle.run_model.specs.declared.step.StepName.{StepName}
 use Rattle.run_model.specs.declared.step.StepName.TheVariants.{Signal}
 use Rattle.service_core.specs.Candidates.{ready_in}
-use Rattle.service_core.specs.Candidates as ready
 use Rattle.service_core.proofs.ByKind.{signals_ready}
 use Rattle.service_parts.specs.Parts.{Parts}
 use Rattle.service_state.specs.Serving.{unsignalled}
@@ -17,18 +16,10 @@ use Rattle.service_state.specs.Serving.{unsignalled}
 abbrev signal : ℕ → StepName
 signal f = Signal (record { 0 = f })
 
-same : (n : ℕ) (signalled : List Bool) → ready.unsignalled n signalled ≡ unsignalled n signalled
-same n [] = refl
-same n (true ∷ signalled) = same (n + 1) signalled
-same n (false ∷ signalled) = ap (λ (fs : List ℕ). n ∷ fs) (same (n + 1) signalled)
-
-signals : (script : Script) (p : Parts) → ready_in script p kind.Signal ≡ map signal (unsignalled 0 p.buffers.signalled)
-signals script p = signals_ready script p ∙ ap (λ (fs : List ℕ). map signal fs) (same 0 p.buffers.signalled)
-
 pub signal_count : (script : Script) (p : Parts) → length (ready_in script p kind.Signal) ≡ length (unsignalled 0 p.buffers.signalled)
-signal_count script p = ap length (signals script p) ∙ length-map (unsignalled 0 p.buffers.signalled) signal
+signal_count script p = ap length (signals_ready script p) ∙ length-map (unsignalled 0 p.buffers.signalled) signal
 
 pub signal_at : (script : Script) (p : Parts) (n : ℕ) (f : FenceNo) → Some f.0 ≡ slice_get (unsignalled 0 p.buffers.signalled) n → slice_get (ready_in script p kind.Signal) n ≡ Some (Signal f)
 signal_at script p n f at =
-    ap (λ (steps : List StepName). slice_get steps n) (signals script p)
+    ap (λ (steps : List StepName). slice_get steps n) (signals_ready script p)
     ∙ (slice_get-map signal (unsignalled 0 p.buffers.signalled) n ∙ ap (option_map signal) (sym at))

@@ -7,7 +7,7 @@ use Rattle.std.proofs.lemmas.Bool.Decides.{nat_tests}
 use Rattle.cam_types.specs.Four.{four_list}
 use Rattle.cam_types.specs.Rows.{awaits_metadata}
 use Rattle.cam_types.specs.declared.number.StreamIx.{StreamIx}
-use Rattle.cam_types.specs.declared.part.Part.{Part}
+use Rattle.cam_types.specs.declared.partial_result.PartialResult.{PartialResult}
 use Rattle.cam_types.specs.declared.row.RowVerdict.{RowVerdict}
 use Rattle.cam_types.specs.declared.row.RowVerdict.TheVariants.{Request, Parts as PartsVerdict, Nothing}
 use Rattle.cam_types.specs.declared.row.RowView.{RowView}
@@ -27,7 +27,7 @@ use Rattle.run_model.specs.Ready.{adding, silent, where_entry}
 use Rattle.state_facts.specs.Homes.{signalled_in}
 use Rattle.device_rows.specs.Faults.{fault_at, faults_of}
 use Rattle.device_rows.specs.Jobs.{fill_job_in, fill_job_of, is_fill_out, sensor_job_of}
-use Rattle.device_rows.specs.Ready.{error_of, fails_device_at, is_failing, is_home, is_passed, is_sound, is_state, may_deliver, may_end_metadata, may_fill, may_go_early, may_return, may_return_failed, next_error, next_exposure, part_of, part_with, passes_at, target_passes}
+use Rattle.device_rows.specs.Ready.{error_of, fails_device_at, is_failing, is_home, is_passed, is_sound, is_same_state, may_deliver, may_end_metadata, may_fill, may_go_early, may_return, may_return_failed, next_error, next_exposure, partial_of, part_with, passes_at, target_passes}
 use Rattle.device_rows.specs.Rows.{row_at, target_in}
 use Rattle.run_rows.specs.Entries.{early_entry, error_entry, failed_entry, filled_entry, part_entry}
 use Rattle.service_parts.specs.Moves.{digest_by, early_fence_by, late_entry}
@@ -69,10 +69,10 @@ job-none row found (t ∷ ts) spec none =
     one (Some spec) out = rw out refl
 
 -- a buffer comes early only where the script has it
-early-none : (early : Bool) (rest found : TargetView → Bool) (ts : List TargetView) → list_any (λ t. early && is_state t.state Out) ts ≡ false → (early && passes_at (λ t. is_state t.state Out && rest t) (find found ts)) ≡ false
+early-none : (early : Bool) (rest found : TargetView → Bool) (ts : List TargetView) → list_any (λ t. early && is_same_state t.state Out) ts ≡ false → (early && passes_at (λ t. is_same_state t.state Out && rest t) (find found ts)) ≡ false
 early-none false rest found ts none = refl
 early-none true rest found ts none =
-    passes-none (λ t. is_state t.state Out) (λ t. is_state t.state Out && rest t) found ts none (λ t out. rw out refl)
+    passes-none (λ t. is_same_state t.state Out) (λ t. is_same_state t.state Out && rest t) found ts none (λ t out. rw out refl)
 
 take-by : (sound waits home passed : Bool) → (home && waits) ≡ false → ((sound && waits) && (home && passed)) ≡ false
 take-by false waits home passed is = refl
@@ -99,7 +99,7 @@ target-idle script p target.ReturnFailed row s own none =
 target-idle script p target.TakeFill row s own none =
     let signalled = λ (f : ℕ). signalled_in p.buffers f in
     from-row (λ r. is_some (silent (TakeFill row.frame s) (target_passes (may_fill script.faults signalled) s.0 r))) row.frame.0 p.rows row own
-    (silent-none (TakeFill row.frame s) _ (passes-none (fits script target.TakeFill row) (may_fill script.faults signalled row) (λ t. t.stream.0 == s.0) (four_list row.targets) none (λ t not'. take-by (is_sound script.faults row t) (is_state t.state Waiting) (is_home row.sensor) (is_passed signalled t.fence) not')))
+    (silent-none (TakeFill row.frame s) _ (passes-none (fits script target.TakeFill row) (may_fill script.faults signalled row) (λ t. t.stream.0 == s.0) (four_list row.targets) none (λ t not'. take-by (is_sound script.faults row t) (is_same_state t.state Waiting) (is_home row.sensor) (is_passed signalled t.fence) not')))
 target-idle script p target.FillDone row s own none =
     from-row (λ r. is_some (silent (FillDone row.frame s) (is_some (fill_job_in p.client.streams s.0 r)))) row.frame.0 p.rows row own
     (silent-none (FillDone row.frame s) _ (job-none row (λ t. t.stream.0 == s.0) (four_list row.targets) (slice_get p.client.streams s.0) none))
@@ -110,8 +110,8 @@ target-idle script p target.Early row s own none =
     from-row (λ r. is_some (adding (Early row.frame s) (where_entry (script.early && target_passes (may_go_early script.faults p.rows) s.0 r) (option_map (early_entry (length p.buffers.late) row.frame.0 s.0) (target_in row.frame.0 s.0 p.rows))))) row.frame.0 p.rows row own
     (entry-none (Early row.frame s) _ _ (early-none script.early (λ t. may_return script.faults p.rows row t) (λ t. t.stream.0 == s.0) (four_list row.targets) none))
 target-idle script p target.Finish row s own none =
-    from-row (λ r. is_some (adding (Finish row.frame s) (where_entry (target_passes (λ row target. is_state target.state EarlyFilled) s.0 r) (option_map (late_entry (digest_by p row.frame.0 s.0)) (early_fence_by p row.frame.0 s.0))))) row.frame.0 p.rows row own
-    (entry-none (Finish row.frame s) _ _ (passes-none (fits script target.Finish row) (λ t. is_state t.state EarlyFilled) (λ t. t.stream.0 == s.0) (four_list row.targets) none (λ t not'. not')))
+    from-row (λ r. is_some (adding (Finish row.frame s) (where_entry (target_passes (λ row target. is_same_state target.state EarlyFilled) s.0 r) (option_map (late_entry (digest_by p row.frame.0 s.0)) (early_fence_by p row.frame.0 s.0))))) row.frame.0 p.rows row own
+    (entry-none (Finish row.frame s) _ _ (passes-none (fits script target.Finish row) (λ t. is_same_state t.state EarlyFilled) (λ t. t.stream.0 == s.0) (four_list row.targets) none (λ t not'. not')))
 
 -- ---- errors
 
@@ -167,8 +167,8 @@ frame-idle script p frame.Fail row own none =
 frame-idle script p frame.SensorDone row own none =
     from-row (λ r. is_some (silent (SensorDone row.frame) (is_some (sensor_job_of r)))) row.frame.0 p.rows row own (rw none refl)
 frame-idle script p frame.Partial row own none =
-    from-row (λ r. is_some (adding (Partial row.frame) (option_map (part_entry row.frame.0) (part_of script.faults p.rows r)))) row.frame.0 p.rows row own
-    (ap (λ (o : Option (ℕ × Part)). is_some (adding (Partial row.frame) (option_map (part_entry row.frame.0) o))) (part-none script.faults p.rows row row.shutter none))
+    from-row (λ r. is_some (adding (Partial row.frame) (option_map (part_entry row.frame.0) (partial_of script.faults p.rows r)))) row.frame.0 p.rows row own
+    (ap (λ (o : Option (ℕ × PartialResult)). is_some (adding (Partial row.frame) (option_map (part_entry row.frame.0) o))) (part-none script.faults p.rows row row.shutter none))
 
 -- ---- what is left of the steps that are asked for
 

@@ -28,7 +28,7 @@ use Rattle.service_state.specs.Answers as step
 use Rattle.service_state.specs.Serving.{IsOfRun, IsServing, Serving, opened}
 use Rattle.service_state.proofs.Runs.{moves}
 use Rattle.service_core.specs.Answers.{AnswersStep, Makes, Stays, serving, step_of}
-use Rattle.service_core.specs.Inside.{IsKept, noted, state_of}
+use Rattle.service_core.specs.Inside.{IsKept, moves_after, state_of}
 
 -- ---- as it stands
 
@@ -97,10 +97,10 @@ pub note_room : (s s' : Serving) (log : Moves) (name : StepName) (entry : Option
 note_room s s' log name (Some e) kept told some = has_room s s' log (step.move_with name (Some e)) kept told
 note_room s s' log name None kept told some = absurd (cc)
 
-pub note_keeps : (s s' : Serving) (log : Moves) (name : StepName) (entry : Option Entry) → IsKept s log → step.Answers name s entry s' → IsKept s' (noted name entry log)
+pub note_keeps : (s s' : Serving) (log : Moves) (name : StepName) (entry : Option Entry) → IsKept s log → step.Answers name s entry s' → IsKept s' (moves_after name entry log)
 note_keeps s s' log name (Some e) kept told = keeps s s' log (step.move_with name (Some e)) kept told
 note_keeps s s' log name None kept told = keeps_still s s' log name kept told
 
-pub note_answers : (s s' : Serving) (log : Moves) (name : StepName) (entry : Option Entry) → IsKept s log → step.Answers name s entry s' → AnswersStep name (state_of s log) (step_of entry) (state_of s' (noted name entry log))
+pub note_answers : (s s' : Serving) (log : Moves) (name : StepName) (entry : Option Entry) → IsKept s log → step.Answers name s entry s' → AnswersStep name (state_of s log) (step_of entry) (state_of s' (moves_after name entry log))
 note_answers s s' log name (Some e) kept told = makes s s' log (step.move_with name (Some e)) kept told
 note_answers s s' log name None kept told = stays_still s s' log name kept told

@@ -3,7 +3,7 @@ use Rattle.std.proofs.Common.{◌≡◌, ℕ, zero, suc, ◌+◌, ◌<◌, Bool,
 use Rattle.std.specs.List.{flat_map, range_with_len}
 use Rattle.std.proofs.lemmas.Bool.{cases_Bool}
 use Rattle.std.proofs.lemmas.List.Elements.{filter-append}
-use Rattle.service_core.specs.Candidates.{unsignalled}
+use Rattle.service_state.specs.Serving.{unsignalled}
 
 pub join-same : {X : Type 0} (q : X → Bool) (xs ys zs ws : List X) → filter q xs ≡ filter q ys → filter q zs ≡ filter q ws → filter q (xs ++ zs) ≡ filter q (ys ++ ws)
 join-same q xs ys zs ws a b = rw (filter-append q xs zs, filter-append q ys ws, a, b) refl

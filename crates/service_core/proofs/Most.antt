@@ -1,11 +1,11 @@
 -- How many steps may be ready at most.
-use Rattle.std.proofs.Common.{arith, ◌≡◌, ◌≤◌, ◌+◌, ◌*◌, ℕ, Bool, true, false, List, [], ◌∷◌, ◌++◌, Option, Some, None, refl, ap, filter, length, length-append, map, option_to_list}
+use Rattle.std.proofs.Common.{arith, ◌≡◌, ◌≤◌, ◌+◌, ◌*◌, ℕ, Bool, true, false, List, [], ◌∷◌, refl, ap, filter, length, length-append, map}
 use Rattle.std.specs.List.{flat_map, range_with_len}
 use Rattle.std.proofs.lemmas.List.{length-map}
 use Rattle.std.proofs.lemmas.List.Concat.{length-flat_map}
 use Rattle.std.proofs.lemmas.List.FromFn.{length-map-range_with_len}
+use Rattle.cam_types.proofs.Fours.{four-few}
 use Rattle.cam_types.specs.Four.{four_list}
-use Rattle.cam_types.specs.declared.four.Four.{Four}
 use Rattle.cam_types.specs.declared.number.FrameNo.{FrameNo}
 use Rattle.cam_types.specs.declared.number.StreamIx.{StreamIx}
 use Rattle.cam_types.specs.declared.row.RowView.{RowView}
@@ -19,7 +19,6 @@ use Rattle.service_core.proofs.ByKind.{kinds_of_candidates}
 use Rattle.service_parts.specs.Parts.{Parts}
 use Rattle.service_state.specs.Serving.{unsignalled}
 use Rattle.service_core.proofs.Fences.{signal_count}
-use Rattle.basic_lemmas.proofs.Options.{one-each}
 
 few : {X : Type 0} (q : X → Bool) (xs : List X) → length (filter q xs) ≤ length xs
 few q [] = omega arith
@@ -28,17 +27,6 @@ few q (x ∷ xs) = by (q x) refl (few q xs)
     by : (b : Bool) → q x ≡ b → length (filter q xs) ≤ length xs → length (filter q (x ∷ xs)) ≤ length (x ∷ xs)
     by true is rest = rw is (omega (arith, rest))
     by false is rest = rw is (omega (arith, rest))
-
-four : {X : Type 0} (f : Four X) → length (four_list f) ≤ 4
-four f =
-    let a = one-each f.a in
-    let b = one-each f.b in
-    let c = one-each f.c in
-    let d = one-each f.d in
-    let cd : length (option_to_list f.c ++ option_to_list f.d) ≡ length (option_to_list f.c) + length (option_to_list f.d) = length-append (option_to_list f.c) (option_to_list f.d) in
-    let bcd : length (option_to_list f.b ++ (option_to_list f.c ++ option_to_list f.d)) ≡ length (option_to_list f.b) + length (option_to_list f.c ++ option_to_list f.d) = length-append (option_to_list f.b) (option_to_list f.c ++ option_to_list f.d) in
-    let all : length (four_list f) ≡ length (option_to_list f.a) + length (option_to_list f.b ++ (option_to_list f.c ++ option_to_list f.d)) = length-append (option_to_list f.a) (option_to_list f.b ++ (option_to_list f.c ++ option_to_list f.d)) in
-    omega (arith, a, b, c, d, cd, bcd, all)
 
 rows : (q : StepName → Bool) (step : FrameNo → StepName) (rs : List RowView) → length (filter q (row_steps step rs)) ≤ length rs
 rows q step rs =
@@ -52,7 +40,7 @@ targets-of step (row ∷ rs) =
     let rest = targets-of step rs in
     let steps = map (λ (target : TargetView). step row.frame target.stream) (four_list row.targets) in
     let here : length steps ≡ length (four_list row.targets) = length-map (four_list row.targets) (λ (target : TargetView). step row.frame target.stream) in
-    let most = four row.targets in
+    let most = four-few row.targets in
     let both : length (target_steps step (row ∷ rs)) ≡ length steps + length (target_steps step rs) = length-append steps (target_steps step rs) in
     omega (arith, rest, here, most, both)
 

@@ -18,7 +18,7 @@ use Rattle.device_rows.specs.declared.entry.ErrorEntry.{ErrorEntry}
 use Rattle.device_rows.specs.declared.entry.ErrorEntry.TheVariants.{Device}
 use Rattle.state_facts.specs.Homes.{signalled_in}
 use Rattle.device_rows.specs.Jobs.{fill_job_in, sensor_job_of}
-use Rattle.device_rows.specs.Ready.{error_of, fails_device_at, is_failing, is_state, may_deliver, may_fill, may_go_early, may_return_failed, next_error, part_of, target_passes}
+use Rattle.device_rows.specs.Ready.{error_of, fails_device_at, is_failing, is_same_state, may_deliver, may_fill, may_go_early, may_return_failed, next_error, partial_of, target_passes}
 use Rattle.device_rows.specs.Rows.{row_at, target_in}
 use Rattle.run_rows.specs.Entries.{early_entry, error_entry, failed_entry, filled_entry, part_entry}
 use Rattle.service_parts.specs.Moves.{digest_by, early_fence_by, late_entry}
@@ -66,7 +66,7 @@ pub sensor-unready : (script : Script) (p : Parts) (n : ℕ) → row_at n p.rows
 sensor-unready script p n none = unready n p.rows (λ r. is_some (silent (SensorDone (record { 0 = n })) (is_some (sensor_job_of r)))) refl none
 
 pub part-unready : (script : Script) (p : Parts) (n : ℕ) → row_at n p.rows ≡ None → is_ready_by script p (Partial (record { 0 = n })) ≡ false
-part-unready script p n none = unready n p.rows (λ r. is_some (adding (Partial (record { 0 = n })) (option_map (part_entry n) (part_of script.faults p.rows r)))) refl none
+part-unready script p n none = unready n p.rows (λ r. is_some (adding (Partial (record { 0 = n })) (option_map (part_entry n) (partial_of script.faults p.rows r)))) refl none
 
 pub take-unready : (script : Script) (p : Parts) (n : ℕ) (s : StreamIx) → row_at n p.rows ≡ None → is_ready_by script p (TakeFill (record { 0 = n }) s) ≡ false
 take-unready script p n s none = unready n p.rows (λ r. is_some (silent (TakeFill (record { 0 = n }) s) (target_passes (may_fill script.faults (λ f. signalled_in p.buffers f)) s.0 r))) refl none
@@ -88,7 +88,7 @@ early-unready script p n s none =
     unready n p.rows (λ r. is_some (adding (Early (record { 0 = n }) s) (where_entry (script.early && target_passes (may_go_early script.faults p.rows) s.0 r) entry))) (where-never (Early (record { 0 = n }) s) script.early entry) none
 
 pub finish-unready : (script : Script) (p : Parts) (n : ℕ) (s : StreamIx) → row_at n p.rows ≡ None → is_ready_by script p (Finish (record { 0 = n }) s) ≡ false
-finish-unready script p n s none = unready n p.rows (λ r. is_some (adding (Finish (record { 0 = n }) s) (where_entry (target_passes (λ row target. is_state target.state EarlyFilled) s.0 r) (option_map (late_entry (digest_by p n s.0)) (early_fence_by p n s.0))))) refl none
+finish-unready script p n s none = unready n p.rows (λ r. is_some (adding (Finish (record { 0 = n }) s) (where_entry (target_passes (λ row target. is_same_state target.state EarlyFilled) s.0 r) (option_map (late_entry (digest_by p n s.0)) (early_fence_by p n s.0))))) refl none
 
 -- ---- releases of earlier buffers
 

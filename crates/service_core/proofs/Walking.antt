@@ -29,17 +29,23 @@ finds-both xs ys n k (Err left) past over =
 abbrev pub Continues : {X : Type 0} → List X → ℕ → List X → ℕ → Type 0
 Continues {X} all n rest k = (r : Result X ℕ) → Finds rest k r → Finds all n r
 
--- past the first piece of the rest
-pub goes_on : {X : Type 0} (all rest xs ys : List X) (n k j : ℕ) → Continues all n rest k → rest ≡ xs ++ ys → k ≡ j + length xs → Continues all n ys j
-goes_on all rest xs ys n k j goes is past r found = goes r (rw is (finds-both xs ys k j r past found))
+-- what a turn of the walk comes to: the value is found, or the walk goes on with ys
+abbrev pub Turns : {X : Type 0} → List X → ℕ → List X → Result X ℕ → Type 0
+Turns all n ys (Ok x) = slice_get all n ≡ Some x
+Turns all n ys (Err j) = Continues all n ys j
 
--- in the first piece of the rest
-pub stops : {X : Type 0} (all rest xs ys : List X) (n k : ℕ) (x : X) → Continues all n rest k → rest ≡ xs ++ ys → slice_get xs k ≡ Some x → slice_get all n ≡ Some x
-stops all rest xs ys n k x goes is at = goes (Ok x) (rw is (found-first xs ys k x at))
+-- it looks for the value in the first piece of the rest
+pub turns : {X : Type 0} (all rest xs ys : List X) (n k : ℕ) → Continues all n rest k → rest ≡ xs ++ ys → (r : Result X ℕ) → Finds xs k r → Turns all n ys r
+turns all rest xs ys n k goes is (Ok x) at = goes (Ok x) (rw is (found-first xs ys k x at))
+turns all rest xs ys n k goes is (Err j) past = λ r found. goes r (rw is (finds-both xs ys k j r past found))
 
 -- nothing is left
 pub ends : {X : Type 0} (all rest : List X) (n k : ℕ) → Continues all n rest k → rest ≡ [] → n ≡ k + length all
 ends all rest n k goes is = goes (Err k) (rw is (omega arith))
+
+-- none is there
+pub none_left : {X : Type 0} (xs : List X) (n : ℕ) → xs ≡ [] → n ≡ n + length xs
+none_left xs n is = rw is (omega arith)
 
 -- ---- the pieces
 

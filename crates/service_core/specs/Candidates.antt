@@ -1,4 +1,4 @@
-use Rattle.std.specs.Prelude.{ℕ, ◌+◌, Bool, true, false, List, [], ◌∷◌, filter, is_some, length, map}
+use Rattle.std.specs.Prelude.{◌≡◌, Bool, List, [], ◌∷◌, filter, is_some, length, map, if◌then◌else◌}
 use Rattle.std.specs.List.{flat_map, range_with_len}
 use Rattle.cam_types.specs.Four.{four_list}
 use Rattle.cam_types.specs.declared.number.FrameNo.{FrameNo}
@@ -84,10 +84,6 @@ candidates_by script p = filter (is_ready_by script p) (steps_by p)
 abbrev pub ready_in : Script → Parts → Kind → List StepName
 ready_in script p kind = filter (is_ready_by script p) (steps_of_kind p kind)
 
--- ---- fences
-
--- the numbers of the fences that aren't signalled, where the first of these has number n
-abbrev pub unsignalled : ℕ → List Bool → List ℕ
-unsignalled n [] = []
-unsignalled n (true ∷ signalled) = unsignalled (n + 1) signalled
-unsignalled n (false ∷ signalled) = n ∷ unsignalled (n + 1) signalled
+-- of the kind there is this one step where it is ready, and else none
+abbrev pub IsSingle : Script → Parts → Kind → StepName → Type 0
+IsSingle script p kind step = ready_in script p kind ≡ (if is_ready_by script p step then step ∷ [] else [])

@@ -25,6 +25,6 @@ pub record IsKept (s : Serving) (log : Moves) : Type 0 where
   pub valid : IsTrue (is_valid s.script)
 
 -- the log with the move of a step that added an entry, where it was made
-abbrev pub noted : StepName → Option Entry → Moves → Moves
-noted step (Some e) log = with_move (record { step = step; entry = Some e }) log
-noted step None log = log
+abbrev pub moves_after : StepName → Option Entry → Moves → Moves
+moves_after step (Some e) log = with_move (record { step = step; entry = Some e }) log
+moves_after step None log = log

@@ -7,7 +7,7 @@ use Rattle.cam_types.specs.declared.row.TargetState.TheVariants.{Waiting, Out, F
 use Rattle.cam_types.specs.declared.row.TargetView.{TargetView}
 use Rattle.cam_types.specs.declared.script.Script.{Script}
 use Rattle.device_rows.specs.Jobs.{is_fill_out}
-use Rattle.device_rows.specs.Ready.{is_home, is_sensor_out, is_state}
+use Rattle.device_rows.specs.Ready.{is_home, is_sensor_out, is_same_state}
 use Rattle.service_core.specs.declared.frames.OfFrame.{OfFrame}
 use Rattle.service_core.specs.declared.frames.OfFrame.TheVariants as frame
 use Rattle.service_core.specs.declared.frames.OfTarget.{OfTarget}
@@ -25,11 +25,11 @@ may_have script frame.Partial row = is_some row.shutter && awaits_metadata row
 -- a failed return needs an announced error; each other step the buffer's own state
 abbrev pub fits : Script → OfTarget → RowView → TargetView → Bool
 fits script target.ReturnFailed row t = row.request_error || t.announced
-fits script target.TakeFill row t = is_home row.sensor && is_state t.state Waiting
+fits script target.TakeFill row t = is_home row.sensor && is_same_state t.state Waiting
 fits script target.FillDone row t = is_fill_out t.state
-fits script target.Deliver row t = is_state t.state Filled
-fits script target.Early row t = script.early && is_state t.state Out
-fits script target.Finish row t = is_state t.state EarlyFilled
+fits script target.Deliver row t = is_same_state t.state Filled
+fits script target.Early row t = script.early && is_same_state t.state Out
+fits script target.Finish row t = is_same_state t.state EarlyFilled
 
 -- one of the row's targets doesn't speak against the step of the kind
 abbrev pub may_have_some : Script → OfTarget → RowView → Bool

@@ -1,9 +1,15 @@
+use Rattle.std.specs.Prelude.{List, [], ◌∷◌, map}
+use Rattle.cam_types.specs.Four.{four_list}
 use Rattle.cam_types.specs.declared.number.FrameNo.{FrameNo}
 use Rattle.cam_types.specs.declared.number.StreamIx.{StreamIx}
+use Rattle.cam_types.specs.declared.row.RowView.{RowView}
 use Rattle.run_model.specs.declared.step.StepName.{StepName}
 use Rattle.run_model.specs.declared.step.StepName.TheVariants as step
+use Rattle.service_core.specs.Candidates.{row_steps, target_steps}
 use Rattle.service_core.specs.declared.frames.OfFrame.{OfFrame}
 use Rattle.service_core.specs.declared.frames.OfFrame.TheVariants as frame
+use Rattle.service_core.specs.declared.frames.OfRow.{OfRow}
+use Rattle.service_core.specs.declared.frames.OfRow.TheVariants.{Frame, Targets}
 use Rattle.service_core.specs.declared.frames.OfTarget.{OfTarget}
 use Rattle.service_core.specs.declared.frames.OfTarget.TheVariants as target
 
@@ -23,3 +29,13 @@ target_step target.FillDone n s = step.FillDone n s
 target_step target.Deliver n s = step.Deliver n s
 target_step target.Early n s = step.Early n s
 target_step target.Finish n s = step.Finish n s
+
+-- the steps of the kind for a row
+abbrev pub steps_at : OfRow → RowView → List StepName
+steps_at (Frame k) row = frame_step k row.frame ∷ []
+steps_at (Targets k) row = map (λ t. target_step k row.frame t.stream) (four_list row.targets)
+
+-- the steps of the kind for these rows
+abbrev pub steps_of_rows : OfRow → List RowView → List StepName
+steps_of_rows (Frame k) rows = row_steps (frame_step k) rows
+steps_of_rows (Targets k) rows = target_steps (target_step k) rows

@@ -1,13 +1,13 @@
 //! Walks over the steps of open frames, the oldest frame first, and in a frame over its targets. They are inlined at each
 //! kind of step, so that of a row just that is read which the kind asks of it.
-ghost use Rattle.std.specs.Prelude.{◌≡◌, ◌<◌, ◌∷◌, [], Some, filter, length, map, option_to_list, slice_get};
+ghost use Rattle.std.specs.Prelude.{◌≡◌, ◌<◌, Some, filter, length, map, option_to_list, slice_get};
 ghost use Rattle.cam_types.specs.Four.{four_list};
 ghost use Rattle.cam_types.specs.declared.row.TargetView.{TargetView as SomeTarget};
 ghost use Rattle.device_rows.specs.Rows.{row_at};
-ghost use Rattle.service_core.specs.Candidates.{is_ready_by, row_steps, target_steps};
+ghost use Rattle.service_core.specs.Candidates.{is_ready_by};
 ghost use Rattle.service_state.specs.Serving.{IsServing};
 ghost use Rattle.service_core.specs.Finding.{Finds};
-ghost use Rattle.service_core.specs.Walks.{frame_step, target_step};
+ghost use Rattle.service_core.specs.Walks.{frame_step, steps_at, steps_of_rows, target_step};
 
 use crate::kinds::seek_step;
 use crate::looks::{may_have, may_have_some};
@@ -34,18 +34,25 @@ pub(crate) enum OfTarget {
     Finish,
 }
 
-/// The step of the kind for each open frame.
+/// The kinds of steps of an open frame: its own, or those of its buffers.
+#[derive(Clone, Copy)]
+pub(crate) enum OfRow {
+    Frame(OfFrame),
+    Targets(OfTarget),
+}
+
+/// The steps of the kind of each open frame.
 #[inline(always)]
-pub(crate) fn seek_frames(state: &ServiceState, kind: OfFrame, number: u64) -> Result<StepName, u64>
+pub(crate) fn seek_rows(state: &ServiceState, kind: OfRow, number: u64) -> Result<StepName, u64>
     requires { IsServing state.now }
     ensures { Finds (filter (is_ready_by state.now.script state.now.parts)
-        (row_steps (frame_step kind) state.now.parts.rows)) number result }
+        (steps_of_rows kind state.now.parts.rows)) number result }
 {
     let count = state.open_frames();
     let mut left = number;
     for place in 0..count {
         let row = row_at(state, place);
-        match seek_frame(state, kind, row, left) {
+        match seek_at(state, kind, row, left) {
             Ok(step) => return Ok(step),
             Err(rest) => left = rest,
         }
@@ -53,46 +60,22 @@ pub(crate) fn seek_frames(state: &ServiceState, kind: OfFrame, number: u64) -> R
     Err(left)
 }
 
-/// The frame's step of the kind, which isn't asked for where the row speaks against it.
+/// The steps of the kind of a frame. None is asked for where the row speaks against it.
 #[inline(always)]
-fn seek_frame(
-    state: &ServiceState,
-    kind: OfFrame,
-    row: RowView,
-    number: u64,
-) -> Result<StepName, u64>
+fn seek_at(state: &ServiceState, kind: OfRow, row: RowView, number: u64) -> Result<StepName, u64>
     requires serving { IsServing state.now }
     requires own { row_at row.frame.0 state.now.parts.rows ≡ Some row }
-    ensures { Finds (filter (is_ready_by state.now.script state.now.parts) (frame_step kind row.frame ∷ []))
-        number result }
+    ensures { Finds (filter (is_ready_by state.now.script state.now.parts) (steps_at kind row)) number result }
 {
-    if !may_have(state.script(), kind, row) {
-        return Err(number);
-    }
-    seek_step(state, frame_step(kind, row.frame), number)
-}
-
-/// The step of the kind for each target of each open frame.
-#[inline(always)]
-pub(crate) fn seek_targets(
-    state: &ServiceState,
-    kind: OfTarget,
-    number: u64,
-) -> Result<StepName, u64>
-    requires { IsServing state.now }
-    ensures { Finds (filter (is_ready_by state.now.script state.now.parts)
-        (target_steps (target_step kind) state.now.parts.rows)) number result }
-{
-    let count = state.open_frames();
-    let mut left = number;
-    for place in 0..count {
-        let row = row_at(state, place);
-        match seek_row(state, kind, row, left) {
-            Ok(step) => return Ok(step),
-            Err(rest) => left = rest,
+    match kind {
+        OfRow::Frame(kind) => {
+            if !may_have(state.script(), kind, row) {
+                return Err(number);
+            }
+            seek_step(state, frame_step(kind, row.frame), number)
         }
+        OfRow::Targets(kind) => seek_row(state, kind, row, number),
     }
-    Err(left)
 }
 
 /// The step of the kind for each target of a frame. None is asked for where the row speaks against each.

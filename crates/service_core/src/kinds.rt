@@ -5,7 +5,7 @@ ghost use Rattle.service_core.specs.Candidates.{is_ready_by, ready_in};
 ghost use Rattle.service_state.specs.Serving.{IsServing};
 ghost use Rattle.service_core.specs.Finding.{Finds};
 
-use crate::frames::{OfFrame, OfTarget, seek_frames, seek_targets};
+use crate::frames::{OfFrame, OfRow, OfTarget, seek_rows};
 use cam_types::BufferId;
 use run_model::{Kind, StepName};
 use service_state::ServiceState;
@@ -22,16 +22,16 @@ pub(crate) fn seek_kind(state: &ServiceState, kind: Kind, number: u64) -> Result
         Kind::Signal => seek_signals(state, number),
         Kind::Client => seek_step(state, StepName::Client, number),
         Kind::DropQueued => seek_step(state, StepName::DropQueued, number),
-        Kind::Fail => seek_frames(state, OfFrame::Fail, number),
-        Kind::ReturnFailed => seek_targets(state, OfTarget::ReturnFailed, number),
+        Kind::Fail => seek_rows(state, OfRow::Frame(OfFrame::Fail), number),
+        Kind::ReturnFailed => seek_rows(state, OfRow::Targets(OfTarget::ReturnFailed), number),
         Kind::Shutter => seek_step(state, StepName::Shutter, number),
-        Kind::SensorDone => seek_frames(state, OfFrame::SensorDone, number),
-        Kind::Partial => seek_frames(state, OfFrame::Partial, number),
-        Kind::TakeFill => seek_targets(state, OfTarget::TakeFill, number),
-        Kind::FillDone => seek_targets(state, OfTarget::FillDone, number),
-        Kind::Deliver => seek_targets(state, OfTarget::Deliver, number),
-        Kind::Early => seek_targets(state, OfTarget::Early, number),
-        Kind::Finish => seek_targets(state, OfTarget::Finish, number),
+        Kind::SensorDone => seek_rows(state, OfRow::Frame(OfFrame::SensorDone), number),
+        Kind::Partial => seek_rows(state, OfRow::Frame(OfFrame::Partial), number),
+        Kind::TakeFill => seek_rows(state, OfRow::Targets(OfTarget::TakeFill), number),
+        Kind::FillDone => seek_rows(state, OfRow::Targets(OfTarget::FillDone), number),
+        Kind::Deliver => seek_rows(state, OfRow::Targets(OfTarget::Deliver), number),
+        Kind::Early => seek_rows(state, OfRow::Targets(OfTarget::Early), number),
+        Kind::Finish => seek_rows(state, OfRow::Targets(OfTarget::Finish), number),
     }
 }
 

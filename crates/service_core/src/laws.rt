@@ -1,13 +1,14 @@
 //! Laws on the steps that are ready: functions that do nothing, and whose contracts hold of every script, every run and
 //! all parts of a service.
-ghost use Rattle.std.specs.Prelude.{◌≡◌, ◌∷◌, [], List, map, if◌then◌else◌};
+ghost use Rattle.std.specs.Prelude.{◌≡◌, List, map};
 ghost use Rattle.std.specs.List.{flat_map};
 ghost use Rattle.cam_types.specs.declared.script.Script.{Script as SomeScript};
 ghost use Rattle.run_model.specs.declared.step.Move.{Move as SomeMove};
 ghost use Rattle.run_model.specs.Played.{candidates};
 ghost use Rattle.run_model.specs.Run.{IsRun};
 ghost use Rattle.service_parts.specs.Parts.{Parts as SomeParts, parts};
-ghost use Rattle.service_core.specs.Candidates.{all_kinds, candidates_by, is_ready_by, ready_in, unsignalled};
+ghost use Rattle.service_state.specs.Serving.{unsignalled};
+ghost use Rattle.service_core.specs.Candidates.{IsSingle, all_kinds, candidates_by, ready_in};
 
 use run_model::{Kind, StepName};
 
@@ -36,15 +37,11 @@ pub fn unsignalled_fences_may_be_signalled()
 /// Of a kind with one step there is that step where it is ready, and else none.
 pub fn single_steps_are_ready_or_not()
     ensures send { (script : SomeScript) (p : SomeParts) →
-        ready_in script p Kind.Send
-        ≡ (if is_ready_by script p StepName.Send then StepName.Send ∷ [] else []) }
+        IsSingle script p Kind.Send StepName.Send }
     ensures client { (script : SomeScript) (p : SomeParts) →
-        ready_in script p Kind.Client
-        ≡ (if is_ready_by script p StepName.Client then StepName.Client ∷ [] else []) }
+        IsSingle script p Kind.Client StepName.Client }
     ensures drop { (script : SomeScript) (p : SomeParts) →
-        ready_in script p Kind.DropQueued
-        ≡ (if is_ready_by script p StepName.DropQueued then StepName.DropQueued ∷ [] else []) }
+        IsSingle script p Kind.DropQueued StepName.DropQueued }
     ensures shutter { (script : SomeScript) (p : SomeParts) →
-        ready_in script p Kind.Shutter
-        ≡ (if is_ready_by script p StepName.Shutter then StepName.Shutter ∷ [] else []) }
+        IsSingle script p Kind.Shutter StepName.Shutter }
 {}

@@ -6,7 +6,7 @@ ghost use Rattle.service_core.specs.Looks.{fits, may_have, may_have_some};
 
 use crate::frames::{OfFrame, OfTarget};
 use cam_types::{Four, RowView, Script, TargetState, TargetView};
-use device_rows::{is_home, is_sensor_out, is_state};
+use device_rows::{is_home, is_same_state, is_sensor_out};
 
 /// Whether the frame may have its step of the kind, as far as its row tells.
 #[inline(always)]
@@ -47,11 +47,12 @@ fn fits(script: &Script, kind: OfTarget, row: RowView, target: TargetView) -> bo
 {
     match kind {
         OfTarget::ReturnFailed => row.request_error || target.announced,
-        OfTarget::TakeFill => is_home(row.sensor) && is_state(target.state, TargetState::Waiting),
+        OfTarget::TakeFill => is_home(row.sensor)
+            && is_same_state(target.state, TargetState::Waiting),
         OfTarget::FillDone => is_with_stage(target.state),
-        OfTarget::Deliver => is_state(target.state, TargetState::Filled),
-        OfTarget::Early => script.early && is_state(target.state, TargetState::Out),
-        OfTarget::Finish => is_state(target.state, TargetState::EarlyFilled),
+        OfTarget::Deliver => is_same_state(target.state, TargetState::Filled),
+        OfTarget::Early => script.early && is_same_state(target.state, TargetState::Out),
+        OfTarget::Finish => is_same_state(target.state, TargetState::EarlyFilled),
     }
 }
 

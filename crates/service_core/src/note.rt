@@ -1,7 +1,7 @@
-//! A step that was made is noted in the log.
+//! A step that was made is moves_after in the log.
 ghost use Rattle.std.specs.Prelude.{◌≡◌, ◌<◌, IsSome, false, length};
 ghost use Rattle.run_model.specs.History.{is_silent};
-ghost use Rattle.service_core.specs.Inside.{noted};
+ghost use Rattle.service_core.specs.Inside.{moves_after};
 ghost use Rattle.service_core.specs.Answers.{step_of};
 
 use crate::step::Step;
@@ -13,7 +13,7 @@ pub(crate) fn note(log: &mut RoomLog, step: StepName, entry: Option<Entry>) -> S
     requires adds { is_silent step ≡ false }
     requires room { IsSome entry → length log.old.moves < log.old.limit }
     ensures answer { result ≡ step_of entry }
-    ensures log { log.new ≡ noted step entry log.old }
+    ensures log { log.new ≡ moves_after step entry log.old }
 {
     match entry {
         Some(entry) => {

@@ -66,7 +66,7 @@ impl Service {
         note(&mut self.log, StepName::ReturnFailed(frame, stream), entry)
     }
 
-    /// The next metadata result of a frame is sent.
+    /// The next partial result of a frame is sent.
     pub fn partial(&mut self, frame: FrameNo) -> Step
         ensures { AnswersStep (StepName.Partial frame) self.old result self.new }
     {

@@ -3,7 +3,7 @@ use Rattle.std.proofs.Common.{◌≡◌, ℕ, ◌==◌, true, false, ◌&&◌, L
 use Rattle.std.specs.List.{list_any}
 use Rattle.std.proofs.lemmas.Bool.{and_parts, cases_Bool, eq-eqb, eqb-true, false≢true}
 use Rattle.cam_types.specs.declared.number.BufferId.{BufferId}
-use Rattle.cam_types.specs.declared.number.FenceNo.{FenceNo}
+use Rattle.cam_types.specs.declared.number.DeviceFenceNo.{DeviceFenceNo}
 use Rattle.cam_types.specs.declared.number.FrameNo.{FrameNo}
 use Rattle.cam_types.specs.declared.number.StreamIx.{StreamIx}
 use Rattle.cam_types.specs.declared.script.Script.{Script}
@@ -32,12 +32,12 @@ use Rattle.service_parts.specs.Facts.{IsAwaited}
 
 -- ---- the buffer is its target's
 
-early-target : (script : Script) (past : List Entry) (e : Entry) (n : FrameNo) (s : StreamIx) (b : BufferId) (f : FenceNo) → IsLegal script past → e ≡ Early n s b f → IsAllowed script past e → holds b.0 (target_of n.0 s.0 past) ≡ true
+early-target : (script : Script) (past : List Entry) (e : Entry) (n : FrameNo) (s : StreamIx) (b : BufferId) (f : DeviceFenceNo) → IsLegal script past → e ≡ Early n s b f → IsAllowed script past e → holds b.0 (target_of n.0 s.0 past) ≡ true
 early-target script past e n s b f legal is may =
     let may' : IsAllowed script past (Early n s b f) = rw is at may in
     out-target script past n.0 s.0 b.0 legal (early-back script past n s b f may').out
 
-pub found_target : (script : Script) (past : List Entry) (d : ℕ) (n : FrameNo) (s : StreamIx) (b : BufferId) (f : FenceNo) → IsLegal script past → find (is_early_with d) past ≡ Some (Early n s b f) → holds b.0 (target_of n.0 s.0 past) ≡ true
+pub found_target : (script : Script) (past : List Entry) (d : ℕ) (n : FrameNo) (s : StreamIx) (b : BufferId) (f : DeviceFenceNo) → IsLegal script past → find (is_early_with d) past ≡ Some (Early n s b f) → holds b.0 (target_of n.0 s.0 past) ≡ true
 found_target script [] d n s b f legal found = absurd (cc)
 found_target script (Early m t c g ∷ past) d n s b f legal found = elim (cases_Bool (g.0 == d)) [
   | inl here ↦ (
@@ -66,21 +66,21 @@ some-fence n s (e ∷ past) any = some-fence n s past any
 
 -- ---- so the client has it
 
-awaited-by : (script : Script) (past : List Entry) (n : FrameNo) (s : StreamIx) (b : BufferId) (f : FenceNo) → IsLegal script past → Pending past n s b f → is_late f.0 past ≡ false → IsAwaited (homes past) b.0 f
+awaited-by : (script : Script) (past : List Entry) (n : FrameNo) (s : StreamIx) (b : BufferId) (f : DeviceFenceNo) → IsLegal script past → Pending past n s b f → is_late f.0 past ≡ false → IsAwaited (homes past) b.0 f
 awaited-by script past n s b f legal p late = record {
   place = ap (λ p. is_at p Client) (sym (place_is script past b.0 legal)) ∙ ap (λ (o : Option Entry). is_at (place_after o) Client) p.named;
   fence = sym (held_is script past b.0 legal (stream-buffer past s.0 b.0 p.own)) ∙ ap (λ (o : Option Entry). early_fence_after o) p.named;
   awaited = sym (late_is script past f.0 legal) ∙ late;
 }
 
-pub early_awaited : (script : Script) (past : List Entry) (n s : ℕ) (t : Sent) → IsLegal script past → target_of n s past ≡ Some t → list_any (is_early_return n s) past ≡ true → is_settled n s past ≡ false → (d : FenceNo) × IsAwaited (homes past) t.buffer.0 d
+pub early_awaited : (script : Script) (past : List Entry) (n s : ℕ) (t : Sent) → IsLegal script past → target_of n s past ≡ Some t → list_any (is_early_return n s) past ≡ true → is_settled n s past ≡ false → (d : DeviceFenceNo) × IsAwaited (homes past) t.buffer.0 d
 early_awaited script past n s t legal at early unsettled =
     let has = some-fence n s past early in
     let d : ℕ = has.0 in
     let found = found-early past d (fence-given n s d past has.1) in
     by d found.0 found.1 found.2 found.3 found.4 found.5 (fence-frame script past d found.0 found.1 found.2 found.3 n s legal found.4 has.1)
   where
-    by : (d : ℕ) (k : FrameNo) (u : StreamIx) (b : BufferId) (f : FenceNo) → find (is_early_with d) past ≡ Some (Early k u b f) → f.0 ≡ d → ((k.0 == n) && (u.0 == s)) ≡ true → (g : FenceNo) × IsAwaited (homes past) t.buffer.0 g
+    by : (d : ℕ) (k : FrameNo) (u : StreamIx) (b : BufferId) (f : DeviceFenceNo) → find (is_early_with d) past ≡ Some (Early k u b f) → f.0 ≡ d → ((k.0 == n) && (u.0 == s)) ≡ true → (g : DeviceFenceNo) × IsAwaited (homes past) t.buffer.0 g
     by d k u b f found same own =
         let parts = and_parts (k.0 == n) (u.0 == s) own in
         let frame' : k.0 ≡ n = eqb-true k.0 n parts.0 in

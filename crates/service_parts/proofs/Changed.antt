@@ -18,7 +18,7 @@ use Rattle.run_model.specs.Rows.{row_of, rows}
 use Rattle.run_model.specs.Run.{IsRun}
 use Rattle.run_model.proofs.Legal.{runs_legally}
 use Rattle.state_facts.specs.Homes.{Homes}
-use Rattle.state_facts.specs.Clients.{Clients, clients, finishes}
+use Rattle.state_facts.specs.Clients.{Clients, clients}
 use Rattle.state_facts.specs.Clients as client
 use Rattle.device_rows.specs.Rows.{row_at}
 use Rattle.state_facts.specs.Turns.{Turns, next_of, turns}
@@ -74,9 +74,9 @@ client-changed script h step e run =
     let legal = runs_legally script (with_move step e h) run in
     let repeats = repeats_next (next_of (turns script past)) in
     ap (λ (s : State). s.client) (noted_is script past e legal)
-    ∙ (ap (λ b. client.noted script repeats b e (clients script past)) (sym (last_reads script past e legal))
+    ∙ (ap (λ b. client.clients_after script repeats b e (clients script past)) (sym (last_reads script past e legal))
     ∙ (counted script h step e run repeats
-    ∙ ap (λ (left : List RowView). client.noted script repeats (ends_by (kinds script past) (rows script h) left (ending_frame step)) e (clients script past)) (rows-changed script (record { step = step; entry = Some e }) h run)))
+    ∙ ap (λ (left : List RowView). client.clients_after script repeats (ends_by (kinds script past) (rows script h) left (ending_frame step)) e (clients script past)) (rows-changed script (record { step = step; entry = Some e }) h run)))
 
 -- ---- all of it
 

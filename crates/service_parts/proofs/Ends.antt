@@ -2,7 +2,7 @@
 use Rattle.std.proofs.Common.{◌≡◌, ℕ, ◌==◌, Bool, true, false, ◌&&◌, not, List, ◌∷◌, Option, Some, None, refl, sym, ap, ◌∙◌, inl, inr, find, is_none, slice_index_or, if◌then◌else◌}
 use Rattle.std.proofs.lemmas.Bool.{and_parts, cases_Bool, eqb-true, false≢true}
 use Rattle.cam_types.specs.declared.number.BufferId.{BufferId}
-use Rattle.cam_types.specs.declared.number.FenceNo.{FenceNo}
+use Rattle.cam_types.specs.declared.number.DeviceFenceNo.{DeviceFenceNo}
 use Rattle.cam_types.specs.declared.number.FrameNo.{FrameNo}
 use Rattle.cam_types.specs.declared.number.StreamIx.{StreamIx}
 use Rattle.cam_types.specs.declared.row.RowView.{RowView}
@@ -92,16 +92,16 @@ end-read script h step e n run other =
     ]
 
 -- the signal of a device fence is of the frame whose early return has it
-ends-at : (script : Script) (past : List Entry) (e : Entry) (o : Option Entry) (m : FrameNo) (t : StreamIx) (b : BufferId) (f : FenceNo) (n : ℕ) → o ≡ Some (Early m t b f) → m.0 ≡ n → ends_early script past e o ≡ ends_frame script past n e
+ends-at : (script : Script) (past : List Entry) (e : Entry) (o : Option Entry) (m : FrameNo) (t : StreamIx) (b : BufferId) (f : DeviceFenceNo) (n : ℕ) → o ≡ Some (Early m t b f) → m.0 ≡ n → ends_early script past e o ≡ ends_frame script past n e
 ends-at script past e o m t b f n found same = ap (λ (x : Option Entry). ends_early script past e x) found ∙ ap (λ (i : ℕ). ends_frame script past i e) same
 
-pub late-ends : (script : Script) (past : List Entry) (n s : ℕ) (d : FenceNo) (x : List ℕ) (rest : List ℕ) → IsLegal script (Late d x ∷ past) → early_fences n s past ≡ d.0 ∷ rest → finishes script past (Late d x) ≡ ends_frame script past n (Late d x)
+pub late-ends : (script : Script) (past : List Entry) (n s : ℕ) (d : DeviceFenceNo) (x : List ℕ) (rest : List ℕ) → IsLegal script (Late d x ∷ past) → early_fences n s past ≡ d.0 ∷ rest → finishes script past (Late d x) ≡ ends_frame script past n (Late d x)
 late-ends script past n s d x rest legal fences =
     let is = late-is script past d x legal.0 in
     let m : FrameNo = is.0 in
     let t : StreamIx = is.1 in
     let b : BufferId = is.2 in
-    let f : FenceNo = is.3 in
+    let f : DeviceFenceNo = is.3 in
     let has : has_fence d.0 (early_fences n s past) ≡ true = ap (λ (fs : List ℕ). has_fence d.0 fs) fences ∙ rw (own-number d.0) refl in
     let own = and_parts (m.0 == n) (t.0 == s) (fence-frame script past d.0 m t b f n s legal.1 is.4 has) in
     ends-at script past (Late d x) (find (is_early_with d.0) past) m t b f n is.4 (eqb-true m.0 n own.0)

@@ -1,10 +1,9 @@
 -- No more jobs are out than frames are open.
-use Rattle.std.proofs.Common.{◌≡◌, ◌≤◌, ◌<◌, ℕ, ◌==◌, Bool, true, ◌&&◌, not, List, [], ◌∷◌, Option, Some, None, refl, sym, ap, ◌∙◌, arith, inl, inr, filter, length, nat_le, nat_lt, sum_by}
-use Rattle.std.specs.List.{list_all, list_any}
+use Rattle.std.proofs.Common.{◌≡◌, ◌≤◌, ◌<◌, ℕ, ◌==◌, Bool, true, ◌&&◌, not, List, [], ◌∷◌, Option, Some, None, refl, sym, ap, ◌∙◌, arith, inl, inr, filter, length, nat_le, nat_lt}
+use Rattle.std.specs.List.{list_any}
 use Rattle.std.proofs.lemmas.Bool.{and_parts, cases_Bool, eqb-true, false≢true, not-true}
 use Rattle.cam_types.specs.Profile.{is_profile_number, profile_fits}
-use Rattle.cam_types.specs.Limits.{awaited_limit, command_limit, fault_limit, pick_limit}
-use Rattle.cam_types.specs.Script.{awaited_by, command_fits, is_closing_command, is_valid}
+use Rattle.cam_types.specs.Script.{is_valid}
 use Rattle.cam_types.specs.declared.job.FillTarget.{FillTarget}
 use Rattle.cam_types.specs.declared.job.JobView.{JobView}
 use Rattle.cam_types.specs.declared.profile.Profile.{Profile}
@@ -107,13 +106,7 @@ profile-depth version p h =
     ]
 
 pub depth_few : (script : Script) → is_valid script ≡ true → script.profile.depth ≤ 16
-depth_few script ok =
-    let fifth = nat_le (sum_by awaited_by script.commands) awaited_limit && list_any is_closing_command script.commands in
-    let fourth = list_all command_fits script.commands && fifth in
-    let third = nat_le (length script.commands) command_limit && fourth in
-    let second = nat_le (length script.picks) pick_limit && third in
-    let first = nat_le (length script.faults) fault_limit && second in
-    profile-depth script.version script.profile (and_parts (profile_fits script.version script.profile) first ok).0
+depth_few script ok = profile-depth script.version script.profile (and_parts (profile_fits script.version script.profile) _ ok).0
 
 -- one more job may be taken
 pub room_left : (script : Script) (m : Move) (h : List Move) (jobs : List JobView) → IsRun script (m ∷ h) → AreOut script h jobs → takes_a_job m.step ≡ true → length jobs < script.profile.depth

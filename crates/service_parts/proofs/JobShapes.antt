@@ -1,7 +1,6 @@
 -- What the entries of moves are: the moves of jobs but for the shutter add none, and only the shutter's is a shutter.
-use Rattle.std.proofs.Common.{◌≡◌, ℕ, ◌+◌, Bool, true, false, ◌&&◌, not, List, [], ◌∷◌, Option, Some, None, refl, sym, find, if◌then◌else◌}
+use Rattle.std.proofs.Common.{◌≡◌, ℕ, ◌+◌, true, false, ◌&&◌, not, List, [], ◌∷◌, Option, Some, None, refl, sym, find}
 use Rattle.std.proofs.lemmas.Bool.{false≢true}
-use Rattle.cam_types.specs.declared.request.Queued.{Queued}
 use Rattle.cam_types.specs.declared.script.Script.{Script}
 use Rattle.trace_model.specs.declared.entry.Entry.{Entry}
 use Rattle.trace_model.specs.Calls.{next_command}
@@ -11,8 +10,8 @@ use Rattle.trace_model.specs.Errors.{failed_due}
 use Rattle.trace_model.specs.Filled.{early_due, filled_due}
 use Rattle.trace_model.specs.Frames.{shutter_time, target_of}
 use Rattle.trace_model.specs.Open.{early_fences}
-use Rattle.trace_model.specs.Partial.{part_count}
-use Rattle.trace_model.specs.Queue.{first_in, next, queued}
+use Rattle.trace_model.specs.Partial.{partial_count}
+use Rattle.trace_model.specs.Queue.{first_in, queued}
 use Rattle.trace_model.specs.Stopping.{is_stopping}
 use Rattle.run_model.specs.declared.step.Move.{Move}
 use Rattle.run_model.specs.declared.step.StepName.{StepName}
@@ -61,7 +60,7 @@ dark-move script h (Fail f) m made other = adds-dark (Fail f) _ m made (λ e d. 
 dark-move script h (ReturnFailed f t) m made other =
     adds-dark (ReturnFailed f t) _ m made
     (λ e d. failed_shape IsDark (trace_of h) f.0 t.0 (target_of f.0 t.0 (trace_of h)) e (where-entry (not (is_sensor_out h f.0) && not (is_fill_out h f.0 t.0)) (failed_due (trace_of h) f.0 t.0) e d).1 (λ u n. refl))
-dark-move script h (Partial f) m made other = adds-dark (Partial f) _ m made (λ e d. part_shape IsDark script (trace_of h) f.0 (part_count f.0 (trace_of h) + 1) (shutter_time f.0 (trace_of h)) e d (λ part n. refl))
+dark-move script h (Partial f) m made other = adds-dark (Partial f) _ m made (λ e d. part_shape IsDark script (trace_of h) f.0 (partial_count f.0 (trace_of h) + 1) (shutter_time f.0 (trace_of h)) e d (λ part n. refl))
 dark-move script h (Deliver f t) m made other =
     adds-dark (Deliver f t) _ m made
     (λ e d. filled_shape IsDark script (trace_of h) f.0 t.0 (target_of f.0 t.0 (trace_of h)) e (where-entry (is_filled_in h f.0 t.0) (filled_due script (trace_of h) f.0 t.0) e d).1 (λ u n. refl))

@@ -4,7 +4,7 @@ use Rattle.std.specs.List.{list_all, list_any}
 use Rattle.std.proofs.lemmas.Bool.{and_parts, cases_Bool, eqb-true, false≢true, or_parts}
 use Rattle.cam_types.specs.Four.{four_list}
 use Rattle.cam_types.specs.declared.number.BufferId.{BufferId}
-use Rattle.cam_types.specs.declared.number.FenceNo.{FenceNo}
+use Rattle.cam_types.specs.declared.number.DeviceFenceNo.{DeviceFenceNo}
 use Rattle.cam_types.specs.declared.number.FrameNo.{FrameNo}
 use Rattle.cam_types.specs.declared.number.StreamIx.{StreamIx}
 use Rattle.cam_types.specs.declared.script.Script.{Script}
@@ -29,7 +29,7 @@ use Rattle.basic_lemmas.proofs.Lists.{found-passes}
 use Rattle.basic_lemmas.proofs.Tests.{own-number}
 
 -- the last entry of the buffer is its early return, and it is the target with which the frame was sent
-pub record Lent (past : List Entry) (n : FrameNo) (s : StreamIx) (b : BufferId) (f : FenceNo) : Type 0 where
+pub record Lent (past : List Entry) (n : FrameNo) (s : StreamIx) (b : BufferId) (f : DeviceFenceNo) : Type 0 where
   pub last : last_naming b.0 past ≡ Some (Early n s b f)
   pub target : Sent
   pub found : target_of n.0 s.0 past ≡ Some target
@@ -37,7 +37,7 @@ pub record Lent (past : List Entry) (n : FrameNo) (s : StreamIx) (b : BufferId) 
 
 -- ---- what the client has is neither at the device nor in the pool
 
-not-device : (past : List Entry) (c b : BufferId) (n : FrameNo) (s : StreamIx) (f : FenceNo) → last_naming b.0 past ≡ Some (Early n s b f) → place c.0 past ≡ Device → (c.0 == b.0) ≡ false
+not-device : (past : List Entry) (c b : BufferId) (n : FrameNo) (s : StreamIx) (f : DeviceFenceNo) → last_naming b.0 past ≡ Some (Early n s b f) → place c.0 past ≡ Device → (c.0 == b.0) ≡ false
 not-device past c b n s f last at = elim (cases_Bool (c.0 == b.0)) [
   | inl here ↦ (
       let same : c.0 ≡ b.0 = eqb-true c.0 b.0 here in
@@ -48,7 +48,7 @@ not-device past c b n s f last at = elim (cases_Bool (c.0 == b.0)) [
   | inr other ↦ other
 ]
 
-not-taken : (past : List Entry) (b : BufferId) (n : FrameNo) (s : StreamIx) (f : FenceNo) (ts : List Sent) → last_naming b.0 past ≡ Some (Early n s b f) → list_all (takes_from_pool past) ts ≡ true → list_any (λ t. t.buffer.0 == b.0) ts ≡ false
+not-taken : (past : List Entry) (b : BufferId) (n : FrameNo) (s : StreamIx) (f : DeviceFenceNo) (ts : List Sent) → last_naming b.0 past ≡ Some (Early n s b f) → list_all (takes_from_pool past) ts ≡ true → list_any (λ t. t.buffer.0 == b.0) ts ≡ false
 not-taken past b n s f [] last all = refl
 not-taken past b n s f (t ∷ ts) last all =
     let parts = and_parts (takes_from_pool past t) (list_all (takes_from_pool past) ts) all in
@@ -65,7 +65,7 @@ not-taken past b n s f (t ∷ ts) last all =
     ]
 
 -- nor is it released
-not-released : (past : List Entry) (c b : BufferId) (n : FrameNo) (s : StreamIx) (f : FenceNo) → last_naming b.0 past ≡ Some (Early n s b f) → is_late f.0 past ≡ false → is_there (early_fence_of c.0 past) past ≡ true → (c.0 == b.0) ≡ false
+not-released : (past : List Entry) (c b : BufferId) (n : FrameNo) (s : StreamIx) (f : DeviceFenceNo) → last_naming b.0 past ≡ Some (Early n s b f) → is_late f.0 past ≡ false → is_there (early_fence_of c.0 past) past ≡ true → (c.0 == b.0) ≡ false
 not-released past c b n s f last early there = elim (cases_Bool (c.0 == b.0)) [
   | inl here ↦ (
       let same : c.0 ≡ b.0 = eqb-true c.0 b.0 here in
@@ -78,10 +78,10 @@ not-released past c b n s f last early there = elim (cases_Bool (c.0 == b.0)) [
 
 -- ---- so it stays
 
-early-self : (past : List Entry) (m : FrameNo) (t : StreamIx) (c : BufferId) (g : FenceNo) (u : Sent) → target_of m.0 t.0 past ≡ Some u → u.buffer ≡ c → Lent (Early m t c g ∷ past) m t c g
+early-self : (past : List Entry) (m : FrameNo) (t : StreamIx) (c : BufferId) (g : DeviceFenceNo) (u : Sent) → target_of m.0 t.0 past ≡ Some u → u.buffer ≡ c → Lent (Early m t c g ∷ past) m t c g
 early-self past m t c g u at same = record { last = rw (own-number c.0) refl; target = u; found = at; buffer = same }
 
-as-found : (past : List Entry) (e : Entry) (m n : FrameNo) (t s : StreamIx) (c b : BufferId) (g f : FenceNo) → Early m t c g ≡ Early n s b f → Lent (e ∷ past) m t c g → Lent (e ∷ past) n s b f
+as-found : (past : List Entry) (e : Entry) (m n : FrameNo) (t s : StreamIx) (c b : BufferId) (g f : DeviceFenceNo) → Early m t c g ≡ Early n s b f → Lent (e ∷ past) m t c g → Lent (e ∷ past) n s b f
 as-found past e m n t s c b g f same lent =
     let a : m ≡ n = cc in
     let x : t ≡ s = cc in
@@ -89,13 +89,13 @@ as-found past e m n t s c b g f same lent =
     let z : g ≡ f = cc in
     rw (a, x, y, z) at lent
 
-still-lent : (past : List Entry) (e : Entry) (n : FrameNo) (s : StreamIx) (b : BufferId) (f : FenceNo) → Lent past n s b f → names b.0 e ≡ false → target_of n.0 s.0 (e ∷ past) ≡ target_of n.0 s.0 past → Lent (e ∷ past) n s b f
+still-lent : (past : List Entry) (e : Entry) (n : FrameNo) (s : StreamIx) (b : BufferId) (f : DeviceFenceNo) → Lent past n s b f → names b.0 e ≡ false → target_of n.0 s.0 (e ∷ past) ≡ target_of n.0 s.0 past → Lent (e ∷ past) n s b f
 still-lent past e n s b f lent other same = record { last = rw other (lent.last); target = lent.target; found = same ∙ lent.found; buffer = lent.buffer }
 
-pub same-fence : (past : List Entry) (d : ℕ) (n : FrameNo) (s : StreamIx) (b : BufferId) (f : FenceNo) → find (is_early_with d) past ≡ Some (Early n s b f) → f.0 ≡ d
+pub same-fence : (past : List Entry) (d : ℕ) (n : FrameNo) (s : StreamIx) (b : BufferId) (f : DeviceFenceNo) → find (is_early_with d) past ≡ Some (Early n s b f) → f.0 ≡ d
 same-fence past d n s b f found = eqb-true f.0 d (found-passes (is_early_with d) past (Early n s b f) found)
 
-pub lent-until : (script : Script) (past : List Entry) (d : ℕ) (n : FrameNo) (s : StreamIx) (b : BufferId) (f : FenceNo) → IsLegal script past → find (is_early_with d) past ≡ Some (Early n s b f) → is_late d past ≡ false → Lent past n s b f
+pub lent-until : (script : Script) (past : List Entry) (d : ℕ) (n : FrameNo) (s : StreamIx) (b : BufferId) (f : DeviceFenceNo) → IsLegal script past → find (is_early_with d) past ≡ Some (Early n s b f) → is_late d past ≡ false → Lent past n s b f
 lent-until script [] d n s b f legal found early = absurd (cc)
 lent-until script (Early m t c g ∷ past) d n s b f legal found early = elim (cases_Bool (g.0 == d)) [
   | inl here ↦ (
@@ -133,7 +133,7 @@ lent-until script (e ∷ past) d n s b f legal found early =
 
 -- ---- and its device fence is read from the buffers
 
-pub lent-held : (script : Script) (past : List Entry) (n : FrameNo) (s : StreamIx) (b : BufferId) (f : FenceNo) → IsLegal script past → Lent past n s b f → held_in (homes past) b.0 ≡ Some f
+pub lent-held : (script : Script) (past : List Entry) (n : FrameNo) (s : StreamIx) (b : BufferId) (f : DeviceFenceNo) → IsLegal script past → Lent past n s b f → held_in (homes past) b.0 ≡ Some f
 lent-held script past n s b f legal lent =
     let out : is_at (place b.0 past) Pool ≡ false = ap (λ o. is_at (place_after o) Pool) lent.last in
     let own : is_buffer past b.0 ≡ true = out-own script past b.0 legal out in

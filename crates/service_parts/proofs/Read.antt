@@ -1,14 +1,12 @@
 -- Each step is ready, and makes its move, exactly as the parts say.
-use Rattle.std.proofs.Common.{◌≡◌, ℕ, true, ◌&&◌, List, Option, None, refl, ap, ◌∙◌, inl, inr}
+use Rattle.std.proofs.Common.{◌≡◌, ℕ, ◌&&◌, List, Option, refl, ap, ◌∙◌}
 use Rattle.std.specs.Option.{option_map}
-use Rattle.std.proofs.lemmas.Bool.{cases_Bool, false≢true}
 use Rattle.cam_types.specs.declared.number.FrameNo.{FrameNo}
 use Rattle.cam_types.specs.declared.number.StreamIx.{StreamIx}
 use Rattle.cam_types.specs.declared.script.Script.{Script}
 use Rattle.trace_model.specs.declared.entry.Entry.{Entry}
 use Rattle.trace_model.specs.Client.{begin_due, call_due}
 use Rattle.trace_model.specs.Fence.{is_signalled}
-use Rattle.trace_model.specs.Open.{is_open}
 use Rattle.run_model.specs.declared.step.Move.{Move}
 use Rattle.run_model.specs.declared.step.StepName.{StepName}
 use Rattle.run_model.specs.declared.step.StepName.TheVariants.{Send, Release, Signal, Client, DropQueued, Fail, ReturnFailed, Shutter, SensorDone, Partial, TakeFill, FillDone, Deliver, Early, Finish}
@@ -23,14 +21,13 @@ use Rattle.state_facts.specs.Clients.{clients}
 use Rattle.state_facts.specs.Replies.{begin_in, call_in}
 use Rattle.state_facts.proofs.ClientReadings.{begin_is, call_is}
 use Rattle.state_facts.specs.Turns.{turns}
-use Rattle.device_rows.specs.Ready.{is_delivery_ready, is_early_ready, is_failed_return_ready}
-use Rattle.device_rows.specs.Rows.{row_at, target_in}
+use Rattle.device_rows.specs.Ready.{is_delivery_ready, is_early_ready, is_failed_return_ready, may_deliver}
+use Rattle.device_rows.specs.Rows.{target_in}
 use Rattle.run_rows.specs.Entries.{early_entry, filled_entry}
 use Rattle.run_rows.specs.Kept.{is_no_row}
 use Rattle.run_rows.proofs.Buffers.{take_is}
 use Rattle.run_rows.proofs.Counted.{quiet_is}
 use Rattle.run_rows.proofs.Errors.{error_is}
-use Rattle.run_rows.proofs.Frames.{row-found}
 use Rattle.run_rows.proofs.Moves.{delivery_is, early_is, failed_is}
 use Rattle.run_rows.proofs.Parts.{part_is}
 use Rattle.run_rows.proofs.Sensor.{shutter_is}
@@ -41,7 +38,7 @@ use Rattle.service_parts.specs.Moves.{move_by}
 use Rattle.service_parts.specs.Parts.{parts}
 use Rattle.service_parts.proofs.Pictures.{digest-read}
 use Rattle.service_parts.proofs.Sends.{send-read}
-use Rattle.service_parts.proofs.Signals.{finish-read, where-same}
+use Rattle.service_parts.proofs.Signals.{finish-read, passing-open, where-same}
 use Rattle.service_parts.proofs.Fences.{failed-same, fill-ready-same}
 
 -- ---- the client
@@ -72,22 +69,12 @@ take-read script h n s run =
     (take_is script h n.0 s.0 run
     ∙ fill-ready-same (λ f. is_signalled f (trace_of h)) (λ f. signalled_in (homes (trace_of h)) f) (signalled-same script h run) script.faults (rows script h) n.0 s.0)
 
-delivery-open : (script : Script) (h : List Move) (n s : ℕ) → is_delivery_ready script.faults (rows script h) n s ≡ true → is_open n (trace_of h) ≡ true
-delivery-open script h n s ready = elim (cases_Bool (is_open n (trace_of h))) [
-  | inl open_ ↦ open_
-  | inr closed ↦ (
-      let found : row_at n (rows script h) ≡ None = row-found script h n ∙ rw closed refl in
-      let ready' = rw found at ready in
-      absurd (false≢true ready')
-      )
-]
-
 delivery-read : (script : Script) (h : List Move) (n : FrameNo) (s : StreamIx) → IsRun script h → move_of script h (Deliver n s) ≡ move_by script (parts script h) (Deliver n s)
 delivery-read script h n s run =
     delivery_is script h n s run
     ∙ ap (λ (o : Option Entry). adding (Deliver n s) o)
     (where-same (is_delivery_ready script.faults (rows script h) n.0 s.0) _ _
-    (λ ready. ap (λ (x : List ℕ). option_map (filled_entry x n.0 s.0) (target_in n.0 s.0 (rows script h))) (digest-read script h n.0 s.0 (delivery-open script h n.0 s.0 ready))))
+    (λ ready. ap (λ (x : List ℕ). option_map (filled_entry x n.0 s.0) (target_in n.0 s.0 (rows script h))) (digest-read script h n.0 s.0 (passing-open script h (may_deliver script.faults (rows script h)) n.0 s.0 ready))))
 
 early-read : (script : Script) (h : List Move) (n : FrameNo) (s : StreamIx) → IsRun script h → move_of script h (Early n s) ≡ move_by script (parts script h) (Early n s)
 early-read script h n s run =

@@ -2,6 +2,7 @@
 use Rattle.std.proofs.Common.{◌≡◌, ◌<◌, ◌≤◌, ◌+◌, ◌^◌, ℕ, true, List, ◌∷◌, arith, length, refl}
 use Rattle.cam_types.specs.Script.{is_valid}
 use Rattle.cam_types.specs.declared.number.BufferId.{BufferId}
+use Rattle.cam_types.specs.declared.number.DeviceFenceNo.{DeviceFenceNo}
 use Rattle.cam_types.specs.declared.number.FenceNo.{FenceNo}
 use Rattle.cam_types.specs.declared.number.FrameNo.{FrameNo}
 use Rattle.cam_types.specs.declared.number.RequestId.{RequestId}
@@ -36,7 +37,7 @@ fences_fit script past b f legal =
     below (next_fence past) (length (homes past).signalled) (next_fence (Release b f ∷ past)) (fence_bound script) (fences_are past)
     (count-cons is_release (Release b f) past) (fences_bounded script (Release b f ∷ past) legal)
 
-pub earlies_fit : (script : Script) (past : List Entry) (n : FrameNo) (s : StreamIx) (b : BufferId) (d : FenceNo) → IsLegal script (Early n s b d ∷ past) → length (homes past).late < early_bound script
+pub earlies_fit : (script : Script) (past : List Entry) (n : FrameNo) (s : StreamIx) (b : BufferId) (d : DeviceFenceNo) → IsLegal script (Early n s b d ∷ past) → length (homes past).late < early_bound script
 earlies_fit script past n s b d legal =
     below (next_early past) (length (homes past).late) (next_early (Early n s b d ∷ past)) (early_bound script) (earlies_are past)
     (count-cons is_early (Early n s b d) past) (earlies_bounded script (Early n s b d ∷ past) legal)

@@ -1,5 +1,5 @@
 -- The pictures that the client has after each move are what the move makes of those before it.
-use Rattle.std.proofs.Common.{◌≡◌, ℕ, ◌==◌, ◌+◌, ◌-◌, ◌<◌, ◌≤◌, Bool, true, false, ◌&&◌, List, [], ◌∷◌, Option, Some, None, refl, sym, ap, ◌∙◌, arith, inl, inr, find, map, nat_le, slice_get, if◌then◌else◌}
+use Rattle.std.proofs.Common.{◌≡◌, ℕ, ◌==◌, ◌+◌, ◌-◌, ◌<◌, ◌≤◌, Bool, true, false, List, [], ◌∷◌, Option, Some, None, refl, sym, ap, ◌∙◌, arith, inl, inr, find, map, nat_le, slice_get, if◌then◌else◌}
 use Rattle.std.specs.Prelude.{count_by, slice_index_or, slice_set}
 use Rattle.std.specs.List.{list_all, list_any}
 use Rattle.std.specs.Option.{option_and_then}
@@ -13,7 +13,7 @@ use Rattle.basic_lemmas.proofs.Ranges.{map-all, set-one}
 use Rattle.cam_types.specs.Four.{four_list}
 use Rattle.cam_types.specs.declared.item.Settings.{Settings}
 use Rattle.cam_types.specs.declared.number.BufferId.{BufferId}
-use Rattle.cam_types.specs.declared.number.FenceNo.{FenceNo}
+use Rattle.cam_types.specs.declared.number.DeviceFenceNo.{DeviceFenceNo}
 use Rattle.cam_types.specs.declared.number.FrameNo.{FrameNo}
 use Rattle.cam_types.specs.declared.number.StreamIx.{StreamIx}
 use Rattle.cam_types.specs.declared.reply.Reply.TheVariants.{Configured}
@@ -53,6 +53,7 @@ use Rattle.state_facts.proofs.Accepted.{settings-kept}
 use Rattle.trace_laws.specs.Settled.{has_fence}
 use Rattle.trace_laws.proofs.Done.{closed-is}
 use Rattle.trace_laws.proofs.Frames.{sent-once}
+use Rattle.trace_laws.proofs.Printed.{one-of-all}
 use Rattle.trace_laws.proofs.Settled.{fence-frame, not-late}
 use Rattle.run_rows.proofs.Fours.{view-found}
 use Rattle.run_rows.proofs.Jobs.{FinishedBy, move-behind}
@@ -92,7 +93,7 @@ picture-kept script past e n s legal sent same =
 
 -- the entry signals no device fence of a buffer that it doesn't name
 abbrev IsSilentOf : List Entry → Entry → ℕ → Type 0
-IsSilentOf past e b = (m : FrameNo) (u : StreamIx) (a : BufferId) (g : FenceNo) → last_naming b past ≡ Some (Early m u a g) → is_late g.0 (e ∷ past) ≡ is_late g.0 past
+IsSilentOf past e b = (m : FrameNo) (u : StreamIx) (a : BufferId) (g : DeviceFenceNo) → last_naming b past ≡ Some (Early m u a g) → is_late g.0 (e ∷ past) ≡ is_late g.0 past
 
 after-kept : (script : Script) (past : List Entry) (e : Entry) (b : ℕ) (o : Option Entry) → IsLegal script (e ∷ past) → last_naming b past ≡ o → streams script (e ∷ past) ≡ streams script past → IsSilentOf past e b → picture_after script (e ∷ past) o ≡ picture_after script past o
 after-kept script past e b (Some (Filled n s c f d)) legal last same silent =
@@ -134,22 +135,13 @@ unnamed-kept script past e legal same silent h = map-same (λ b. client_picture 
 
 -- ---- numbers and frames of the buffers that are named
 
-one-settled : (past : List Entry) (n s : ℕ) (ts : List Sent) → list_all (λ t. is_settled n t.stream.0 past) ts ≡ true → list_any (λ t. t.stream.0 == s) ts ≡ true → is_settled n s past ≡ true
-one-settled past n s [] all has = absurd (false≢true has)
-one-settled past n s (t ∷ ts) all has =
-    let parts = and_parts (is_settled n t.stream.0 past) (list_all (λ u. is_settled n u.stream.0 past) ts) all in
-    elim (cases_Bool (t.stream.0 == s)) [
-      | inl here ↦ ap (λ (i : ℕ). is_settled n i past) (sym (eqb-true t.stream.0 s here)) ∙ parts.0
-      | inr other ↦ (let has' = rw other at has in one-settled past n s ts parts.1 has')
-    ]
-
 -- a frame with a buffer at the device is open
 open-out : (script : Script) (past : List Entry) (n s b : ℕ) (t : Sent) → IsLegal script past → is_at_device_by n s b past ≡ true → target_of n s past ≡ Some t → is_open n past ≡ true
 open-out script past n s b t legal out found = elim (cases_Bool (is_open n past)) [
   | inl open_ ↦ open_
   | inr closed ↦ (
       let has = found-any (λ (u : Sent). u.stream.0 == s) (targets_of n past) t found in
-      let settled = one-settled past n s (targets_of n past) (closed-is past n (out-sent past n s b out) closed).1 has in
+      let settled = one-of-all (is_settled n s past ≡ true) (λ (u : Sent). is_settled n u.stream.0 past) (λ (u : Sent). u.stream.0 == s) (targets_of n past) (λ u all here. ap (λ (i : ℕ). is_settled n i past) (sym (eqb-true u.stream.0 s here)) ∙ all) (closed-is past n (out-sent past n s b out) closed).1 has in
       absurd (false≢true (sym (out-not-returned script past n s b legal out) ∙ settled-returned n s past settled))
       )
 ]
@@ -161,14 +153,14 @@ picture-read script h n s open_ =
 -- ---- the picture of an early return is there
 
 -- the early return with a device fence is of one buffer
-same-early : (script : Script) (past : List Entry) (d b : ℕ) (n m : FrameNo) (s t : StreamIx) (c a : BufferId) (f g : FenceNo) → IsLegal script past → find (is_early_with d) past ≡ Some (Early n s c f) → last_naming b past ≡ Some (Early m t a g) → g.0 ≡ d → c.0 ≡ b
+same-early : (script : Script) (past : List Entry) (d b : ℕ) (n m : FrameNo) (s t : StreamIx) (c a : BufferId) (f g : DeviceFenceNo) → IsLegal script past → find (is_early_with d) past ≡ Some (Early n s c f) → last_naming b past ≡ Some (Early m t a g) → g.0 ≡ d → c.0 ≡ b
 same-early script [] d b n m s t c a f g legal found last fence = absurd (cc)
 same-early script (Early k u x h ∷ past) d b n m s t c a f g legal found last fence = elim (cases_Bool (x.0 == b)) [
   | inl here ↦ (
       let last' = rw here at last in
       let same : Early k u x h ≡ Early m t a g = cc in
       let z : h ≡ g = cc in
-      let yes' : (h.0 == d) ≡ true = eq-eqb h.0 d (ap (λ (i : FenceNo). i.0) z ∙ fence) in
+      let yes' : (h.0 == d) ≡ true = eq-eqb h.0 d (ap (λ (i : DeviceFenceNo). i.0) z ∙ fence) in
       let found' = rw yes' at found in
       let same' : Early k u x h ≡ Early n s c f = cc in
       let y : x ≡ c = cc in
@@ -206,7 +198,7 @@ same-early script (Release x h ∷ past) d b n m s t c a f g legal found last fe
 ]
 same-early script (e ∷ past) d b n m s t c a f g legal found last fence = same-early script past d b n m s t c a f g legal.1 found last fence
 
-late-each : (script : Script) (past : List Entry) (d : FenceNo) (x : List ℕ) (k : FrameNo) (t : StreamIx) (c : BufferId) (f : FenceNo) → IsLegal script (Late d x ∷ past) → find (is_early_with d.0) past ≡ Some (Early k t c f) → last_naming c.0 past ≡ Some (Early k t c f) → (b : ℕ) → client_picture script (Late d x ∷ past) b ≡ (if c.0 == b then Some (picture_of script past k.0 t.0) else client_picture script past b)
+late-each : (script : Script) (past : List Entry) (d : DeviceFenceNo) (x : List ℕ) (k : FrameNo) (t : StreamIx) (c : BufferId) (f : DeviceFenceNo) → IsLegal script (Late d x ∷ past) → find (is_early_with d.0) past ≡ Some (Early k t c f) → last_naming c.0 past ≡ Some (Early k t c f) → (b : ℕ) → client_picture script (Late d x ∷ past) b ≡ (if c.0 == b then Some (picture_of script past k.0 t.0) else client_picture script past b)
 late-each script past d x k t c f legal found last b = elim (cases_Bool (c.0 == b)) [
   | inl here ↦ (
       let at : last_naming b past ≡ Some (Early k t c f) = ap (λ (i : ℕ). last_naming i past) (sym (eqb-true c.0 b here)) ∙ last in
@@ -218,7 +210,7 @@ late-each script past d x k t c f legal found last b = elim (cases_Bool (c.0 == 
   | inr other ↦ rw other (after-kept script past (Late d x) b (last_naming b past) legal refl refl (λ m u a g is. rw (silent-at m u a g is other) refl))
 ]
   where
-    silent-at : (m : FrameNo) (u : StreamIx) (a : BufferId) (g : FenceNo) → last_naming b past ≡ Some (Early m u a g) → (c.0 == b) ≡ false → (d.0 == g.0) ≡ false
+    silent-at : (m : FrameNo) (u : StreamIx) (a : BufferId) (g : DeviceFenceNo) → last_naming b past ≡ Some (Early m u a g) → (c.0 == b) ≡ false → (d.0 == g.0) ≡ false
     silent-at m u a g is other = elim (cases_Bool (d.0 == g.0)) [
       | inl yes' ↦ (
           let same = same-early script past d.0 b k m t u c a f g legal.1 found is (sym (eqb-true d.0 g.0 yes')) in
@@ -237,7 +229,7 @@ shown-target script h n s t open_ found =
 same-target : (p : Parts) (n m s u : ℕ) → n ≡ m → s ≡ u → showing_target p (target_in n s p.rows) (picture_by p n s) ≡ showing_target p (target_in m u p.rows) (picture_by p m u)
 same-target p n m s u x y = rw (x, y) refl
 
-finished : (script : Script) (h : List Move) (step : StepName) (d : FenceNo) (x : List ℕ) → IsRun script (with_move step (Late d x) h) → FinishedBy h step d.0 → pictures script (Late d x ∷ trace_of h) ≡ pictures_with (parts script h) step (Late d x)
+finished : (script : Script) (h : List Move) (step : StepName) (d : DeviceFenceNo) (x : List ℕ) → IsRun script (with_move step (Late d x) h) → FinishedBy h step d.0 → pictures script (Late d x ∷ trace_of h) ≡ pictures_with (parts script h) step (Late d x)
 finished script h (Finish n s) d x run finish =
     let past = trace_of h in
     let legal = runs_legally script (with_move (Finish n s) (Late d x) h) run in
@@ -245,7 +237,7 @@ finished script h (Finish n s) d x run finish =
     let k : FrameNo = is.0 in
     let t : StreamIx = is.1 in
     let c : BufferId = is.2 in
-    let f : FenceNo = is.3 in
+    let f : DeviceFenceNo = is.3 in
     let found : find (is_early_with d.0) past ≡ Some (Early k t c f) = is.4 in
     let has : has_fence d.0 (early_fences n.0 s.0 past) ≡ true = ap (λ (fs : List ℕ). has_fence d.0 fs) finish.fences ∙ rw (own-number d.0) refl in
     let own = and_parts (k.0 == n.0) (t.0 == s.0) (fence-frame script past d.0 k t c f n.0 s.0 legal.1 found has) in

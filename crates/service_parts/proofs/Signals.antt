@@ -3,10 +3,11 @@ use Rattle.std.proofs.Common.{◌≡◌, ℕ, ◌==◌, Bool, true, false, List,
 use Rattle.std.specs.Option.{option_and_then, option_map}
 use Rattle.std.proofs.lemmas.Bool.{and_parts, cases_Bool, eqb-true, false≢true}
 use Rattle.cam_types.specs.declared.number.BufferId.{BufferId}
-use Rattle.cam_types.specs.declared.number.FenceNo.{FenceNo}
+use Rattle.cam_types.specs.declared.number.DeviceFenceNo.{DeviceFenceNo}
 use Rattle.cam_types.specs.declared.number.FrameNo.{FrameNo}
 use Rattle.cam_types.specs.declared.number.StreamIx.{StreamIx}
 use Rattle.cam_types.specs.declared.row.RowView.{RowView}
+use Rattle.cam_types.specs.declared.row.TargetState.TheVariants.{EarlyFilled}
 use Rattle.cam_types.specs.declared.row.TargetView.{TargetView}
 use Rattle.cam_types.specs.declared.script.Script.{Script}
 use Rattle.trace_model.specs.declared.entry.Entry.{Entry}
@@ -27,7 +28,7 @@ use Rattle.run_model.specs.Jobs.{is_filled_in}
 use Rattle.run_model.specs.Ready.{adding, late_with, move_of, where_entry}
 use Rattle.run_model.specs.Rows.{rows}
 use Rattle.run_model.specs.Run.{IsRun}
-use Rattle.device_rows.specs.Ready.{is_finish_ready}
+use Rattle.device_rows.specs.Ready.{is_finish_ready, is_same_state, target_passes}
 use Rattle.device_rows.specs.Rows.{row_at, target_at}
 use Rattle.run_model.proofs.Legal.{runs_legally}
 use Rattle.state_facts.specs.Homes.{held_in, homes}
@@ -53,7 +54,7 @@ pub record Held (past : List Entry) (n s d : ℕ) : Type 0 where
   pub found : target_of n s past ≡ Some target
   pub held : held_in (homes past) target.buffer.0 ≡ Some (record { 0 = d })
 
-held-at : (script : Script) (past : List Entry) (n s d : ℕ) (m : FrameNo) (t : StreamIx) (b : BufferId) (f : FenceNo) → IsLegal script past → Lent past m t b f → f.0 ≡ d → m.0 ≡ n → t.0 ≡ s → Held past n s d
+held-at : (script : Script) (past : List Entry) (n s d : ℕ) (m : FrameNo) (t : StreamIx) (b : BufferId) (f : DeviceFenceNo) → IsLegal script past → Lent past m t b f → f.0 ≡ d → m.0 ≡ n → t.0 ≡ s → Held past n s d
 held-at script past n s d m t b f legal lent fence frame stream =
     let held = lent-held script past m t b f legal lent in
     let held' : held_in (homes past) lent.target.buffer.0 ≡ Some f = ap (λ (c : BufferId). held_in (homes past) c.0) lent.buffer ∙ held in
@@ -84,13 +85,14 @@ fences-held : (script : Script) (past : List Entry) (n s : ℕ) (fences : List �
 fences-held script past n s [] legal at some = absurd (false≢true some)
 fences-held script past n s (d ∷ rest) legal at some = (d, rest, refl, held-by script past n s d rest (find (is_early_with d) past) legal at refl some)
 
-ready-open : (script : Script) (h : List Move) (n s : ℕ) → is_finish_ready (rows script h) n s ≡ true → is_open n (trace_of h) ≡ true
-ready-open script h n s ready = elim (cases_Bool (is_open n (trace_of h))) [
+-- a frame of which a target passes a test has its row, and is open
+pub passing-open : (script : Script) (h : List Move) (test : RowView → TargetView → Bool) (n s : ℕ) → target_passes test s (row_at n (rows script h)) ≡ true → is_open n (trace_of h) ≡ true
+passing-open script h test n s passes = elim (cases_Bool (is_open n (trace_of h))) [
   | inl open_ ↦ open_
   | inr closed ↦ (
       let found : row_at n (rows script h) ≡ None = row-found script h n ∙ rw closed refl in
-      let ready' = rw found at ready in
-      absurd (false≢true ready')
+      let passes' = rw found at passes in
+      absurd (false≢true passes')
       )
 ]
 
@@ -109,7 +111,7 @@ ready-same : (script : Script) (h : List Move) (n : FrameNo) (s : StreamIx) → 
 ready-same script h n s run ready =
     let past = trace_of h in
     let digest = digest_of script past n.0 s.0 in
-    let open_ = ready-open script h n.0 s.0 ready in
+    let open_ = passing-open script h (λ row target. is_same_state target.state EarlyFilled) n.0 s.0 ready in
     let some : is_some (move_of script h (Finish n s)) ≡ true = finish_ready script h n s run ∙ ready in
     let due = step-some (Finish n s) (is_filled_in h n.0 s.0) (late_with script past (early_fences n.0 s.0 past)) some in
     let all = fences-held script past n.0 s.0 (early_fences n.0 s.0 past) (runs_legally script h run) refl due in
@@ -119,7 +121,7 @@ ready-same script h n s run ready =
     ap (λ (fs : List ℕ). finish_entry digest fs) all.2
     ∙ (one-fence digest all.0 all.1 entry'
     ∙ (ap (λ (x : List ℕ). Some (Late (record { 0 = all.0 }) x)) (digest-read script h n.0 s.0 open_)
-    ∙ ap (λ (o : Option FenceNo). option_map (late_entry (digest_by (parts script h) n.0 s.0)) o) (sym (fence-read script h n.0 s.0 all.0 open_ all.3))))
+    ∙ ap (λ (o : Option DeviceFenceNo). option_map (late_entry (digest_by (parts script h) n.0 s.0)) o) (sym (fence-read script h n.0 s.0 all.0 open_ all.3))))
 
 pub where-same : (b : Bool) (x y : Option Entry) → (b ≡ true → x ≡ y) → where_entry b x ≡ where_entry b y
 where-same true x y h = h refl

@@ -1,8 +1,6 @@
 -- What stays of a frame as the run goes on: its settings and targets once it is sent, the streams while it is open.
-use Rattle.std.proofs.Common.{◌≡◌, ℕ, ◌||◌, not, true, List, ◌∷◌, Option, Some, None, refl, ap, is_some}
-use Rattle.std.proofs.lemmas.Bool.{and_parts, false≢true}
+use Rattle.std.proofs.Common.{◌≡◌, ℕ, true, List, Option, Some, None, refl}
 use Rattle.cam_types.specs.declared.reply.Reply.TheVariants.{Configured}
-use Rattle.cam_types.specs.declared.script.Command.TheVariants.{Configure}
 use Rattle.cam_types.specs.declared.script.Script.{Script}
 use Rattle.trace_model.specs.declared.entry.Entry.{Entry}
 use Rattle.trace_model.specs.declared.entry.Entry.TheVariants.{Call}

@@ -56,11 +56,11 @@ ends_by kinds rows left None = false
 -- ---- each part
 
 abbrev pub client_after : Script → Bool → Bool → Option Entry → Clients → Clients
-client_after script repeats ends (Some e) t = client.noted script repeats ends e t
+client_after script repeats ends (Some e) t = client.clients_after script repeats ends e t
 client_after script repeats ends None t = t
 
 abbrev pub queue_after : Script → Option Entry → Turns → Turns
-queue_after script (Some e) t = queue.noted script e t
+queue_after script (Some e) t = queue.turns_after script e t
 queue_after script None t = t
 
 -- one more request is accepted
@@ -73,7 +73,7 @@ kinds_after script (Some e) kinds = kinds_with script e kinds
 kinds_after script None kinds = kinds
 
 abbrev pub buffers_after : Option Entry → Homes → Homes
-buffers_after (Some e) t = buffers.noted e t
+buffers_after (Some e) t = buffers.homes_after e t
 buffers_after None t = t
 
 abbrev pub last_with : Settings → Option Entry → Option Settings → Option Settings

@@ -1,4 +1,4 @@
-use Rattle.std.specs.Prelude.{◌≡◌, ◌<◌, ◌≤◌, ◌^◌, ℕ, ◌+◌, Bool, true, false, List, ◌∷◌, Option, Some, None, length, slice_get, IsTrue}
+use Rattle.std.specs.Prelude.{◌≡◌, ◌<◌, ◌^◌, ℕ, ◌+◌, Bool, true, false, List, ◌∷◌, Option, Some, None, length, slice_get, IsTrue}
 use Rattle.std.specs.List.{list_all}
 use Rattle.cam_types.specs.Four.{four_of}
 use Rattle.cam_types.specs.Refusals.{specs_refusal}
@@ -6,6 +6,7 @@ use Rattle.cam_types.specs.Rows.{is_returned}
 use Rattle.cam_types.specs.Script.{is_valid}
 use Rattle.cam_types.specs.declared.four.Four.{Four}
 use Rattle.cam_types.specs.declared.number.BufferId.{BufferId}
+use Rattle.cam_types.specs.declared.number.DeviceFenceNo.{DeviceFenceNo}
 use Rattle.cam_types.specs.declared.number.FenceNo.{FenceNo}
 use Rattle.cam_types.specs.declared.number.FrameNo.{FrameNo}
 use Rattle.cam_types.specs.declared.number.StreamIx.{StreamIx}
@@ -62,7 +63,7 @@ is_early EarlyFilled = true
 is_early _ = false
 
 -- the client has the buffer, with a device fence that isn't signalled
-pub record IsAwaited (t : Homes) (b : ℕ) (d : FenceNo) : Type 0 where
+pub record IsAwaited (t : Homes) (b : ℕ) (d : DeviceFenceNo) : Type 0 where
   pub place : is_at (place_in t b) Client ≡ true
   pub fence : held_in t b ≡ Some d
   pub awaited : late_in t d.0 ≡ false
@@ -71,7 +72,7 @@ pub record IsAwaited (t : Homes) (b : ℕ) (d : FenceNo) : Type 0 where
 pub record IsPlaced (t : Homes) (s : ℕ) (target : TargetView) : Type 0 where
   pub own : is_of (slice_get t.made s) target.buffer.0 ≡ true
   pub device : is_returned target.state ≡ false → is_at (place_in t target.buffer.0) Device ≡ true
-  pub early : is_early target.state ≡ true → (d : FenceNo) × IsAwaited t target.buffer.0 d
+  pub early : is_early target.state ≡ true → (d : DeviceFenceNo) × IsAwaited t target.buffer.0 d
 
 -- in every run
 abbrev pub PlacesTargets : Script → List Move → Type 0
@@ -86,7 +87,7 @@ abbrev pub HasRoomForFences : Script → List Entry → BufferId → FenceNo →
 HasRoomForFences script past b f =
     IsLegal script (Release b f ∷ past) → length (homes past).signalled < fence_bound script
 
-abbrev pub HasRoomForEarly : Script → List Entry → FrameNo → StreamIx → BufferId → FenceNo → Type 0
+abbrev pub HasRoomForEarly : Script → List Entry → FrameNo → StreamIx → BufferId → DeviceFenceNo → Type 0
 HasRoomForEarly script past n s b d =
     IsLegal script (Early n s b d ∷ past) → length (homes past).late < early_bound script
 

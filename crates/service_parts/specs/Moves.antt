@@ -2,7 +2,7 @@ use Rattle.std.specs.Prelude.{ℕ, Bool, ◌&&◌, ◌||◌, not, List, Option, 
 use Rattle.std.specs.List.{list_all}
 use Rattle.std.specs.Option.{option_and_then, option_map}
 use Rattle.cam_types.specs.declared.item.Settings.{Settings}
-use Rattle.cam_types.specs.declared.number.FenceNo.{FenceNo}
+use Rattle.cam_types.specs.declared.number.DeviceFenceNo.{DeviceFenceNo}
 use Rattle.cam_types.specs.declared.request.Queued.{Queued}
 use Rattle.cam_types.specs.declared.row.RowView.{RowView}
 use Rattle.cam_types.specs.declared.script.Script.{Script}
@@ -61,11 +61,11 @@ digest_by p n s = digest_on (slice_get p.client.streams s) (settings_at (row_at 
 -- ---- early returns
 
 -- the signal of the device fence
-abbrev pub late_entry : List ℕ → FenceNo → Entry
+abbrev pub late_entry : List ℕ → DeviceFenceNo → Entry
 late_entry digest d = Late d digest
 
 -- the device fence with which the buffer of frame n for stream s came back early
-abbrev pub early_fence_by : Parts → ℕ → ℕ → Option FenceNo
+abbrev pub early_fence_by : Parts → ℕ → ℕ → Option DeviceFenceNo
 early_fence_by p n s = option_and_then (λ target. held_in p.buffers target.buffer.0) (target_in n s p.rows)
 
 -- ---- the move of a step, where it is ready

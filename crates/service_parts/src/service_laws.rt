@@ -2,6 +2,7 @@
 ghost use Rattle.std.specs.Prelude.{ℕ, List};
 ghost use Rattle.cam_types.specs.declared.four.Four.{Four as SomeFour};
 ghost use Rattle.cam_types.specs.declared.number.BufferId.{BufferId as SomeBuffer};
+ghost use Rattle.cam_types.specs.declared.number.DeviceFenceNo.{DeviceFenceNo as SomeDeviceFence};
 ghost use Rattle.cam_types.specs.declared.number.FenceNo.{FenceNo as SomeFence};
 ghost use Rattle.cam_types.specs.declared.number.FrameNo.{FrameNo as SomeFrame};
 ghost use Rattle.cam_types.specs.declared.number.RequestId.{RequestId as SomeRequest};
@@ -32,7 +33,7 @@ pub fn there_is_room()
     ensures fences { (script : SomeScript) (past : List SomeEntry) (b : SomeBuffer) (f : SomeFence) →
         HasRoomForFences script past b f }
     ensures early { (script : SomeScript) (past : List SomeEntry) (n : SomeFrame) (s : SomeStream) (b : SomeBuffer)
-        (d : SomeFence) → HasRoomForEarly script past n s b d }
+        (d : SomeDeviceFence) → HasRoomForEarly script past n s b d }
     ensures requests { (script : SomeScript) (past : List SomeEntry) (i : ℕ) (word : SomeWord) (r : SomeRequest) →
         HasRoomForRequests script past i word r }
     ensures buffers { (script : SomeScript) (past : List SomeEntry) → HasRoomForBuffers script past }

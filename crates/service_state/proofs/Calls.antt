@@ -7,7 +7,7 @@ use Rattle.cam_types.specs.declared.item.Settings.{Settings}
 use Rattle.cam_types.specs.declared.number.RequestId.{RequestId}
 use Rattle.cam_types.specs.declared.reply.Made.{Made}
 use Rattle.cam_types.specs.declared.reply.Reply.{Reply}
-use Rattle.cam_types.specs.declared.reply.Reply.TheVariants.{Ok, Submitted, Configured, Refused}
+use Rattle.cam_types.specs.declared.reply.Reply.TheVariants.{Submitted, Configured}
 use Rattle.cam_types.specs.declared.row.RowView.{RowView}
 use Rattle.cam_types.specs.declared.script.Command.{Command}
 use Rattle.cam_types.specs.declared.script.Word.{Word}
@@ -65,51 +65,39 @@ due_ready s e due = rw due refl
 pub none_due : (s : Serving) → due_in s ≡ None → move_by s.script s.parts Client ≡ None
 none_due s due = rw due refl
 
+-- an entry that is due, as a contract sees it
+pub record IsDue (s : Serving) (e : Entry) : Type 0 where
+  pub serving : IsServing s
+  pub due : due_in s ≡ Some e
+
+pub due_as : (s t : Serving) → s ≡ t → IsServing t → (e : Entry) → due_in t ≡ Some e → IsDue s e
+due_as s t same serving e due = rw same (record { serving = serving; due = due })
+
 -- the client's calls fit after it
-pub client_fits : (s : Serving) → IsServing s → (e : Entry) → due_in s ≡ Some e → Fits (parts_after s.script (move_with Client (Some e)) s.parts).client
-client_fits s serving e due = fits_next s serving (move_with Client (Some e)) (due_ready s e due)
+pub client_fits : (s : Serving) (e : Entry) → IsDue s e → Fits (parts_after s.script (move_with Client (Some e)) s.parts).client
+client_fits s e h = fits_next s h.serving (move_with Client (Some e)) (due_ready s e h.due)
 
 -- ---- a begin
 
 abbrev pub begin_left : Serving → Word → Parts
 begin_left s word =
     record s.parts {
-      client = client.noted s.script false false (Begin word) s.parts.client;
+      client = client.clients_after s.script false false (Begin word) s.parts.client;
       rows = if is_stop_word word then all_stopped s.parts.rows else s.parts.rows;
     }
 
-pub begins : (s : Serving) → IsServing s → (word : Word) → due_in s ≡ Some (Begin word) → Makes s (record { script = s.script; parts = begin_left s word }) (move_with Client (Some (Begin word)))
-begins s serving word due =
+pub begins : (s : Serving) (word : Word) → IsDue s (Begin word) → Makes s (record { script = s.script; parts = begin_left s word }) (move_with Client (Some (Begin word)))
+begins s word h =
     let m = move_with Client (Some (Begin word)) in
-    let ready = due_ready s (Begin word) due in
+    let ready = due_ready s (Begin word) h.due in
     makes s (begin_left s word) m ready
-    (same_parts _ _ refl refl refl refl refl (sym (whole_left s.script s.parts serving.run m ready refl)) refl refl)
+    (same_parts _ _ refl refl refl refl refl (sym (whole_left s.script s.parts h.serving.run m ready refl)) refl refl)
 
 -- ---- a call
 
-abbrev pub call_left : Serving → ℕ → Word → Reply → Parts
-call_left s i word reply =
-    record s.parts {
-      client = client.noted s.script false false (Call i word reply) s.parts.client;
-      queue = queue.noted s.script (Call i word reply) s.parts.queue;
-      kinds = kinds_with s.script (Call i word reply) s.parts.kinds;
-      buffers = buffers.noted (Call i word reply) s.parts.buffers;
-      pictures = pictures_with s.parts Client (Call i word reply);
-      last = last_after no_settings (Call i word reply) s.parts.last;
-    }
-
 any-last : (a b : Settings) (i : ℕ) (word : Word) (reply : Reply) (old : Option Settings) → last_after a (Call i word reply) old ≡ last_after b (Call i word reply) old
-any-last a b i word Ok old = refl
-any-last a b i word (Submitted r) old = refl
 any-last a b i word (Configured each) old = refl
-any-last a b i word (Refused code x y) old = refl
-
-pub calls : (s : Serving) → IsServing s → (i : ℕ) (word : Word) (reply : Reply) → due_in s ≡ Some (Call i word reply) → Makes s (record { script = s.script; parts = call_left s i word reply }) (move_with Client (Some (Call i word reply)))
-calls s serving i word reply due =
-    let m = move_with Client (Some (Call i word reply)) in
-    let ready = due_ready s (Call i word reply) due in
-    makes s (call_left s i word reply) m ready
-    (same_parts _ _ refl refl refl refl refl (sym (whole_left s.script s.parts serving.run m ready refl)) (any-last no_settings (settings_next (next_of s.parts.queue)) i word reply s.parts.last) refl)
+any-last a b i word _ old = refl
 
 -- ---- what a call asks of the parts
 
@@ -177,10 +165,10 @@ due_kind s e due = by-begin (command_at s.script s.parts.client.calls) refl due
 
 -- ---- what an answered call asks, of the command at its place
 
-pub can_take_at : (s : Serving) → IsServing s → (i : ℕ) (word : Word) (reply : Reply) → due_in s ≡ Some (Call i word reply) → CanTakeAt s.parts.queue (command_at s.script i) word reply
-can_take_at s serving i word reply due =
-    let called = due_kind s (Call i word reply) due in
-    let told = call_has_place s serving i word reply called.0 due called.1 in
+pub can_take_at : (s : Serving) (i : ℕ) (word : Word) (reply : Reply) → IsDue s (Call i word reply) → CanTakeAt s.parts.queue (command_at s.script i) word reply
+can_take_at s i word reply h =
+    let called = due_kind s (Call i word reply) h.due in
+    let told = call_has_place s h.serving i word reply called.0 h.due called.1 in
     rw called.1 told
 
 -- of each request there is a kind
@@ -191,43 +179,31 @@ kinds_count s serving =
     let count : length (kinds s.script past) ≡ request_count past = length-map-range_with_len (λ q. is_repeating s.script past q) 0 (request_count past) in
     rw r.left count
 
-pub kind_has_room : (s : Serving) → IsServing s → (i : ℕ) (word : Word) (reply : Reply) → due_in s ≡ Some (Call i word reply) → IsSubmitted reply → length s.parts.kinds < length s.script.commands
-kind_has_room s serving i word (Submitted r) due is = rw (kinds_count s serving) (request_has_room s serving i word (Submitted r) due r refl)
-kind_has_room s serving i word Ok due is = absurd is
-kind_has_room s serving i word (Configured each) due is = absurd is
-kind_has_room s serving i word (Refused code a b) due is = absurd is
+pub kind_has_room : (s : Serving) (i : ℕ) (word : Word) (reply : Reply) → IsDue s (Call i word reply) → IsSubmitted reply → length s.parts.kinds < length s.script.commands
+kind_has_room s i word (Submitted r) h is = rw (kinds_count s h.serving) (request_has_room s h.serving i word (Submitted r) h.due r refl)
+kind_has_room s i word _ h is = absurd is
 
 -- ---- a reply that configures nothing leaves buffers and settings
 
-pub same_buffers : (i : ℕ) (word : Word) (reply : Reply) (homes : Homes) → is_configuration reply ≡ false → buffers.noted (Call i word reply) homes ≡ homes
-same_buffers i word Ok homes not' = refl
-same_buffers i word (Submitted r) homes not' = refl
-same_buffers i word (Refused code a b) homes not' = refl
+pub same_buffers : (i : ℕ) (word : Word) (reply : Reply) (homes : Homes) → is_configuration reply ≡ false → buffers.homes_after (Call i word reply) homes ≡ homes
 same_buffers i word (Configured each) homes not' = absurd (false≢true (sym not'))
+same_buffers i word _ homes not' = refl
 
 same_pictures : (i : ℕ) (word : Word) (reply : Reply) (p : Parts) → is_configuration reply ≡ false → pictures_with p Client (Call i word reply) ≡ p.pictures
-same_pictures i word Ok p not' = refl
-same_pictures i word (Submitted r) p not' = refl
-same_pictures i word (Refused code a b) p not' = refl
 same_pictures i word (Configured each) p not' = absurd (false≢true (sym not'))
+same_pictures i word _ p not' = refl
 
 pub same_last : (i : ℕ) (word : Word) (reply : Reply) (last : Option Settings) → is_configuration reply ≡ false → last_after no_settings (Call i word reply) last ≡ last
-same_last i word Ok last not' = refl
-same_last i word (Submitted r) last not' = refl
-same_last i word (Refused code a b) last not' = refl
 same_last i word (Configured each) last not' = absurd (false≢true (sym not'))
+same_last i word _ last not' = refl
 
-pub same_streams : (script : Script) (i : ℕ) (word : Word) (reply : Reply) (t : Clients) → is_configuration reply ≡ false → (client.noted script false false (Call i word reply) t).streams ≡ t.streams
-same_streams script i word Ok t not' = refl
-same_streams script i word (Submitted r) t not' = refl
-same_streams script i word (Refused code a b) t not' = refl
+pub same_streams : (script : Script) (i : ℕ) (word : Word) (reply : Reply) (t : Clients) → is_configuration reply ≡ false → (client.clients_after script false false (Call i word reply) t).streams ≡ t.streams
 same_streams script i word (Configured each) t not' = absurd (false≢true (sym not'))
+same_streams script i word _ t not' = refl
 
 pub configured_by : (reply : Reply) → is_configuration reply ≡ true → (each : Four Made) × (reply ≡ Configured each)
 configured_by (Configured each) is = (each, refl)
-configured_by Ok is = absurd (false≢true is)
-configured_by (Submitted r) is = absurd (false≢true is)
-configured_by (Refused code a b) is = absurd (false≢true is)
+configured_by _ is = absurd (false≢true is)
 
 -- ---- a configuration
 
@@ -254,12 +230,12 @@ made_each p next specs each few is = ap four_list is ∙ four_list_of (made_for 
 -- ---- what an answered call leaves, by its reply
 
 -- one that configures nothing
-pub plain_calls : (s : Serving) → IsServing s → (i : ℕ) (word : Word) (reply : Reply) → is_configuration reply ≡ false → due_in s ≡ Some (Call i word reply) → Makes s (record { script = s.script; parts = record s.parts { client = client.noted s.script false false (Call i word reply) s.parts.client; queue = queue.noted s.script (Call i word reply) s.parts.queue; kinds = kinds_with s.script (Call i word reply) s.parts.kinds } }) (move_with Client (Some (Call i word reply)))
-plain_calls s serving i word reply other due =
+pub plain_calls : (s : Serving) (i : ℕ) (word : Word) (reply : Reply) → is_configuration reply ≡ false → IsDue s (Call i word reply) → Makes s (record { script = s.script; parts = record s.parts { client = client.clients_after s.script false false (Call i word reply) s.parts.client; queue = queue.turns_after s.script (Call i word reply) s.parts.queue; kinds = kinds_with s.script (Call i word reply) s.parts.kinds } }) (move_with Client (Some (Call i word reply)))
+plain_calls s i word reply other h =
     let m = move_with Client (Some (Call i word reply)) in
-    let ready = due_ready s (Call i word reply) due in
-    makes s (record s.parts { client = client.noted s.script false false (Call i word reply) s.parts.client; queue = queue.noted s.script (Call i word reply) s.parts.queue; kinds = kinds_with s.script (Call i word reply) s.parts.kinds }) m ready
-    (same_parts _ _ refl refl refl (sym (same_buffers i word reply s.parts.buffers other)) (sym (same_pictures i word reply s.parts other)) (sym (whole_left s.script s.parts serving.run m ready refl))
+    let ready = due_ready s (Call i word reply) h.due in
+    makes s (record s.parts { client = client.clients_after s.script false false (Call i word reply) s.parts.client; queue = queue.turns_after s.script (Call i word reply) s.parts.queue; kinds = kinds_with s.script (Call i word reply) s.parts.kinds }) m ready
+    (same_parts _ _ refl refl refl (sym (same_buffers i word reply s.parts.buffers other)) (sym (same_pictures i word reply s.parts other)) (sym (whole_left s.script s.parts h.serving.run m ready refl))
     (sym (any-last (settings_next (next_of s.parts.queue)) no_settings i word reply s.parts.last ∙ same_last i word reply s.parts.last other)) refl)
 
 -- an accepted configuration: of a command with these streams, at rest; fresh buffers are what it leaves
@@ -268,28 +244,26 @@ pub record Reconfiguring (s : Serving) (i : ℕ) (word : Word) (reply : Reply) (
   pub accepted : specs_refusal specs ≡ None
   pub home : all_home s.parts.buffers ≡ true
   pub rest : s.parts.rows ≡ []
-  pub streams : (client.noted s.script false false (Call i word reply) s.parts.client).streams ≡ specs
+  pub streams : (client.clients_after s.script false false (Call i word reply) s.parts.client).streams ≡ specs
   pub made : (homes : Homes) (pictures : List (Option (List ℕ))) → homes ≡ configured_with (made_for s.script.profile (s.parts.buffers.first + length s.parts.buffers.places) specs) s.parts.buffers → pictures ≡ replicate (count_in (made_for s.script.profile (s.parts.buffers.first + length s.parts.buffers.places) specs)) None →
-      Makes s (record { script = s.script; parts = record s.parts { client = client.noted s.script false false (Call i word reply) s.parts.client; queue = queue.noted s.script (Call i word reply) s.parts.queue; kinds = kinds_with s.script (Call i word reply) s.parts.kinds; buffers = homes; pictures = pictures; last = None } }) (move_with Client (Some (Call i word reply)))
+      Makes s (record { script = s.script; parts = record s.parts { client = client.clients_after s.script false false (Call i word reply) s.parts.client; queue = queue.turns_after s.script (Call i word reply) s.parts.queue; kinds = kinds_with s.script (Call i word reply) s.parts.kinds; buffers = homes; pictures = pictures; last = None } }) (move_with Client (Some (Call i word reply)))
 
-pub reconfiguring : (s : Serving) → IsServing s → (i : ℕ) (word : Word) (reply : Reply) → is_configuration reply ≡ true → due_in s ≡ Some (Call i word reply) → (specs : List StreamSpec) × Reconfiguring s i word reply specs
-reconfiguring s serving i word (Configured each) is due =
-    let it = reconfigured s serving i word each due in
+pub reconfiguring : (s : Serving) (i : ℕ) (word : Word) (reply : Reply) → is_configuration reply ≡ true → IsDue s (Call i word reply) → (specs : List StreamSpec) × Reconfiguring s i word reply specs
+reconfiguring s i word (Configured each) is h =
+    let it = reconfigured s h.serving i word each h.due in
     let specs = it.0 in
     let m = move_with Client (Some (Call i word (Configured each))) in
-    let ready = due_ready s (Call i word (Configured each)) due in
+    let ready = due_ready s (Call i word (Configured each)) h.due in
     let fresh : four_list each ≡ made_for s.script.profile (s.parts.buffers.first + length s.parts.buffers.places) specs = made_each s.script.profile (s.parts.buffers.first + length s.parts.buffers.places) specs each (few_specs specs it.1.by.accepted) it.1.by.made in (
       specs,
       record {
         command = it.1.command;
         accepted = it.1.by.accepted;
         home = it.1.by.home;
-        rest = configures_at_rest s serving i word each due;
+        rest = configures_at_rest s h.serving i word each h.due;
         streams = rw it.1.command refl;
-        made = λ homes pictures same shown. makes s (record s.parts { client = client.noted s.script false false (Call i word (Configured each)) s.parts.client; queue = queue.noted s.script (Call i word (Configured each)) s.parts.queue; kinds = kinds_with s.script (Call i word (Configured each)) s.parts.kinds; buffers = homes; pictures = pictures; last = None }) m ready
-            (same_parts _ _ refl refl refl (same ∙ ap (λ ms. configured_with ms s.parts.buffers) (sym fresh)) (shown ∙ ap (λ (ms : List Made). let fresh' : List (Option (List ℕ)) = replicate (count_in ms) None in fresh') (sym fresh)) (sym (whole_left s.script s.parts serving.run m ready refl)) refl refl);
+        made = λ homes pictures same shown. makes s (record s.parts { client = client.clients_after s.script false false (Call i word (Configured each)) s.parts.client; queue = queue.turns_after s.script (Call i word (Configured each)) s.parts.queue; kinds = kinds_with s.script (Call i word (Configured each)) s.parts.kinds; buffers = homes; pictures = pictures; last = None }) m ready
+            (same_parts _ _ refl refl refl (same ∙ ap (λ ms. configured_with ms s.parts.buffers) (sym fresh)) (shown ∙ ap (λ (ms : List Made). let fresh' : List (Option (List ℕ)) = replicate (count_in ms) None in fresh') (sym fresh)) (sym (whole_left s.script s.parts h.serving.run m ready refl)) refl refl);
       },
     )
-reconfiguring s serving i word Ok is due = absurd (false≢true is)
-reconfiguring s serving i word (Submitted r) is due = absurd (false≢true is)
-reconfiguring s serving i word (Refused code a b) is due = absurd (false≢true is)
+reconfiguring s i word _ is h = absurd (false≢true is)

@@ -10,7 +10,7 @@ use Rattle.device_rows.specs.Rows.{row_at, with_row}
 use Rattle.run_rows.specs.Kept.{frames_rise}
 use Rattle.service_parts.specs.After.{ends_by, repeats_in}
 use Rattle.service_state.specs.Serving.{left}
-use Rattle.service_state.proofs.Ends.{ended, gone, is_other_open}
+use Rattle.service_state.proofs.Ends.{ended, is_other_open}
 
 -- the change leaves the row's frame
 abbrev pub KeepsFrame : (RowView → RowView) → Type 0
@@ -61,11 +61,11 @@ none-with n f keeps (row ∷ rows) = by (row.frame.0 == n) refl (none-with n f k
 -- ---- the rows after such a change, and whether the frame ended
 
 pub ending_rows : (n : ℕ) (f : RowView → RowView) → KeepsFrame f → (rows : List RowView) → list_all is_open rows ≡ true → frames_rise rows ≡ true → filter is_open (with_row n f rows) ≡ left n (with_row n f rows)
-ending_rows n f keeps rows all rise = ended n (with_row n f rows) (rise-with n f keeps rows rise) (open-with n f keeps rows all)
+ending_rows n f keeps rows all rise = (ended n (with_row n f rows) (rise-with n f keeps rows rise) (open-with n f keeps rows all)).0
 
 pub ending_ends : (n : FrameNo) (f : RowView → RowView) → KeepsFrame f → (kinds : List Bool) (rows : List RowView) → list_all is_open rows ≡ true → frames_rise rows ≡ true → ends_by kinds rows (filter is_open (with_row n.0 f rows)) (Some n) ≡ (repeats_in kinds (row_at n.0 rows) && is_retire_ready (with_row n.0 f rows) n.0)
 ending_ends n f keeps kinds rows all rise =
-    let left-none = gone n.0 (with_row n.0 f rows) (rise-with n.0 f keeps rows rise) (open-with n.0 f keeps rows all) in
+    let left-none = (ended n.0 (with_row n.0 f rows) (rise-with n.0 f keeps rows rise) (open-with n.0 f keeps rows all)).1 in
     by (row_at n.0 rows) refl left-none (none-with n.0 f keeps rows)
   where
     by : (o : Option RowView) → row_at n.0 rows ≡ o → is_none (row_at n.0 (filter is_open (with_row n.0 f rows))) ≡ (is_none (row_at n.0 (with_row n.0 f rows)) || is_retire_ready (with_row n.0 f rows) n.0) → is_none (row_at n.0 (with_row n.0 f rows)) ≡ is_none (row_at n.0 rows) → ends_by kinds rows (filter is_open (with_row n.0 f rows)) (Some n) ≡ (repeats_in kinds (row_at n.0 rows) && is_retire_ready (with_row n.0 f rows) n.0)

@@ -1,7 +1,7 @@
 -- Once a frame's row was changed, the rows that stay are those of the open frames: it is retired exactly where it is done.
 use Rattle.std.proofs.Common.{arith, ◌≡◌, ℕ, ◌==◌, Bool, true, false, ◌||◌, not, List, [], ◌∷◌, None, refl, sym, inl, inr, filter, is_none, nat_lt, if◌then◌else◌}
 use Rattle.std.specs.List.{list_all}
-use Rattle.std.proofs.lemmas.Bool.{and_from, and_parts, cases_Bool, false≢true}
+use Rattle.std.proofs.lemmas.Bool.{and_from, and_parts, cases_Bool, eqb-true, false≢true}
 use Rattle.cam_types.specs.Rows.{is_open}
 use Rattle.cam_types.specs.declared.row.RowView.{RowView}
 use Rattle.device_rows.specs.Ready.{is_retire_ready}
@@ -61,28 +61,33 @@ away-none n (row ∷ rows) away =
 
 -- ---- the rows that stay
 
-pub ended : (n : ℕ) (rows : List RowView) → frames_rise rows ≡ true → list_all (is_other_open n) rows ≡ true → filter is_open rows ≡ (if is_retire_ready rows n then without n rows else rows)
-ended n [] rise all = refl
+-- the rows of open frames stay; and the frame's row is gone exactly where it was retired, if it stood
+abbrev pub Ended : ℕ → List RowView → Type 0
+Ended n rows =
+    (filter is_open rows ≡ (if is_retire_ready rows n then without n rows else rows))
+    × (is_none (row_at n (filter is_open rows)) ≡ (is_none (row_at n rows) || is_retire_ready rows n))
+
+pub ended : (n : ℕ) (rows : List RowView) → frames_rise rows ≡ true → list_all (is_other_open n) rows ≡ true → Ended n rows
+ended n [] rise all = (refl, refl)
 ended n (row ∷ rows) rise all =
     let order = and_parts (list_all (λ other. nat_lt row.frame.0 other.frame.0) rows) (frames_rise rows) rise in
     let each = and_parts (is_other_open n row) (list_all (is_other_open n) rows) all in
     elim (cases_Bool (row.frame.0 == n)) [
-      | inl here ↦ found here order.0 each.1 (is_open row) refl
+      | inl here ↦ found here (later-differ row.frame.0 n (eqb-true row.frame.0 n here) rows order.0) each.1 (is_open row) refl
       | inr other ↦ passed other each.0 (ended n rows order.1 each.1)
     ]
   where
-    found : (row.frame.0 == n) ≡ true → list_all (λ other. nat_lt row.frame.0 other.frame.0) rows ≡ true → list_all (is_other_open n) rows ≡ true → (b : Bool) → is_open row ≡ b → filter is_open (row ∷ rows) ≡ (if is_retire_ready (row ∷ rows) n then without n (row ∷ rows) else row ∷ rows)
-    found here less all true stands =
-        let away = later-differ row.frame.0 n (grind arith) rows less in
-        rw (here, stands, away-open n rows away all) refl
-    found here less all false stands =
-        let away = later-differ row.frame.0 n (grind arith) rows less in
-        rw (here, stands, away-open n rows away all, away-without n rows away) refl
+    found : (row.frame.0 == n) ≡ true → is_away n rows ≡ true → list_all (is_other_open n) rows ≡ true → (b : Bool) → is_open row ≡ b → Ended n (row ∷ rows)
+    found here away all true stands = (rw (here, stands, away-open n rows away all) refl, rw stands (rw here (rw stands refl)))
+    found here away all false stands = (
+      rw (here, stands, away-open n rows away all, away-without n rows away) refl,
+      rw (here, stands, away-open n rows away all, away-none n rows away) refl,
+    )
 
-    passed : (row.frame.0 == n) ≡ false → is_other_open n row ≡ true → filter is_open rows ≡ (if is_retire_ready rows n then without n rows else rows) → filter is_open (row ∷ rows) ≡ (if is_retire_ready (row ∷ rows) n then without n (row ∷ rows) else row ∷ rows)
+    passed : (row.frame.0 == n) ≡ false → is_other_open n row ≡ true → Ended n rows → Ended n (row ∷ rows)
     passed other one rest =
         let stands : is_open row ≡ true = by-test (row.frame.0 == n) (is_open row) other one in
-        rw (other, stands, rest) (by-ready (is_retire_ready rows n))
+        (rw (other, stands, rest.0) (by-ready (is_retire_ready rows n)), rw stands (rw other rest.1))
       where
         by-test : (a b : Bool) → a ≡ false → (a || b) ≡ true → b ≡ true
         by-test true b e f = absurd (false≢true (sym e))
@@ -91,29 +96,3 @@ ended n (row ∷ rows) rise all =
         by-ready : (b : Bool) → row ∷ (if b then without n rows else rows) ≡ (if b then row ∷ without n rows else row ∷ rows)
         by-ready true = refl
         by-ready false = refl
-
--- the frame's row is gone exactly where it was retired, if it stood
-pub gone : (n : ℕ) (rows : List RowView) → frames_rise rows ≡ true → list_all (is_other_open n) rows ≡ true → is_none (row_at n (filter is_open rows)) ≡ (is_none (row_at n rows) || is_retire_ready rows n)
-gone n [] rise all = refl
-gone n (row ∷ rows) rise all =
-    let order = and_parts (list_all (λ other. nat_lt row.frame.0 other.frame.0) rows) (frames_rise rows) rise in
-    let each = and_parts (is_other_open n row) (list_all (is_other_open n) rows) all in
-    elim (cases_Bool (row.frame.0 == n)) [
-      | inl here ↦ found here order.0 each.1 (is_open row) refl
-      | inr other ↦ passed other each.0 (gone n rows order.1 each.1)
-    ]
-  where
-    found : (row.frame.0 == n) ≡ true → list_all (λ other. nat_lt row.frame.0 other.frame.0) rows ≡ true → list_all (is_other_open n) rows ≡ true → (b : Bool) → is_open row ≡ b → is_none (row_at n (filter is_open (row ∷ rows))) ≡ (is_none (row_at n (row ∷ rows)) || is_retire_ready (row ∷ rows) n)
-    found here less all true stands = rw stands (rw here (rw stands refl))
-    found here less all false stands =
-        let away = later-differ row.frame.0 n (grind arith) rows less in
-        rw (here, stands, away-open n rows away all, away-none n rows away) refl
-
-    passed : (row.frame.0 == n) ≡ false → is_other_open n row ≡ true → is_none (row_at n (filter is_open rows)) ≡ (is_none (row_at n rows) || is_retire_ready rows n) → is_none (row_at n (filter is_open (row ∷ rows))) ≡ (is_none (row_at n (row ∷ rows)) || is_retire_ready (row ∷ rows) n)
-    passed other one rest =
-        let stands : is_open row ≡ true = by-test (row.frame.0 == n) (is_open row) other one in
-        rw stands (rw other rest)
-      where
-        by-test : (a b : Bool) → a ≡ false → (a || b) ≡ true → b ≡ true
-        by-test true b e f = absurd (false≢true (sym e))
-        by-test false b e f = f

@@ -1,9 +1,10 @@
 -- Each step that may end its frame: when it is ready, and what it leaves.
 use Rattle.std.proofs.Common.{◌≡◌, ℕ, Bool, true, false, ◌&&◌, List, Option, Some, None, refl, sym, ap, ◌∙◌}
+use Rattle.cam_types.specs.declared.number.DeviceFenceNo.{DeviceFenceNo}
 use Rattle.cam_types.specs.declared.number.FenceNo.{FenceNo}
 use Rattle.cam_types.specs.declared.number.FrameNo.{FrameNo}
 use Rattle.cam_types.specs.declared.number.StreamIx.{StreamIx}
-use Rattle.cam_types.specs.declared.part.Part.{Part}
+use Rattle.cam_types.specs.declared.partial_result.PartialResult.{PartialResult}
 use Rattle.cam_types.specs.declared.row.RowView.{RowView}
 use Rattle.cam_types.specs.declared.row.TargetView.{TargetView}
 use Rattle.device_rows.specs.Marks.{marked}
@@ -37,7 +38,7 @@ ends_with p n f = repeats_in p.kinds (row_at n p.rows) && is_retire_ready (with_
 abbrev pub frame_left : Serving → Entry → ℕ → (RowView → RowView) → Homes → List (Option (List ℕ)) → Parts
 frame_left s e n f homes pictures =
     record s.parts {
-      client = client.noted s.script false (ends_with s.parts n f) e s.parts.client;
+      client = client.clients_after s.script false (ends_with s.parts n f) e s.parts.client;
       buffers = homes;
       pictures = pictures;
       rows = left n (with_row n f s.parts.rows);
@@ -46,14 +47,14 @@ frame_left s e n f homes pictures =
 -- what such a step leaves, and that the client's calls fit
 pub record IsFrameStep (s : Serving) (m : Move) (e : Entry) (n : ℕ) (f : RowView → RowView) (homes : Homes) (pictures : List (Option (List ℕ))) : Type 0 where
   pub made : Makes s (record { script = s.script; parts = frame_left s e n f homes pictures }) m
-  pub fits : Fits (client.noted s.script false (ends_with s.parts n f) e s.parts.client)
+  pub fits : Fits (client.clients_after s.script false (ends_with s.parts n f) e s.parts.client)
 
 -- ---- metadata
 
-part-frame : (p : Parts) (n : FrameNo) (k : ℕ) (part : Part) → IsOfFrame p (move_with (Partial n) (Some (PartialEntry n k part))) (PartialEntry n k part) n (with_part k)
+part-frame : (p : Parts) (n : FrameNo) (k : ℕ) (part : PartialResult) → IsOfFrame p (move_with (Partial n) (Some (PartialEntry n k part))) (PartialEntry n k part) n (with_part k)
 part-frame p n k part = record { entry = refl; frame = refl; change = refl; keeps = λ row. refl; client = λ script repeats ends t. refl }
 
-pub parted : (s : Serving) → IsServing s → (n : FrameNo) (k : ℕ) (part : Part) → next_part s.script.faults s.parts.rows n.0 ≡ Some (k, part) → IsFrameStep s (move_with (Partial n) (Some (PartialEntry n k part))) (PartialEntry n k part) n.0 (with_part k) s.parts.buffers s.parts.pictures
+pub parted : (s : Serving) → IsServing s → (n : FrameNo) (k : ℕ) (part : PartialResult) → next_part s.script.faults s.parts.rows n.0 ≡ Some (k, part) → IsFrameStep s (move_with (Partial n) (Some (PartialEntry n k part))) (PartialEntry n k part) n.0 (with_part k) s.parts.buffers s.parts.pictures
 parted s serving n k part at =
     let m = move_with (Partial n) (Some (PartialEntry n k part)) in
     let is = part-frame s.parts n k part in
@@ -69,31 +70,31 @@ parted s serving n k part at =
 filled-frame : (p : Parts) (n : FrameNo) (t : StreamIx) (target : TargetView) (digest : List ℕ) → IsOfFrame p (move_with (Deliver n t) (Some (Filled n t target.buffer None digest))) (Filled n t target.buffer None digest) n (delivered t)
 filled-frame p n t target digest = record { entry = refl; frame = refl; change = refl; keeps = λ row. refl; client = λ script repeats ends c. refl }
 
-pub delivers : (s : Serving) → IsServing s → (n : FrameNo) (t : StreamIx) (target : TargetView) (digest bytes : List ℕ) → is_delivery_ready s.script.faults s.parts.rows n.0 t.0 ≡ true → target_in n.0 t.0 s.parts.rows ≡ Some target → digest ≡ digest_by s.parts n.0 t.0 → bytes ≡ picture_by s.parts n.0 t.0 → IsFrameStep s (move_with (Deliver n t) (Some (Filled n t target.buffer None digest))) (Filled n t target.buffer None digest) n.0 (delivered t) (buffers.noted (Filled n t target.buffer None digest) s.parts.buffers) (showing s.parts target.buffer.0 (Some bytes))
+pub delivers : (s : Serving) → IsServing s → (n : FrameNo) (t : StreamIx) (target : TargetView) (digest bytes : List ℕ) → is_delivery_ready s.script.faults s.parts.rows n.0 t.0 ≡ true → target_in n.0 t.0 s.parts.rows ≡ Some target → digest ≡ digest_by s.parts n.0 t.0 → bytes ≡ picture_by s.parts n.0 t.0 → IsFrameStep s (move_with (Deliver n t) (Some (Filled n t target.buffer None digest))) (Filled n t target.buffer None digest) n.0 (delivered t) (buffers.homes_after (Filled n t target.buffer None digest) s.parts.buffers) (showing s.parts target.buffer.0 (Some bytes))
 delivers s serving n t target digest bytes may at picture shown =
     let e = Filled n t target.buffer None digest in
     let m = move_with (Deliver n t) (Some e) in
     let is = filled-frame s.parts n t target digest in
     let ready : move_by s.script s.parts (Deliver n t) ≡ Some m = rw (may, at, picture) refl in
     record {
-      made = makes s (frame_left s e n.0 (delivered t) (buffers.noted e s.parts.buffers) (showing s.parts target.buffer.0 (Some bytes))) m ready
+      made = makes s (frame_left s e n.0 (delivered t) (buffers.homes_after e s.parts.buffers) (showing s.parts target.buffer.0 (Some bytes))) m ready
           (same_parts _ _ (sym (frame_client s serving m e n (delivered t) is)) refl refl refl (ap (λ (x : List ℕ). showing s.parts target.buffer.0 (Some x)) shown) (sym (frame_rows s serving m e n (delivered t) is)) refl refl);
       fits = frame_fits s serving m e n (delivered t) is ready;
     }
 
 -- ---- pictures of buffers that came back early
 
-late-frame : (p : Parts) (n : FrameNo) (t : StreamIx) (d : FenceNo) (digest : List ℕ) → IsOfFrame p (move_with (Finish n t) (Some (Late d digest))) (Late d digest) n (delivered t)
+late-frame : (p : Parts) (n : FrameNo) (t : StreamIx) (d : DeviceFenceNo) (digest : List ℕ) → IsOfFrame p (move_with (Finish n t) (Some (Late d digest))) (Late d digest) n (delivered t)
 late-frame p n t d digest = record { entry = refl; frame = refl; change = refl; keeps = λ row. refl; client = λ script repeats ends c. refl }
 
-pub finishes : (s : Serving) → IsServing s → (n : FrameNo) (t : StreamIx) (target : TargetView) (d : FenceNo) (digest bytes : List ℕ) → is_finish_ready s.parts.rows n.0 t.0 ≡ true → target_in n.0 t.0 s.parts.rows ≡ Some target → held_in s.parts.buffers target.buffer.0 ≡ Some d → digest ≡ digest_by s.parts n.0 t.0 → bytes ≡ picture_by s.parts n.0 t.0 → IsFrameStep s (move_with (Finish n t) (Some (Late d digest))) (Late d digest) n.0 (delivered t) (buffers.noted (Late d digest) s.parts.buffers) (showing s.parts target.buffer.0 (Some bytes))
+pub finishes : (s : Serving) → IsServing s → (n : FrameNo) (t : StreamIx) (target : TargetView) (d : DeviceFenceNo) (digest bytes : List ℕ) → is_finish_ready s.parts.rows n.0 t.0 ≡ true → target_in n.0 t.0 s.parts.rows ≡ Some target → held_in s.parts.buffers target.buffer.0 ≡ Some d → digest ≡ digest_by s.parts n.0 t.0 → bytes ≡ picture_by s.parts n.0 t.0 → IsFrameStep s (move_with (Finish n t) (Some (Late d digest))) (Late d digest) n.0 (delivered t) (buffers.homes_after (Late d digest) s.parts.buffers) (showing s.parts target.buffer.0 (Some bytes))
 finishes s serving n t target d digest bytes may at held picture shown =
     let e = Late d digest in
     let m = move_with (Finish n t) (Some e) in
     let is = late-frame s.parts n t d digest in
     let ready : move_by s.script s.parts (Finish n t) ≡ Some m = rw (may, at, held, picture) refl in
     record {
-      made = makes s (frame_left s e n.0 (delivered t) (buffers.noted e s.parts.buffers) (showing s.parts target.buffer.0 (Some bytes))) m ready
+      made = makes s (frame_left s e n.0 (delivered t) (buffers.homes_after e s.parts.buffers) (showing s.parts target.buffer.0 (Some bytes))) m ready
           (same_parts _ _ (sym (frame_client s serving m e n (delivered t) is)) refl refl refl (ap (λ (x : List ℕ). showing s.parts target.buffer.0 (Some x)) shown ∙ ap (λ (o : Option TargetView). showing_target s.parts o (picture_by s.parts n.0 t.0)) (sym at)) (sym (frame_rows s serving m e n (delivered t) is)) refl refl);
       fits = frame_fits s serving m e n (delivered t) is ready;
     }
@@ -103,14 +104,14 @@ finishes s serving n t target d digest bytes may at held picture shown =
 failed-frame : (p : Parts) (n : FrameNo) (t : StreamIx) (target : TargetView) (f : Option FenceNo) → IsOfFrame p (move_with (ReturnFailed n t) (Some (Failed n t target.buffer f))) (Failed n t target.buffer f) n (returned_failed t)
 failed-frame p n t target f = record { entry = refl; frame = refl; change = refl; keeps = λ row. refl; client = λ script repeats ends c. refl }
 
-pub returns_failed : (s : Serving) → IsServing s → (n : FrameNo) (t : StreamIx) (target : TargetView) (f : Option FenceNo) → is_failed_return_ready s.parts.rows n.0 t.0 ≡ true → target_in n.0 t.0 s.parts.rows ≡ Some target → f ≡ failed_fence (λ k. signalled_in s.parts.buffers k) target → IsFrameStep s (move_with (ReturnFailed n t) (Some (Failed n t target.buffer f))) (Failed n t target.buffer f) n.0 (returned_failed t) (buffers.noted (Failed n t target.buffer f) s.parts.buffers) (showing s.parts target.buffer.0 None)
+pub returns_failed : (s : Serving) → IsServing s → (n : FrameNo) (t : StreamIx) (target : TargetView) (f : Option FenceNo) → is_failed_return_ready s.parts.rows n.0 t.0 ≡ true → target_in n.0 t.0 s.parts.rows ≡ Some target → f ≡ failed_fence (λ k. signalled_in s.parts.buffers k) target → IsFrameStep s (move_with (ReturnFailed n t) (Some (Failed n t target.buffer f))) (Failed n t target.buffer f) n.0 (returned_failed t) (buffers.homes_after (Failed n t target.buffer f) s.parts.buffers) (showing s.parts target.buffer.0 None)
 returns_failed s serving n t target f may at fence =
     let e = Failed n t target.buffer f in
     let m = move_with (ReturnFailed n t) (Some e) in
     let is = failed-frame s.parts n t target f in
     let ready : move_by s.script s.parts (ReturnFailed n t) ≡ Some m = rw (may, at, fence) refl in
     record {
-      made = makes s (frame_left s e n.0 (returned_failed t) (buffers.noted e s.parts.buffers) (showing s.parts target.buffer.0 None)) m ready
+      made = makes s (frame_left s e n.0 (returned_failed t) (buffers.homes_after e s.parts.buffers) (showing s.parts target.buffer.0 None)) m ready
           (same_parts _ _ (sym (frame_client s serving m e n (returned_failed t) is)) refl refl refl refl (sym (frame_rows s serving m e n (returned_failed t) is)) refl refl);
       fits = frame_fits s serving m e n (returned_failed t) is ready;
     }
@@ -140,7 +141,7 @@ error-frame p n (Result m) of = record { entry = refl; frame = refl; change = rw
 error-frame p n (Buffer m t) of = record { entry = refl; frame = refl; change = rw of refl; keeps = λ row. refl; client = λ script repeats ends c. refl }
 error-frame p n Device of = absurd of
 
-same-homes : (error : ErrorEntry) (homes : Homes) → buffers.noted (error_entry error) homes ≡ homes
+same-homes : (error : ErrorEntry) (homes : Homes) → buffers.homes_after (error_entry error) homes ≡ homes
 same-homes (Request m) homes = refl
 same-homes (Result m) homes = refl
 same-homes (Buffer m t) homes = refl
@@ -163,14 +164,14 @@ fails s serving n error at of =
     by (Buffer k t) o ready is = same_parts _ _ (sym (frame_client s serving (move_with (Fail n) (Some (ErrorBuffer k t))) (ErrorBuffer k t) n (marked (Announced t)) is)) refl refl refl refl (sym (frame_rows s serving (move_with (Fail n) (Some (ErrorBuffer k t))) (ErrorBuffer k t) n (marked (Announced t)) is)) refl refl
     by Device o ready is = absurd o
 
-pub device_fails : (s : Serving) → IsServing s → (n : FrameNo) → next_error s.script.faults s.parts.rows n.0 ≡ Some Device → Makes s (record { script = s.script; parts = record s.parts { client = client.noted s.script false false ErrorDevice s.parts.client; rows = all_stopped s.parts.rows } }) (move_with (Fail n) (Some ErrorDevice))
+pub device_fails : (s : Serving) → IsServing s → (n : FrameNo) → next_error s.script.faults s.parts.rows n.0 ≡ Some Device → Makes s (record { script = s.script; parts = record s.parts { client = client.clients_after s.script false false ErrorDevice s.parts.client; rows = all_stopped s.parts.rows } }) (move_with (Fail n) (Some ErrorDevice))
 device_fails s serving n at =
     let m = move_with (Fail n) (Some ErrorDevice) in
     let ready : move_by s.script s.parts (Fail n) ≡ Some m = rw at refl in
-    makes s (record s.parts { client = client.noted s.script false false ErrorDevice s.parts.client; rows = all_stopped s.parts.rows }) m ready
+    makes s (record s.parts { client = client.clients_after s.script false false ErrorDevice s.parts.client; rows = all_stopped s.parts.rows }) m ready
     (same_parts _ _ refl refl refl refl refl (sym (whole_left s.script s.parts serving.run m ready refl)) refl refl)
 
-pub device_fits : (s : Serving) → IsServing s → (n : FrameNo) → next_error s.script.faults s.parts.rows n.0 ≡ Some Device → Fits (client.noted s.script false false ErrorDevice s.parts.client)
+pub device_fits : (s : Serving) → IsServing s → (n : FrameNo) → next_error s.script.faults s.parts.rows n.0 ≡ Some Device → Fits (client.clients_after s.script false false ErrorDevice s.parts.client)
 device_fits s serving n at =
     let m = move_with (Fail n) (Some ErrorDevice) in
     let ready : move_by s.script s.parts (Fail n) ≡ Some m = rw at refl in

@@ -11,6 +11,7 @@ pub mod Calls
 pub mod Room
 pub mod Shown
 pub mod Outs
+pub mod Back
 pub mod Told
 pub mod Exposing
 pub mod Rooms

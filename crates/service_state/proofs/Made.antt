@@ -1,10 +1,9 @@
 -- The parts after a step are what its move makes of those before it.
-use Rattle.std.proofs.Common.{◌≡◌, ℕ, Bool, false, ◌&&◌, Option, Some, None, refl, sym, ap, ◌∙◌, filter}
+use Rattle.std.proofs.Common.{◌≡◌, Bool, true, false, ◌&&◌, Some, None, refl, sym, ap, ◌∙◌, filter}
 use Rattle.cam_types.specs.Rows.{is_open}
 use Rattle.cam_types.specs.declared.number.FrameNo.{FrameNo}
 use Rattle.cam_types.specs.declared.row.RowView.{RowView}
 use Rattle.cam_types.specs.declared.script.Script.{Script}
-use Rattle.cam_types.specs.declared.item.Settings.{Settings}
 use Rattle.trace_model.specs.declared.entry.Entry.{Entry}
 use Rattle.run_model.specs.declared.step.Move.{Move}
 use Rattle.run_model.specs.declared.step.StepName.{StepName}
@@ -21,10 +20,7 @@ use Rattle.service_parts.specs.Moves.{move_by}
 use Rattle.service_parts.specs.Parts.{Parts}
 use Rattle.service_state.specs.Answers.{Makes, Stays}
 use Rattle.service_state.specs.Serving.{IsServing, Serving, left, parts_of}
-use Rattle.capture_queue.specs.Captures.{Captures}
-use Rattle.buffer_manager.specs.Managed.{Managed}
-use Rattle.buffer_pool.specs.Fences.{FencesMade}
-use Rattle.device_core.specs.View.{DeviceView}
+use Rattle.service_state.specs.declared.state.ServiceState.TheInside.{Inside}
 use Rattle.service_state.proofs.Endings.{KeepsFrame, ending_ends, ending_rows}
 use Rattle.service_state.proofs.Fitting.{fits_left}
 use Rattle.service_state.proofs.Runs.{next_left, rows_open, rows_rise}
@@ -50,7 +46,7 @@ pub record IsOfFrame (p : Parts) (m : Move) (e : Entry) (n : FrameNo) (f : RowVi
   pub frame : ending_frame m.step ≡ Some n
   pub change : after (settings_next (next_of p.queue)) m p.rows ≡ with_row n.0 f p.rows
   pub keeps : KeepsFrame f
-  pub client : (script : Script) (repeats ends : Bool) (t : Clients) → client.noted script repeats ends e t ≡ client.noted script false ends e t
+  pub client : (script : Script) (repeats ends : Bool) (t : Clients) → client.clients_after script repeats ends e t ≡ client.clients_after script false ends e t
 
 -- the rows left
 pub frame_rows : (s : Serving) → IsServing s → (m : Move) (e : Entry) (n : FrameNo) (f : RowView → RowView) → IsOfFrame s.parts m e n f → rows_after s.parts m ≡ left n.0 (with_row n.0 f s.parts.rows)
@@ -58,7 +54,7 @@ frame_rows s serving m e n f is =
     ap (λ xs. filter is_open xs) is.change ∙ ending_rows n.0 f is.keeps s.parts.rows (rows_open s.script s.parts serving.run) (rows_rise s.script s.parts serving.run)
 
 -- the client's calls
-pub frame_client : (s : Serving) → IsServing s → (m : Move) (e : Entry) (n : FrameNo) (f : RowView → RowView) → IsOfFrame s.parts m e n f → (parts_after s.script m s.parts).client ≡ client.noted s.script false (repeats_in s.parts.kinds (row_at n.0 s.parts.rows) && is_retire_ready (with_row n.0 f s.parts.rows) n.0) e s.parts.client
+pub frame_client : (s : Serving) → IsServing s → (m : Move) (e : Entry) (n : FrameNo) (f : RowView → RowView) → IsOfFrame s.parts m e n f → (parts_after s.script m s.parts).client ≡ client.clients_after s.script false (repeats_in s.parts.kinds (row_at n.0 s.parts.rows) && is_retire_ready (with_row n.0 f s.parts.rows) n.0) e s.parts.client
 frame_client s serving m e n f is =
     let repeats = repeats_next (next_of s.parts.queue) in
     let ends : ends_by s.parts.kinds s.parts.rows (rows_after s.parts m) (ending_frame m.step) ≡ (repeats_in s.parts.kinds (row_at n.0 s.parts.rows) && is_retire_ready (with_row n.0 f s.parts.rows) n.0) =
@@ -66,22 +62,19 @@ frame_client s serving m e n f is =
     ∙ (ap (λ xs. ends_by s.parts.kinds s.parts.rows (filter is_open xs) (Some n)) is.change
     ∙ ending_ends n f is.keeps s.parts.kinds s.parts.rows (rows_open s.script s.parts serving.run) (rows_rise s.script s.parts serving.run)) in
     let ended = repeats_in s.parts.kinds (row_at n.0 s.parts.rows) && is_retire_ready (with_row n.0 f s.parts.rows) n.0 in
-    let noted : (parts_after s.script m s.parts).client ≡ client.noted s.script repeats ended e s.parts.client =
+    let noted : (parts_after s.script m s.parts).client ≡ client.clients_after s.script repeats ended e s.parts.client =
     ap (λ b. client_after s.script repeats b m.entry s.parts.client) ends ∙ ap (λ o. client_after s.script repeats ended o s.parts.client) is.entry in
     noted ∙ is.client s.script repeats (repeats_in s.parts.kinds (row_at n.0 s.parts.rows) && is_retire_ready (with_row n.0 f s.parts.rows) n.0) s.parts.client
 
 -- so the client's calls fit
-pub frame_fits : (s : Serving) → IsServing s → (m : Move) (e : Entry) (n : FrameNo) (f : RowView → RowView) → IsOfFrame s.parts m e n f → move_by s.script s.parts m.step ≡ Some m → Fits (client.noted s.script false (repeats_in s.parts.kinds (row_at n.0 s.parts.rows) && is_retire_ready (with_row n.0 f s.parts.rows) n.0) e s.parts.client)
+pub frame_fits : (s : Serving) → IsServing s → (m : Move) (e : Entry) (n : FrameNo) (f : RowView → RowView) → IsOfFrame s.parts m e n f → move_by s.script s.parts m.step ≡ Some m → Fits (client.clients_after s.script false (repeats_in s.parts.kinds (row_at n.0 s.parts.rows) && is_retire_ready (with_row n.0 f s.parts.rows) n.0) e s.parts.client)
 frame_fits s serving m e n f is ready = rw (sym (frame_client s serving m e n f is)) (fits_next s serving m ready)
 
 -- ---- as a contract sees it
 
 -- the parts as they are held
-abbrev pub shown : Script → Clients → Captures → Managed → FencesMade → DeviceView → Option Settings → ℕ → Serving
-shown script client' captures managed fences device last clock = record {
-  script = script;
-  parts = parts_of client' captures managed fences device last clock;
-}
+abbrev pub held : Inside → Serving
+held i = record { script = i.script; parts = parts_of i.client i.captures i.buffers i.fences i.device i.last i.clock }
 
 pub serving_as : (s t : Serving) → s ≡ t → IsServing t → IsServing s
 serving_as s t same serving = rw same serving
@@ -91,3 +84,8 @@ makes_as s t new m same serving make = rw (sym same) (make (rw same serving))
 
 pub stays_as : (s t new : Serving) (step : StepName) → s ≡ t → new ≡ s → move_by s.script s.parts step ≡ None → Stays t new step
 stays_as s t new step same new' none = record { ready = rw (sym same) none; same = new' ∙ same }
+
+-- what an answer in a Bool refuses is false
+pub not_true : (b : Bool) → (b ≡ true → false ≡ true) → b ≡ false
+not_true true h = sym (h refl)
+not_true false h = refl

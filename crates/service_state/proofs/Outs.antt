@@ -5,11 +5,11 @@ use Rattle.std.proofs.lemmas.Bool.{and_parts, false≢true}
 use Rattle.cam_types.specs.Shown.{Shown}
 use Rattle.cam_types.specs.Rows.{is_returned}
 use Rattle.cam_types.specs.declared.number.BufferId.{BufferId}
-use Rattle.cam_types.specs.declared.number.FenceNo.{FenceNo}
+use Rattle.cam_types.specs.declared.number.DeviceFenceNo.{DeviceFenceNo}
 use Rattle.cam_types.specs.declared.reply.Made.{Made}
 use Rattle.cam_types.specs.declared.row.RowView.{RowView}
 use Rattle.cam_types.specs.declared.row.TargetState.{TargetState}
-use Rattle.cam_types.specs.declared.row.TargetState.TheVariants.{Waiting, Out, Filled, ReturnedEarly, EarlyFilled, ReturnedOk, ReturnedFailed}
+use Rattle.cam_types.specs.declared.row.TargetState.TheVariants.{Waiting, Out, Filled, EarlyFilled}
 use Rattle.cam_types.specs.declared.row.TargetView.{TargetView}
 use Rattle.cam_types.specs.declared.script.Fault.{Fault}
 use Rattle.cam_types.specs.declared.stream.StreamSpec.{StreamSpec}
@@ -18,7 +18,7 @@ use Rattle.trace_model.specs.Place.{Device, is_at}
 use Rattle.state_facts.specs.Homes.{place_in}
 use Rattle.buffer_manager.specs.Managed.{IsBufferAt}
 use Rattle.fill_jobs.specs.Buffers.{IsBufferFor}
-use Rattle.device_rows.specs.Ready.{is_delivery_ready, is_early_ready, is_failed_return_ready, is_finish_ready, is_sensor_out, is_state, may_deliver, may_go_early, may_return, may_return_failed, passes_at, target_passes}
+use Rattle.device_rows.specs.Ready.{is_delivery_ready, is_early_ready, is_failed_return_ready, is_finish_ready, is_sensor_out, is_same_state, may_deliver, may_go_early, may_return, may_return_failed, passes_at, target_passes}
 use Rattle.device_rows.specs.Rows.{row_at, target_at, target_in}
 use Rattle.service_parts.specs.Facts.{IsAwaited, is_early, is_of}
 use Rattle.service_state.specs.Serving.{IsServing, Serving}
@@ -50,66 +50,47 @@ passes-in test n s rows target passes at = by (row_at n rows) refl passes at
     by (Some row) found passes' is = by-target row (target_at s row) refl passes' (sym (rw found refl) ∙ is)
     by None found passes' is = absurd (false≢true passes')
 
-filled-stays : (state : TargetState) → is_state state Filled ≡ true → is_returned state ≡ false
+filled-stays : (state : TargetState) → is_same_state state Filled ≡ true → is_returned state ≡ false
 filled-stays Filled is = refl
-filled-stays Waiting is = refl
-filled-stays Out is = refl
-filled-stays ReturnedEarly is = absurd (false≢true is)
-filled-stays EarlyFilled is = absurd (false≢true is)
-filled-stays ReturnedOk is = absurd (false≢true is)
-filled-stays ReturnedFailed is = absurd (false≢true is)
+filled-stays _ is = absurd (false≢true is)
 
-out-stays : (state : TargetState) → is_state state Out ≡ true → is_returned state ≡ false
-out-stays Filled is = refl
-out-stays Waiting is = refl
+out-stays : (state : TargetState) → is_same_state state Out ≡ true → is_returned state ≡ false
 out-stays Out is = refl
-out-stays ReturnedEarly is = absurd (false≢true is)
-out-stays EarlyFilled is = absurd (false≢true is)
-out-stays ReturnedOk is = absurd (false≢true is)
-out-stays ReturnedFailed is = absurd (false≢true is)
+out-stays _ is = absurd (false≢true is)
 
-early-is : (state : TargetState) → is_state state EarlyFilled ≡ true → is_early state ≡ true
+early-is : (state : TargetState) → is_same_state state EarlyFilled ≡ true → is_early state ≡ true
 early-is EarlyFilled is = refl
-early-is ReturnedEarly is = refl
-early-is Filled is = absurd (false≢true is)
-early-is Waiting is = absurd (false≢true is)
-early-is Out is = absurd (false≢true is)
-early-is ReturnedOk is = absurd (false≢true is)
-early-is ReturnedFailed is = absurd (false≢true is)
+early-is _ is = absurd (false≢true is)
 
-kept-stays : (state : TargetState) → (is_state state Waiting || is_state state Filled) ≡ true → is_returned state ≡ false
+kept-stays : (state : TargetState) → (is_same_state state Waiting || is_same_state state Filled) ≡ true → is_returned state ≡ false
 kept-stays Filled is = refl
 kept-stays Waiting is = refl
-kept-stays Out is = refl
-kept-stays ReturnedEarly is = absurd (false≢true is)
-kept-stays EarlyFilled is = absurd (false≢true is)
-kept-stays ReturnedOk is = absurd (false≢true is)
-kept-stays ReturnedFailed is = absurd (false≢true is)
+kept-stays _ is = absurd (false≢true is)
 
 pub delivery_place : (s : Serving) → IsServing s → (faults : List Fault) (n t : ℕ) (target : TargetView) → is_delivery_ready faults s.parts.rows n t ≡ true → target_in n t s.parts.rows ≡ Some target → is_at (place_in s.parts.buffers target.buffer.0) Device ≡ true
 delivery_place s serving faults n t target ready at =
     let passes = passes-in (may_deliver faults s.parts.rows) n t s.parts.rows target ready at in
-    let state = (and_parts (is_state target.state Filled) (may_return faults s.parts.rows passes.0 target) passes.1).0 in
+    let state = (and_parts (is_same_state target.state Filled) (may_return faults s.parts.rows passes.0 target) passes.1).0 in
     (placed s serving n t target at).device (filled-stays target.state state)
 
 pub early_place : (s : Serving) → IsServing s → (faults : List Fault) (n t : ℕ) (target : TargetView) → is_early_ready faults s.parts.rows n t ≡ true → target_in n t s.parts.rows ≡ Some target → is_at (place_in s.parts.buffers target.buffer.0) Device ≡ true
 early_place s serving faults n t target ready at =
     let passes = passes-in (may_go_early faults s.parts.rows) n t s.parts.rows target ready at in
-    let state = (and_parts (is_state target.state Out) (may_return faults s.parts.rows passes.0 target) passes.1).0 in
+    let state = (and_parts (is_same_state target.state Out) (may_return faults s.parts.rows passes.0 target) passes.1).0 in
     (placed s serving n t target at).device (out-stays target.state state)
 
 pub failed_place : (s : Serving) → IsServing s → (n t : ℕ) (target : TargetView) → is_failed_return_ready s.parts.rows n t ≡ true → target_in n t s.parts.rows ≡ Some target → is_at (place_in s.parts.buffers target.buffer.0) Device ≡ true
 failed_place s serving n t target ready at =
     let passes = passes-in may_return_failed n t s.parts.rows target ready at in
     let row = passes.0 in
-    let kept = (and_parts (row.request_error || target.announced) (not (is_sensor_out row.sensor) && (is_state target.state Waiting || is_state target.state Filled)) passes.1).1 in
-    let state = (and_parts (not (is_sensor_out row.sensor)) (is_state target.state Waiting || is_state target.state Filled) kept).1 in
+    let kept = (and_parts (row.request_error || target.announced) (not (is_sensor_out row.sensor) && (is_same_state target.state Waiting || is_same_state target.state Filled)) passes.1).1 in
+    let state = (and_parts (not (is_sensor_out row.sensor)) (is_same_state target.state Waiting || is_same_state target.state Filled) kept).1 in
     (placed s serving n t target at).device (kept-stays target.state state)
 
 -- a picture that comes late is of a buffer that the client has, with a device fence that isn't signalled
-pub finish_place : (s : Serving) → IsServing s → (n t : ℕ) (target : TargetView) → is_finish_ready s.parts.rows n t ≡ true → target_in n t s.parts.rows ≡ Some target → (d : FenceNo) × IsAwaited s.parts.buffers target.buffer.0 d
+pub finish_place : (s : Serving) → IsServing s → (n t : ℕ) (target : TargetView) → is_finish_ready s.parts.rows n t ≡ true → target_in n t s.parts.rows ≡ Some target → (d : DeviceFenceNo) × IsAwaited s.parts.buffers target.buffer.0 d
 finish_place s serving n t target ready at =
-    let passes = passes-in (λ row x. is_state x.state EarlyFilled) n t s.parts.rows target ready at in
+    let passes = passes-in (λ row x. is_same_state x.state EarlyFilled) n t s.parts.rows target ready at in
     (placed s serving n t target at).early (early-is target.state passes.1)
 
 -- the target whose buffer it is

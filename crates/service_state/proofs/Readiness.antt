@@ -21,7 +21,7 @@ use Rattle.buffer_manager.specs.Taking.{least_targets_in}
 use Rattle.state_facts.specs.Replies.{begin_in, call_in}
 use Rattle.state_facts.specs.States.{send_of, targets_in}
 use Rattle.device_rows.specs.Jobs.{fill_job_in, fill_job_of, is_fill_out}
-use Rattle.device_rows.specs.Ready.{is_finish_ready, is_state, passes_at, target_passes}
+use Rattle.device_rows.specs.Ready.{is_finish_ready, is_same_state, passes_at, target_passes}
 use Rattle.cam_types.specs.declared.row.TargetState.TheVariants.{EarlyFilled}
 use Rattle.device_rows.specs.Rows.{row_at, target_at, target_in}
 use Rattle.run_rows.specs.Kept.{is_no_row}
@@ -118,7 +118,7 @@ finish_is s serving n t =
     let entry = late_entry (digest_by s.parts n.0 t.0) in
     let fence = early_fence_by s.parts n.0 t.0 in
     where-some (Finish n t) (is_finish_ready s.parts.rows n.0 t.0) (option_map entry fence)
-    (λ may. maps entry fence ∙ by may (target_in n.0 t.0 s.parts.rows) refl (stands-in (λ row target. is_state target.state EarlyFilled) t.0 (row_at n.0 s.parts.rows) may))
+    (λ may. maps entry fence ∙ by may (target_in n.0 t.0 s.parts.rows) refl (stands-in (λ row target. is_same_state target.state EarlyFilled) t.0 (row_at n.0 s.parts.rows) may))
   where
     by : is_finish_ready s.parts.rows n.0 t.0 ≡ true → (o : Option TargetView) → target_in n.0 t.0 s.parts.rows ≡ o → is_some o ≡ true → is_some (early_fence_by s.parts n.0 t.0) ≡ true
     by may (Some target) at there = rw (at, (finish_place s serving n.0 t.0 target may at).1.fence) refl

@@ -3,6 +3,7 @@ use Rattle.std.proofs.Common.{◌≡◌, ◌<◌, ◌^◌, ℕ, ◌+◌, true, S
 use Rattle.std.specs.List.{list_all}
 use Rattle.cam_types.specs.Limits.{frame_time}
 use Rattle.cam_types.specs.declared.number.BufferId.{BufferId}
+use Rattle.cam_types.specs.declared.number.DeviceFenceNo.{DeviceFenceNo}
 use Rattle.cam_types.specs.declared.number.FenceNo.{FenceNo}
 use Rattle.cam_types.specs.declared.number.FrameNo.{FrameNo}
 use Rattle.cam_types.specs.declared.number.StreamIx.{StreamIx}
@@ -38,7 +39,7 @@ release_has_room s serving b f ready =
     let r = serving.run in
     rw (ap (λ p. p.buffers) r.left) (fences_fit s.script (trace_of r.history) b f (legal_next s.script s.parts r (move_with (Release b) (Some (ReleaseEntry b f))) ready))
 
-pub early_has_room : (s : Serving) → IsServing s → (n : FrameNo) (t : StreamIx) (b : BufferId) (d : FenceNo) → move_by s.script s.parts (Early n t) ≡ Some (move_with (Early n t) (Some (EarlyEntry n t b d))) → length s.parts.buffers.late < early_bound s.script
+pub early_has_room : (s : Serving) → IsServing s → (n : FrameNo) (t : StreamIx) (b : BufferId) (d : DeviceFenceNo) → move_by s.script s.parts (Early n t) ≡ Some (move_with (Early n t) (Some (EarlyEntry n t b d))) → length s.parts.buffers.late < early_bound s.script
 early_has_room s serving n t b d ready =
     let r = serving.run in
     rw (ap (λ p. p.buffers) r.left) (earlies_fit s.script (trace_of r.history) n t b d (legal_next s.script s.parts r (move_with (Early n t) (Some (EarlyEntry n t b d))) ready))

@@ -1,5 +1,5 @@
 -- A send: when it is ready, what it leaves, and what the device asks of its row.
-use Rattle.std.proofs.Common.{◌≡◌, ◌<◌, ◌^◌, ℕ, ◌+◌, true, false, List, [], ◌∷◌, ◌++◌, Option, Some, None, refl, sym, ap, ◌∙◌, inl, inr, length}
+use Rattle.std.proofs.Common.{◌≡◌, ◌<◌, ◌^◌, ℕ, ◌+◌, true, false, List, [], ◌∷◌, ◌++◌, Option, Some, None, refl, sym, ap, subst, ◌∙◌, inl, inr, length}
 use Rattle.std.proofs.lemmas.Bool.{cases_Bool}
 use Rattle.cam_types.specs.Four.{four_list, four_of}
 use Rattle.cam_types.specs.declared.four.Four.{Four}
@@ -23,9 +23,8 @@ use Rattle.state_facts.specs.Turns.{settings_next}
 use Rattle.state_facts.specs.States.{targets_in}
 use Rattle.state_facts.proofs.Fits.{numbers_fit}
 use Rattle.run_rows.specs.Changes.{fresh_row, fresh_target, fresh_targets}
-use Rattle.std.proofs.Common.{is_none, slice_get}
+use Rattle.std.proofs.Common.{slice_get}
 use Rattle.std.specs.Option.{option_map}
-use Rattle.std.proofs.lemmas.Bool.{false≢true}
 use Rattle.cam_types.specs.declared.request.WaitingItem.{WaitingItem}
 use Rattle.cam_types.specs.declared.stream.StreamSpec.{StreamSpec}
 use Rattle.buffer_pool.specs.declared.parked.Parked.{Parked}
@@ -42,7 +41,7 @@ use Rattle.service_parts.specs.Moves.{may_go_by, move_by}
 use Rattle.service_parts.specs.Parts.{Parts, base}
 use Rattle.service_state.specs.Answers.{Makes, move_with}
 use Rattle.service_state.specs.Serving.{IsServing, Serving}
-use Rattle.service_state.proofs.Made.{fits_next, makes, same_parts}
+use Rattle.service_state.proofs.Made.{fits_next, makes, same_parts, serving_as}
 use Rattle.service_state.proofs.Runs.{legal_left, moves, next_left, rows_left, whole_left}
 
 -- the entry of a send
@@ -54,18 +53,18 @@ send_entry p next targets =
 abbrev pub send_left : Serving → Queued → Four Sent → Parts
 send_left s next targets =
     record s.parts {
-      client = client.noted s.script next.repeating false (send_entry s.parts next targets) s.parts.client;
-      queue = queue.noted s.script (send_entry s.parts next targets) s.parts.queue;
-      buffers = buffers.noted (send_entry s.parts next targets) s.parts.buffers;
+      client = client.clients_after s.script next.repeating false (send_entry s.parts next targets) s.parts.client;
+      queue = queue.turns_after s.script (send_entry s.parts next targets) s.parts.queue;
+      buffers = buffers.homes_after (send_entry s.parts next targets) s.parts.buffers;
       pictures = put_all s.parts.buffers.first None (four_list targets) s.parts.pictures;
       rows = s.parts.rows ++ fresh_row next.item.settings (record { 0 = s.parts.queue.numbers }) next.request targets ∷ [];
       last = Some next.item.settings;
     }
 
-pub send_ready : (s : Serving) (next : Queued) (targets : List Sent) → next_of s.parts.queue ≡ Some next → may_go_by s.script s.parts next ≡ true → targets_in (base s.parts) (targets_in_order next.item) ≡ Some targets → move_by s.script s.parts Send ≡ Some (move_with Send (Some (send_entry s.parts next (four_of targets))))
+send_ready : (s : Serving) (next : Queued) (targets : List Sent) → next_of s.parts.queue ≡ Some next → may_go_by s.script s.parts next ≡ true → targets_in (base s.parts) (targets_in_order next.item) ≡ Some targets → move_by s.script s.parts Send ≡ Some (move_with Send (Some (send_entry s.parts next (four_of targets))))
 send_ready s next targets at may took = rw at (rw may (rw took refl))
 
-pub sends : (s : Serving) → IsServing s → (next : Queued) (targets : Four Sent) → next_of s.parts.queue ≡ Some next → move_by s.script s.parts Send ≡ Some (move_with Send (Some (send_entry s.parts next targets))) → Makes s (record { script = s.script; parts = send_left s next targets }) (move_with Send (Some (send_entry s.parts next targets)))
+sends : (s : Serving) → IsServing s → (next : Queued) (targets : Four Sent) → next_of s.parts.queue ≡ Some next → move_by s.script s.parts Send ≡ Some (move_with Send (Some (send_entry s.parts next targets))) → Makes s (record { script = s.script; parts = send_left s next targets }) (move_with Send (Some (send_entry s.parts next targets)))
 sends s serving next targets at ready =
     let m = move_with Send (Some (send_entry s.parts next targets)) in
     makes s (send_left s next targets) m ready
@@ -74,10 +73,10 @@ sends s serving next targets at ready =
     by : (o : Option Queued) → o ≡ Some next → s.parts.rows ++ fresh_row next.item.settings (record { 0 = s.parts.queue.numbers }) next.request targets ∷ [] ≡ s.parts.rows ++ fresh_row (settings_next o) (record { 0 = s.parts.queue.numbers }) next.request targets ∷ []
     by o e = rw e refl
 
-pub send_fits : (s : Serving) → IsServing s → (next : Queued) (targets : Four Sent) → next_of s.parts.queue ≡ Some next → move_by s.script s.parts Send ≡ Some (move_with Send (Some (send_entry s.parts next targets))) → Fits (client.noted s.script next.repeating false (send_entry s.parts next targets) s.parts.client)
+send_fits : (s : Serving) → IsServing s → (next : Queued) (targets : Four Sent) → next_of s.parts.queue ≡ Some next → move_by s.script s.parts Send ≡ Some (move_with Send (Some (send_entry s.parts next targets))) → Fits (client.clients_after s.script next.repeating false (send_entry s.parts next targets) s.parts.client)
 send_fits s serving next targets at ready =
     let m = move_with Send (Some (send_entry s.parts next targets)) in
-    let same : client.noted s.script next.repeating false (send_entry s.parts next targets) s.parts.client ≡ (parts_after s.script m s.parts).client = rw at refl in
+    let same : client.clients_after s.script next.repeating false (send_entry s.parts next targets) s.parts.client ≡ (parts_after s.script m s.parts).client = rw at refl in
     rw same (fits_next s serving m ready)
 
 -- ---- not ready
@@ -90,7 +89,7 @@ no_buffer s next at took = elim (cases_Bool (may_go_by s.script s.parts next)) [
 
 -- ---- what the device asks of the row
 
-pub row_sound : (s : Serving) → IsServing s → (next : Queued) (targets : Four Sent) → next_of s.parts.queue ≡ Some next → move_by s.script s.parts Send ≡ Some (move_with Send (Some (send_entry s.parts next targets))) → IsSound (length s.parts.client.streams) (fresh_row next.item.settings (record { 0 = s.parts.queue.numbers }) next.request targets)
+row_sound : (s : Serving) → IsServing s → (next : Queued) (targets : Four Sent) → next_of s.parts.queue ≡ Some next → move_by s.script s.parts Send ≡ Some (move_with Send (Some (send_entry s.parts next targets))) → IsSound (length s.parts.client.streams) (fresh_row next.item.settings (record { 0 = s.parts.queue.numbers }) next.request targets)
 row_sound s serving next targets at ready =
     let r = serving.run in
     let m = move_with Send (Some (send_entry s.parts next targets)) in
@@ -100,7 +99,7 @@ row_sound s serving next targets at ready =
     let settings : next.item.settings ≡ settings_next (next_item s.script (trace_of r.history)) = ap settings_next (sym at) ∙ (ap (λ p. settings_next (next_of p.queue)) r.left ∙ ap settings_next (sym (next_is s.script (trace_of r.history)))) in
     rw (same, settings) sound
 
-pub row_above : (s : Serving) → IsServing s → (next : Queued) (targets : Four Sent) → move_by s.script s.parts Send ≡ Some (move_with Send (Some (send_entry s.parts next targets))) → are_below s.parts.queue.numbers s.parts.rows ≡ true
+row_above : (s : Serving) → IsServing s → (next : Queued) (targets : Four Sent) → move_by s.script s.parts Send ≡ Some (move_with Send (Some (send_entry s.parts next targets))) → are_below s.parts.queue.numbers s.parts.rows ≡ true
 row_above s serving next targets ready =
     let r = serving.run in
     let m = move_with Send (Some (send_entry s.parts next targets)) in
@@ -108,7 +107,7 @@ row_above s serving next targets ready =
     rw (rows_left s.script s.parts r) (sends_above s.script m r.history (record { 0 = s.parts.queue.numbers }) next.request next.index (are_last s.parts.last next.item.settings) targets run refl)
 
 -- the number of the frame after it fits
-pub send_numbered : (s : Serving) → IsServing s → (next : Queued) (targets : Four Sent) → move_by s.script s.parts Send ≡ Some (move_with Send (Some (send_entry s.parts next targets))) → s.parts.queue.numbers + 1 < 2 ^ 32
+send_numbered : (s : Serving) → IsServing s → (next : Queued) (targets : Four Sent) → move_by s.script s.parts Send ≡ Some (move_with Send (Some (send_entry s.parts next targets))) → s.parts.queue.numbers + 1 < 2 ^ 32
 send_numbered s serving next targets ready =
     let m = move_with Send (Some (send_entry s.parts next targets)) in
     let r = next_left s.script s.parts serving.run m ready in
@@ -129,7 +128,7 @@ drop_numbered s serving w n is ready =
 pub frame_is : (n : FrameNo) (k : ℕ) → n.0 ≡ k → n ≡ record { 0 = k }
 frame_is n k e = (let g : record { 0 = n.0 } ≡ record { 0 = k } = ap (λ (j : ℕ). let f : FrameNo = record { 0 = j } in f) e in g)
 
-pub taken_targets : (o : Option (List Sent)) (targets : Four Sent) → Some targets ≡ option_map four_of o → (ts : List Sent) × (o ≡ Some ts) × (targets ≡ four_of ts)
+taken_targets : (o : Option (List Sent)) (targets : Four Sent) → Some targets ≡ option_map four_of o → (ts : List Sent) × (o ≡ Some ts) × (targets ≡ four_of ts)
 taken_targets (Some ts) targets at = (let k : targets ≡ four_of ts = cc in (ts, refl, k))
 taken_targets None targets at = absurd (cc)
 
@@ -162,3 +161,29 @@ parked_of specs targets parked taken = record {
   c = parked-at specs targets.c parked.c taken.c;
   d = parked-at specs targets.d parked.d taken.d;
 }
+
+-- ---- a send whose item may go and whose buffers are taken
+
+pub record IsSending (s : Serving) (next : Queued) (targets : Four Sent) : Type 0 where
+  pub above : are_below s.parts.queue.numbers s.parts.rows ≡ true
+  pub sound : IsSound (length s.parts.client.streams) (fresh_row next.item.settings (record { 0 = s.parts.queue.numbers }) next.request targets)
+  pub numbered : s.parts.queue.numbers + 1 < 2 ^ 32
+  pub fits : Fits (client.clients_after s.script next.repeating false (send_entry s.parts next targets) s.parts.client)
+  pub made : Makes s (record { script = s.script; parts = send_left s next targets }) (move_with Send (Some (send_entry s.parts next targets)))
+
+pub sending : (s t : Serving) → s ≡ t → IsServing t → (next : Queued) (targets : Four Sent) → Some next ≡ next_of s.parts.queue → true ≡ may_go_by t.script t.parts next → Some targets ≡ option_map four_of (least_targets_in s.parts.buffers (targets_in_order next.item)) → IsSending s next targets
+sending s t same serving' next targets at' may' takes =
+    let serving = serving_as s t same serving' in
+    let at : next_of s.parts.queue ≡ Some next = sym at' in
+    let it = taken_targets (least_targets_in s.parts.buffers (targets_in_order next.item)) targets takes in
+    let took : targets_in (base s.parts) (targets_in_order next.item) ≡ Some it.0 = same_targets s.parts (targets_in_order next.item) ∙ it.1 in
+    let may : may_go_by s.script s.parts next ≡ true = subst (λ (x : Serving). may_go_by x.script x.parts next ≡ true) (sym same) (sym may') in
+    let ready' = send_ready s next it.0 at may took in
+    let ready : move_by s.script s.parts Send ≡ Some (move_with Send (Some (send_entry s.parts next targets))) = rw it.2 ready' in
+    record {
+      above = row_above s serving next targets ready;
+      sound = row_sound s serving next targets at ready;
+      numbered = send_numbered s serving next targets ready;
+      fits = send_fits s serving next targets at ready;
+      made = sends s serving next targets at ready;
+    }

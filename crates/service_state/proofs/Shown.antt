@@ -19,7 +19,7 @@ use Rattle.buffer_pool.specs.Fences.{FencesMade, is_signalled}
 use Rattle.fill_jobs.specs.Buffers.{IsBufferFor}
 use Rattle.trace_model.specs.Picture.{digest, digest_on}
 use Rattle.device_rows.specs.Kept.{has_made_fence, have_made_fences, is_made}
-use Rattle.device_rows.specs.Ready.{is_passed, is_state}
+use Rattle.device_rows.specs.Ready.{is_passed, is_same_state}
 use Rattle.device_rows.specs.Rows.{row_at, target_at, target_in}
 use Rattle.device_store.specs.Steps.{IsBackAt, IsBackRow, IsBackTarget, ShowsAt, ShowsRow, ShowsTarget, waiter_kept, waiter_left}
 use Rattle.run_rows.specs.Entries.{failed_fence}
@@ -91,7 +91,7 @@ pub record IsBackFor (fences : FencesMade) (specs : List StreamSpec) (n s : ℕ)
   pub fence : fence_from parked.waiter ≡ failed_fence (λ k. is_signalled k fences) target
 
 left-fence : (fences : FencesMade) (target : TargetView) → fence_from (waiter_left fences target) ≡ failed_fence (λ k. is_signalled k fences) target
-left-fence fences target = by (is_state target.state Waiting) target.fence
+left-fence fences target = by (is_same_state target.state Waiting) target.fence
   where
     by : (b : Bool) (o : Option FenceNo) → fence_from (if b then waiter_kept fences (option_map (λ (f : FenceNo). f.0) o) else None) ≡ (if b && not (is_passed (λ k. is_signalled k fences) o) then o else None)
     by false o = refl
@@ -136,7 +136,7 @@ waiters_made made (row ∷ rows) all =
     each [] given = refl
     each (target ∷ targets) given =
         let parts = and_parts (is_made made target.fence) (list_all (λ other. is_made made other.fence) targets) given in
-        and_from (has_made_fence made target) (list_all (has_made_fence made) targets) (one (not (is_state target.state Waiting)) parts.0) (each targets parts.1)
+        and_from (has_made_fence made target) (list_all (has_made_fence made) targets) (one (not (is_same_state target.state Waiting)) parts.0) (each targets parts.1)
       where
         one : (b : Bool) → is_made made target.fence ≡ true → (b || is_made made target.fence) ≡ true
         one true e = refl

@@ -3,8 +3,14 @@ use Rattle.std.proofs.Common.{arith, ◌≡◌, ◌<◌, ◌≤◌, ℕ, zero, s
 use Rattle.std.specs.List.{list_all}
 use Rattle.std.proofs.lemmas.Bool.{and_from, cases_Bool, false≢true}
 use Rattle.std.proofs.lemmas.Bool.Decides.{nat_tests}
-use Rattle.buffer_pool.specs.Pending.{are_below, stands, without}
-use Rattle.service_state.specs.Serving.{unsignalled}
+use Rattle.cam_types.specs.declared.script.Script.{Script}
+use Rattle.state_facts.specs.Clients.{Clients}
+use Rattle.buffer_manager.specs.Managed.{Managed}
+use Rattle.buffer_pool.specs.Fences.{FencesMade}
+use Rattle.buffer_pool.specs.Pending.{Pending, are_below, stands, without}
+use Rattle.capture_queue.specs.Captures.{Captures}
+use Rattle.device_core.specs.View.{DeviceView}
+use Rattle.service_state.specs.Serving.{IsKept, unsignalled}
 
 -- ---- the numbers from n on
 
@@ -120,3 +126,24 @@ with_first xs = let place : 0 + length xs ≡ length xs = omega arith in subst (
 
 pub below_first : (xs : List Bool) → are_below (length xs) (unsignalled 0 xs) ≡ true
 below_first xs = let place : 0 + length xs ≡ length xs = omega arith in subst (λ k. are_below k (unsignalled 0 xs) ≡ true) place (all_below 0 xs)
+
+-- a fence that has its signaller may be signalled
+pub may_be_signalled : (f : ℕ) (xs : List Bool) (numbers : List ℕ) → numbers ≡ unsignalled 0 xs → stands f numbers ≡ true → (nat_lt f (length xs) && not (slice_index_or xs f false)) ≡ true
+may_be_signalled f xs numbers same there =
+    let first : stands f (unsignalled 0 xs) ≡ true = rw (sym same) there in
+    sym (stands_first f xs) ∙ first
+
+-- the parts are kept where just fences and signallers change, and still agree
+pub kept_with : (script : Script) (client : Clients) (captures : Captures) (buffers : Managed) (fences fences' : FencesMade) (signals signals' : Pending) (device : DeviceView) → IsKept script client captures buffers fences signals device → fences'.room ≡ fences.room → signals'.room ≡ signals.room → signals'.numbers ≡ unsignalled 0 fences'.signalled → IsKept script client captures buffers fences' signals' device
+kept_with script client captures buffers fences fences' signals signals' device v fence_room signal_room signallers = record {
+  faults = v.faults;
+  depth = v.depth;
+  profile = v.profile;
+  requests = v.requests;
+  fence_room = fence_room ∙ v.fence_room;
+  signal_room = signal_room ∙ v.signal_room;
+  early_room = v.early_room;
+  plan = v.plan;
+  specs = v.specs;
+  signallers = signallers;
+}

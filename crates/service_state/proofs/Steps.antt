@@ -1,7 +1,8 @@
 -- Each step that ends no frame: when it is ready, and what it leaves.
-use Rattle.std.proofs.Common.{◌≡◌, ℕ, ◌+◌, Bool, true, false, ◌&&◌, not, Some, None, refl, sym, ap, length, max, nat_lt, slice_index_or}
+use Rattle.std.proofs.Common.{◌≡◌, ℕ, ◌+◌, true, false, ◌&&◌, not, Some, None, refl, sym, ap, length, max, nat_lt, slice_index_or}
 use Rattle.cam_types.specs.Limits.{frame_time}
 use Rattle.cam_types.specs.declared.number.BufferId.{BufferId}
+use Rattle.cam_types.specs.declared.number.DeviceFenceNo.{DeviceFenceNo}
 use Rattle.cam_types.specs.declared.number.FenceNo.{FenceNo}
 use Rattle.cam_types.specs.declared.number.FrameNo.{FrameNo}
 use Rattle.cam_types.specs.declared.number.StreamIx.{StreamIx}
@@ -29,19 +30,19 @@ use Rattle.service_state.proofs.Runs.{whole_left}
 
 -- ---- releases and signals
 
-pub released : (s : Serving) → IsServing s → (b : BufferId) → (is_at (place_in s.parts.buffers b.0) Client && there_in s.parts.buffers (held_in s.parts.buffers b.0)) ≡ true → (f : FenceNo) → f.0 ≡ length s.parts.buffers.signalled → Makes s (record { script = s.script; parts = record s.parts { buffers = buffers.noted (ReleaseEntry b f) s.parts.buffers; pictures = showing s.parts b.0 None } }) (move_with (Release b) (Some (ReleaseEntry b f)))
+pub released : (s : Serving) → IsServing s → (b : BufferId) → (is_at (place_in s.parts.buffers b.0) Client && there_in s.parts.buffers (held_in s.parts.buffers b.0)) ≡ true → (f : FenceNo) → f.0 ≡ length s.parts.buffers.signalled → Makes s (record { script = s.script; parts = record s.parts { buffers = buffers.homes_after (ReleaseEntry b f) s.parts.buffers; pictures = showing s.parts b.0 None } }) (move_with (Release b) (Some (ReleaseEntry b f)))
 released s serving b may f next =
     let fence : f ≡ record { 0 = length s.parts.buffers.signalled } = ap (λ (k : ℕ). let g : FenceNo = record { 0 = k } in g) next in
     let m = move_with (Release b) (Some (ReleaseEntry b f)) in
     let ready : move_by s.script s.parts (Release b) ≡ Some m = rw (may, fence) refl in
-    makes s (record s.parts { buffers = buffers.noted (ReleaseEntry b f) s.parts.buffers; pictures = showing s.parts b.0 None }) m ready
+    makes s (record s.parts { buffers = buffers.homes_after (ReleaseEntry b f) s.parts.buffers; pictures = showing s.parts b.0 None }) m ready
     (same_parts _ _ refl refl refl refl refl (sym (whole_left s.script s.parts serving.run m ready refl)) refl refl)
 
-pub signalled : (s : Serving) → IsServing s → (f : FenceNo) → (nat_lt f.0 (length s.parts.buffers.signalled) && not (slice_index_or s.parts.buffers.signalled f.0 false)) ≡ true → Makes s (record { script = s.script; parts = record s.parts { buffers = buffers.noted (SignalEntry f) s.parts.buffers } }) (move_with (Signal f) (Some (SignalEntry f)))
+pub signalled : (s : Serving) → IsServing s → (f : FenceNo) → (nat_lt f.0 (length s.parts.buffers.signalled) && not (slice_index_or s.parts.buffers.signalled f.0 false)) ≡ true → Makes s (record { script = s.script; parts = record s.parts { buffers = buffers.homes_after (SignalEntry f) s.parts.buffers } }) (move_with (Signal f) (Some (SignalEntry f)))
 signalled s serving f may =
     let m = move_with (Signal f) (Some (SignalEntry f)) in
     let ready : move_by s.script s.parts (Signal f) ≡ Some m = rw may refl in
-    makes s (record s.parts { buffers = buffers.noted (SignalEntry f) s.parts.buffers }) m ready
+    makes s (record s.parts { buffers = buffers.homes_after (SignalEntry f) s.parts.buffers }) m ready
     (same_parts _ _ refl refl refl refl refl (sym (whole_left s.script s.parts serving.run m ready refl)) refl refl)
 
 pub not_signalled : (s : Serving) (f : FenceNo) → (nat_lt f.0 (length s.parts.buffers.signalled) && not (slice_index_or s.parts.buffers.signalled f.0 false)) ≡ false → move_by s.script s.parts (Signal f) ≡ None
@@ -49,12 +50,12 @@ not_signalled s f may = rw may refl
 
 -- ---- drops
 
-pub dropped : (s : Serving) → IsServing s → (w : WaitingItem) (n : FrameNo) → stopping_in s.parts.client ≡ true → first_in s.parts.queue.waiting ≡ Some w → n.0 ≡ s.parts.queue.numbers → Makes s (record { script = s.script; parts = record s.parts { queue = queue.noted s.script (Dropped n w.request w.index) s.parts.queue } }) (move_with DropQueued (Some (Dropped n w.request w.index)))
+pub dropped : (s : Serving) → IsServing s → (w : WaitingItem) (n : FrameNo) → stopping_in s.parts.client ≡ true → first_in s.parts.queue.waiting ≡ Some w → n.0 ≡ s.parts.queue.numbers → Makes s (record { script = s.script; parts = record s.parts { queue = queue.turns_after s.script (Dropped n w.request w.index) s.parts.queue } }) (move_with DropQueued (Some (Dropped n w.request w.index)))
 dropped s serving w n stops first next =
     let number : n ≡ record { 0 = s.parts.queue.numbers } = ap (λ (k : ℕ). let g : FrameNo = record { 0 = k } in g) next in
     let m = move_with DropQueued (Some (Dropped n w.request w.index)) in
     let ready : move_by s.script s.parts DropQueued ≡ Some m = rw (stops, first, number) refl in
-    makes s (record s.parts { queue = queue.noted s.script (Dropped n w.request w.index) s.parts.queue }) m ready
+    makes s (record s.parts { queue = queue.turns_after s.script (Dropped n w.request w.index) s.parts.queue }) m ready
     (same_parts _ _ refl refl refl refl refl (sym (whole_left s.script s.parts serving.run m ready refl)) refl refl)
 
 -- ---- exposures
@@ -94,10 +95,10 @@ filled s serving n t job out =
 
 -- ---- early returns
 
-pub gone : (s : Serving) → IsServing s → (n : FrameNo) (t : StreamIx) (target : TargetView) (d : FenceNo) → s.script.early ≡ true → is_early_ready s.script.faults s.parts.rows n.0 t.0 ≡ true → target_in n.0 t.0 s.parts.rows ≡ Some target → d.0 ≡ length s.parts.buffers.late → Makes s (record { script = s.script; parts = record s.parts { buffers = buffers.noted (EarlyEntry n t target.buffer d) s.parts.buffers; pictures = showing s.parts target.buffer.0 None; rows = with_row n.0 (gone_early t) s.parts.rows } }) (move_with (Early n t) (Some (EarlyEntry n t target.buffer d)))
+pub gone : (s : Serving) → IsServing s → (n : FrameNo) (t : StreamIx) (target : TargetView) (d : DeviceFenceNo) → s.script.early ≡ true → is_early_ready s.script.faults s.parts.rows n.0 t.0 ≡ true → target_in n.0 t.0 s.parts.rows ≡ Some target → d.0 ≡ length s.parts.buffers.late → Makes s (record { script = s.script; parts = record s.parts { buffers = buffers.homes_after (EarlyEntry n t target.buffer d) s.parts.buffers; pictures = showing s.parts target.buffer.0 None; rows = with_row n.0 (gone_early t) s.parts.rows } }) (move_with (Early n t) (Some (EarlyEntry n t target.buffer d)))
 gone s serving n t target d early may at next =
-    let fence : d ≡ record { 0 = length s.parts.buffers.late } = ap (λ (k : ℕ). let g : FenceNo = record { 0 = k } in g) next in
+    let fence : d ≡ record { 0 = length s.parts.buffers.late } = ap (λ (k : ℕ). let g : DeviceFenceNo = record { 0 = k } in g) next in
     let m = move_with (Early n t) (Some (EarlyEntry n t target.buffer d)) in
     let ready : move_by s.script s.parts (Early n t) ≡ Some m = rw (early, may, at, fence) refl in
-    makes s (record s.parts { buffers = buffers.noted (EarlyEntry n t target.buffer d) s.parts.buffers; pictures = showing s.parts target.buffer.0 None; rows = with_row n.0 (gone_early t) s.parts.rows }) m ready
+    makes s (record s.parts { buffers = buffers.homes_after (EarlyEntry n t target.buffer d) s.parts.buffers; pictures = showing s.parts target.buffer.0 None; rows = with_row n.0 (gone_early t) s.parts.rows }) m ready
     (same_parts _ _ refl refl refl refl refl (sym (whole_left s.script s.parts serving.run m ready refl)) refl refl)

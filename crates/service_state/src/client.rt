@@ -14,7 +14,7 @@ ghost use Rattle.run_rows.specs.Kept.{is_no_row};
 ghost use Rattle.service_state.specs.Answers.{Answers, Makes, move_with};
 ghost use Rattle.service_state.specs.Configuring.{CanTakeAt, IsAccepted, due_in, is_configuration};
 ghost use Rattle.capture_queue.specs.Room.{IsSubmitted};
-ghost use Rattle.state_facts.specs.Turns.{noted};
+ghost use Rattle.state_facts.specs.Turns.{turns_after};
 ghost use Rattle.service_parts.specs.After.{kinds_with};
 ghost use Rattle.trace_model.specs.Calls.{command_at};
 ghost use Rattle.service_state.specs.Serving.{IsServing};
@@ -143,7 +143,7 @@ fn is_stop_word(word: Word) -> bool
 fn take_call(captures: &mut CaptureQueue, script: &Script, index: u32, word: Word, reply: &Reply)
     requires place { CanTakeAt captures.old.turns (command_at script.now index) word reply.now }
     requires room { IsSubmitted reply.now → length captures.old.kinds < captures.old.room }
-    ensures turns { captures.new.turns ≡ noted script.now (Entry.Call index word reply.now) captures.old.turns }
+    ensures turns { captures.new.turns ≡ turns_after script.now (Entry.Call index word reply.now) captures.old.turns }
     ensures kinds { captures.new.kinds ≡ kinds_with script.now (Entry.Call index word reply.now) captures.old.kinds }
     ensures room { captures.new.room ≡ captures.old.room }
 {

@@ -5,7 +5,7 @@ ghost use Rattle.run_rows.specs.Entries.{error_entry};
 ghost use Rattle.service_state.specs.Answers.{Answers};
 ghost use Rattle.service_state.specs.Serving.{IsServing};
 
-use crate::end_frame::{note_end, repeats};
+use crate::end_frame::Ending;
 use crate::state::ServiceState;
 use cam_types::FrameNo;
 use device_rows::ErrorEntry;
@@ -17,19 +17,12 @@ impl ServiceState {
         requires { IsServing self.old }
         ensures { Answers (Fail frame) self.old result self.new }
     {
-        let repeats = repeats(&self.device, &self.captures, frame);
+        let ending = Ending::of(&self.device, &self.captures, frame);
         let error = self.device.fail_next(frame)?;
         let entry = entry_of(error);
         match error {
             ErrorEntry::Device => self.client.note(&self.script, false, false, &entry),
-            _ => note_end(
-                &mut self.client,
-                &mut self.device,
-                &self.script,
-                frame,
-                repeats,
-                &entry,
-            ),
+            _ => ending.note_entry(&mut self.client, &mut self.device, &self.script, &entry),
         }
         Some(entry)
     }

@@ -5,7 +5,7 @@ ghost use Rattle.run_model.specs.declared.step.StepName.TheVariants.{Deliver, Ea
 ghost use Rattle.service_state.specs.Answers.{Answers};
 ghost use Rattle.service_state.specs.Serving.{IsServing};
 
-use crate::end_frame::{note_end, repeats};
+use crate::end_frame::Ending;
 use crate::state::ServiceState;
 use buffer_pool::Waiter;
 use cam_types::{FenceNo, FrameNo, StreamIx};
@@ -18,7 +18,7 @@ impl ServiceState {
         requires { IsServing self.old }
         ensures { Answers (Deliver frame stream) self.old result self.new }
     {
-        let repeats = repeats(&self.device, &self.captures, frame);
+        let ending = Ending::of(&self.device, &self.captures, frame);
         let (pixels, digest) = self.device.deliver(frame, stream)?;
         let buffer = pixels.id();
         self.buffers.deliver(stream, pixels);
@@ -29,14 +29,7 @@ impl ServiceState {
             fence: None,
             digest,
         };
-        note_end(
-            &mut self.client,
-            &mut self.device,
-            &self.script,
-            frame,
-            repeats,
-            &entry,
-        );
+        ending.note_entry(&mut self.client, &mut self.device, &self.script, &entry);
         Some(entry)
     }
 
@@ -66,18 +59,11 @@ impl ServiceState {
         requires { IsServing self.old }
         ensures { Answers (Finish frame stream) self.old result self.new }
     {
-        let repeats = repeats(&self.device, &self.captures, frame);
+        let ending = Ending::of(&self.device, &self.captures, frame);
         let (pixels, digest) = self.device.finish(frame, stream)?;
         let fence = self.buffers.finish(stream, pixels);
         let entry = Entry::Late { fence, digest };
-        note_end(
-            &mut self.client,
-            &mut self.device,
-            &self.script,
-            frame,
-            repeats,
-            &entry,
-        );
+        ending.note_entry(&mut self.client, &mut self.device, &self.script, &entry);
         Some(entry)
     }
 
@@ -87,7 +73,7 @@ impl ServiceState {
         requires { IsServing self.old }
         ensures { Answers (ReturnFailed frame stream) self.old result self.new }
     {
-        let repeats = repeats(&self.device, &self.captures, frame);
+        let ending = Ending::of(&self.device, &self.captures, frame);
         let parked = self.device.return_failed(frame, stream, &mut self.fences)?;
         let buffer = parked.pixels.id();
         let fence = fence_of(&parked.waiter);
@@ -98,14 +84,7 @@ impl ServiceState {
             buffer,
             fence,
         };
-        note_end(
-            &mut self.client,
-            &mut self.device,
-            &self.script,
-            frame,
-            repeats,
-            &entry,
-        );
+        ending.note_entry(&mut self.client, &mut self.device, &self.script, &entry);
         Some(entry)
     }
 }

@@ -1,5 +1,5 @@
 -- A step that is made: the run goes on by its move, and the jobs that are out follow.
-use Rattle.std.proofs.Common.{◌≡◌, ℕ, true, List, ◌∷◌, Option, Some, None, refl, ◌∙◌, ap, is_some, is_none, inl, inr}
+use Rattle.std.proofs.Common.{arith, ◌≡◌, ◌<◌, ℕ, true, List, ◌∷◌, Option, Some, None, refl, ◌∙◌, ap, is_some, is_none, inl, inr, length}
 use Rattle.std.specs.Option.{option_map}
 use Rattle.std.proofs.lemmas.Bool.{cases_Bool, eqb-true, false≢true}
 use Rattle.cam_types.specs.Script.{is_valid}
@@ -17,25 +17,38 @@ use Rattle.run_model.specs.Jobs.{IsJobOut}
 use Rattle.run_model.specs.Ready.{is_ready, move_of}
 use Rattle.run_model.specs.Run.{IsRun}
 use Rattle.run_model.specs.State.{State}
-use Rattle.fill_jobs.specs.Held.{fill_job_in, held_at, is_of_stream, sensor_job_in}
-use Rattle.service_parts.specs.Outs.{AreOut, Takes, TakesWith}
+use Rattle.fill_jobs.specs.Held.{IsWith, fill_job_in, held_at, is_of_stream, sensor_job_in}
+use Rattle.service_parts.specs.Outs.{AreOut, Takes, TakesWith, takes_a_job}
+use Rattle.service_parts.proofs.Few.{depth_few, room_left}
 use Rattle.service_parts.proofs.Held.{held-frame}
 use Rattle.service_core.specs.Answers.{after}
-use Rattle.service_parts.proofs.Moved.{fill-found}
+use Rattle.service_parts.proofs.Moved.{fill-found, takes_out}
 
 -- ---- the run with one more move
 
 pub run_on : (old new : State) (m : Move) → new ≡ after m old → IsRun new.script new.history → IsRun old.script (m ∷ old.history)
 run_on old new m left run = rw left at run
 
-pub valid_on : (old new : State) (m : Move) → new ≡ after m old → is_valid new.script ≡ true → is_valid old.script ≡ true
+valid_on : (old new : State) (m : Move) → new ≡ after m old → is_valid new.script ≡ true → is_valid old.script ≡ true
 valid_on old new m left valid = rw left at valid
 
-pub job_on : (old new : State) (m : Move) (job : JobView) → new ≡ after m old → IsJobOut new.script new.history job → IsJobOut old.script (m ∷ old.history) job
+job_on : (old new : State) (m : Move) (job : JobView) → new ≡ after m old → IsJobOut new.script new.history job → IsJobOut old.script (m ∷ old.history) job
 job_on old new m job left out = rw left at out
 
 pub jobs_on : (old new : State) (m : Move) (jobs : List JobView) → new ≡ after m old → AreOut old.script (m ∷ old.history) jobs → AreOut new.script new.history jobs
 jobs_on old new m jobs left out = rw left out
+
+-- the hands have room for the job that a move takes
+pub has_place : (old new : State) (m : Move) (jobs : List JobView) → new ≡ after m old → IsRun new.script new.history → is_valid new.script ≡ true → AreOut old.script old.history jobs → takes_a_job m.step ≡ true → length jobs < 16
+has_place old new m jobs left run valid out takes =
+    let few = room_left old.script m old.history jobs (run_on old new m left run) out takes in
+    let depth = depth_few old.script (valid_on old new m left valid) in
+    omega (arith, few, depth)
+
+-- and hold the jobs that are out once it is put there
+pub taken_on : (old new : State) (m : Move) (job : JobView) (jobs held : List JobView) → new ≡ after m old → IsRun new.script new.history → AreOut old.script old.history jobs → Takes m job → IsJobOut new.script new.history job → IsWith job jobs held → AreOut new.script new.history held
+taken_on old new m job jobs held left run out takes is with_ =
+    jobs_on old new m held left (takes_out old.script m old.history jobs held job (run_on old new m left run) out takes (job_on old new m job left is) with_)
 
 -- ---- a step that is ready has a move
 

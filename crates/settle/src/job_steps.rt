@@ -9,9 +9,7 @@ ghost use Rattle.settle.specs.Stepping.{EndsJob, HoldsJobs, MakesStep};
 use cam_types::{FrameNo, StreamIx};
 use fill_jobs::{Hands, JobName, the_first_job_is_found_by_its_frame};
 use service_core::{Service, Shuttered};
-use service_parts::{
-    a_move_gives_a_job_back, a_move_takes_a_job_out, few_jobs_are_out, jobs_that_end_are_out,
-};
+use service_parts::{a_move_gives_a_job_back, jobs_that_end_are_out};
 
 /// Begins an exposure.
 pub(crate) fn expose(service: &mut Service, hands: &mut Hands)
@@ -20,8 +18,6 @@ pub(crate) fn expose(service: &mut Service, hands: &mut Hands)
     ensures made { MakesStep service.old service.new Shutter }
     ensures jobs { HoldsJobs service.new hands.new }
 {
-    a_move_takes_a_job_out();
-    few_jobs_are_out();
     match service.shutter() {
         Shuttered::Began(_, job) => {
             service.is_a_run();
@@ -57,8 +53,6 @@ pub(crate) fn fill(service: &mut Service, hands: &mut Hands, frame: FrameNo, str
     ensures made { MakesStep service.old service.new (TakeFill frame stream) }
     ensures jobs { HoldsJobs service.new hands.new }
 {
-    a_move_takes_a_job_out();
-    few_jobs_are_out();
     match service.take_fill(frame, stream) {
         Some(job) => {
             service.is_a_run();

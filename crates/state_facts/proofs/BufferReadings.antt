@@ -6,7 +6,7 @@ use Rattle.std.proofs.lemmas.Bool.Decides.{nat_tests}
 use Rattle.std.proofs.lemmas.List.{get_or_past}
 use Rattle.std.proofs.lemmas.List.Folds.{list_all-map}
 use Rattle.std.proofs.lemmas.List.FromFn.{get_or-map-range_with_len, length-map-range_with_len}
-use Rattle.cam_types.specs.declared.number.FenceNo.{FenceNo}
+use Rattle.cam_types.specs.declared.number.DeviceFenceNo.{DeviceFenceNo}
 use Rattle.cam_types.specs.declared.script.Script.{Script}
 use Rattle.trace_model.specs.declared.entry.Entry.{Entry}
 use Rattle.trace_model.specs.declared.entry.Entry.TheVariants.{Release, Signal}
@@ -80,7 +80,7 @@ held_is script past b legal own =
     let at = buffer-within script past b legal own in
     sym (get_or-map-range_with_len (λ c. early_fence_of c past) (first_buffer past) (count_in (made past)) (b - first_buffer past) b None (omega (arith, at.0, at.1)) (omega (arith, at.0)))
 
-there-is : (script : Script) (past : List Entry) (o : Option FenceNo) → IsLegal script past → is_there o past ≡ there_in (homes past) o
+there-is : (script : Script) (past : List Entry) (o : Option DeviceFenceNo) → IsLegal script past → is_there o past ≡ there_in (homes past) o
 there-is script past None legal = refl
 there-is script past (Some d) legal = late_is script past d.0 legal
 

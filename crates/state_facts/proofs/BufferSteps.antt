@@ -6,6 +6,7 @@ use Rattle.std.proofs.lemmas.Bool.{cases_Bool, le-leb}
 use Rattle.std.proofs.lemmas.List.FromFn.{length-map-range_with_len}
 use Rattle.cam_types.specs.Four.{four_list}
 use Rattle.cam_types.specs.declared.four.Four.{Four}
+use Rattle.cam_types.specs.declared.number.DeviceFenceNo.{DeviceFenceNo}
 use Rattle.cam_types.specs.declared.number.FenceNo.{FenceNo}
 use Rattle.cam_types.specs.declared.reply.Made.{Made}
 use Rattle.cam_types.specs.declared.reply.Reply.TheVariants.{Configured}
@@ -22,7 +23,7 @@ use Rattle.trace_model.specs.Send.{may_send}
 use Rattle.trace_model.proofs.LawLemmas.{at-device}
 use Rattle.trace_laws.proofs.Shapes.{early-from-device, filled-from-device, release-is}
 use Rattle.trace_laws.proofs.Returns.{failed-back}
-use Rattle.state_facts.specs.Homes.{Homes, count_in, first_buffer, homes, noted, numbers, put_all}
+use Rattle.state_facts.specs.Homes.{Homes, count_in, first_buffer, homes, homes_after, numbers, put_all}
 use Rattle.state_facts.proofs.Made.{buffer-within, next-buffer}
 use Rattle.state_facts.proofs.Own.{at-client, out-own, targets-own, unnamed}
 use Rattle.basic_lemmas.proofs.Ranges.{map-all, set-one}
@@ -30,7 +31,7 @@ use Rattle.state_facts.proofs.Ranges.{set-all}
 use Rattle.state_facts.proofs.Signals.{marks-given, marks-late, marks-released, marks-signalled}
 use Rattle.basic_lemmas.proofs.Lists.{all-where, map-same}
 
-same-homes : (ms : List Made) (a b : ℕ) (p q : List Place) (f g : List (Option FenceNo)) (s t : List Bool) (h k : List (Option FenceNo)) (l m : List Bool) → a ≡ b → p ≡ q → f ≡ g → s ≡ t → h ≡ k → l ≡ m → ◌≡◌ {A = Homes} (record { made = ms; first = a; places = p; fences = f; signalled = s; held = h; late = l }) (record { made = ms; first = b; places = q; fences = g; signalled = t; held = k; late = m })
+same-homes : (ms : List Made) (a b : ℕ) (p q : List Place) (f g : List (Option FenceNo)) (s t : List Bool) (h k : List (Option DeviceFenceNo)) (l m : List Bool) → a ≡ b → p ≡ q → f ≡ g → s ≡ t → h ≡ k → l ≡ m → ◌≡◌ {A = Homes} (record { made = ms; first = a; places = p; fences = f; signalled = s; held = h; late = l }) (record { made = ms; first = b; places = q; fences = g; signalled = t; held = k; late = m })
 same-homes ms a b p q f g s t h k l m w x y z u v = rw (w, x, y, z, u, v) refl
 
 -- ---- what is read from the last entry that names a buffer
@@ -72,7 +73,7 @@ next-first past = rw (length-map-range_with_len (λ b. place b past) (first_buff
 moved : (past : List Entry) (e : Entry) (c : ℕ) → first_buffer past ≤ c → ((b : ℕ) → names b e ≡ (c == b)) → (map (λ b. place b (e ∷ past)) (numbers past) ≡ slice_set (map (λ b. place b past) (numbers past)) (c - first_buffer past) (place_after (Some e))) × (map (λ b. fence_of b (e ∷ past)) (numbers past) ≡ slice_set (map (λ b. fence_of b past) (numbers past)) (c - first_buffer past) (fence_after (Some e))) × (map (λ b. early_fence_of b (e ∷ past)) (numbers past) ≡ slice_set (map (λ b. early_fence_of b past) (numbers past)) (c - first_buffer past) (early_fence_after (Some e)))
 moved past e c low h = (one-named place_after past e c (first_buffer past) (count_in (made past)) low h, one-named fence_after past e c (first_buffer past) (count_in (made past)) low h, one-named early_fence_after past e c (first_buffer past) (count_in (made past)) low h)
 
-pub noted_is : (script : Script) (past : List Entry) (e : Entry) → IsLegal script (e ∷ past) → homes (e ∷ past) ≡ noted e (homes past)
+pub noted_is : (script : Script) (past : List Entry) (e : Entry) → IsLegal script (e ∷ past) → homes (e ∷ past) ≡ homes_after e (homes past)
 noted_is script past (Call i word (Configured each)) legal =
     same-homes _ _ _ _ _ _ _ _ _ _ _ _ _ (next-first past) (none-named place_after script past (count_in (four_list each)) legal.1) (none-named fence_after script past (count_in (four_list each)) legal.1) refl (none-named early_fence_after script past (count_in (four_list each)) legal.1) refl
 noted_is script past (Call i word _) legal = refl

@@ -15,14 +15,13 @@ use Rattle.trace_model.specs.Filled.{is_sound}
 use Rattle.trace_model.specs.Frames.{each_earlier, has_error, has_error_request, has_shutter, has_target, is_sent, settings_of, shutter_time, target_of}
 use Rattle.trace_model.specs.Legal.{IsLegal}
 use Rattle.trace_model.specs.Open.{has_error_buffer, has_error_result, has_part, has_something, is_metadata_ended, is_returned}
-use Rattle.trace_model.specs.Partial.{may_part, part_count, part_of}
+use Rattle.trace_model.specs.Partial.{may_have_partial, partial_count, partial_of}
 use Rattle.trace_model.specs.Place.{is_at_device_by}
 use Rattle.trace_model.specs.Stopping.{is_stopped}
-use Rattle.trace_laws.proofs.Shapes.{early-is, filled-is}
 use Rattle.trace_laws.proofs.Parts.{part-is}
 use Rattle.trace_laws.proofs.Returns.{early-well, filled-well}
 use Rattle.basic_lemmas.proofs.Lists.{any-where}
-use Rattle.basic_lemmas.proofs.Tests.{passed-where}
+use Rattle.basic_lemmas.proofs.Tests.{passed-where, or-alone, or-crossed-three}
 use Rattle.trace_laws.proofs.Shutters.{request_is_error}
 use Rattle.trace_laws.proofs.Metadata.{result-is-error}
 
@@ -51,21 +50,11 @@ abbrev is_something : ℕ → Entry → Bool
 is_something n e = is_partial n e || (returns_of_frame n e || is_error_of n e)
 
 something_step : (n : ℕ) (e : Entry) (past : List Entry) → has_something n (e ∷ past) ≡ (is_something n e || has_something n past)
-something_step n e past = six (is_partial n e) (list_any (is_partial n) past) (returns_of_frame n e) (list_any (returns_of_frame n) past) (is_error_of n e) (has_error n past)
-  where
-    six : (a x b y c z : Bool) → ((a || x) || ((b || y) || (c || z))) ≡ ((a || (b || c)) || (x || (y || z)))
-    six true x b y c z = refl
-    six false true true y c z = refl
-    six false true false y true z = refl
-    six false true false y false z = refl
-    six false false true y c z = refl
-    six false false false true true z = refl
-    six false false false true false z = refl
-    six false false false false c z = refl
+something_step n e past = or-crossed-three (is_partial n e) (list_any (is_partial n) past) (returns_of_frame n e) (list_any (returns_of_frame n) past) (is_error_of n e) (has_error n past)
 
-part_given : (script : Script) (past : List Entry) (n k : ℕ) (o : Option ℕ) (e : Entry) → part_of script past n k o ≡ Some e → may_part script past n k ≡ true
+part_given : (script : Script) (past : List Entry) (n k : ℕ) (o : Option ℕ) (e : Entry) → partial_of script past n k o ≡ Some e → may_have_partial script past n k ≡ true
 part_given script past n k None e h = absurd (cc)
-part_given script past n k (Some time) e h = passed-where (may_part script past n k) (Partial (record { 0 = n }) k (part_at k (settings_of script past n) time)) e h
+part_given script past n k (Some time) e h = passed-where (may_have_partial script past n k) (Partial (record { 0 = n }) k (part_at k (settings_of script past n) time)) e h
 
 no_fault : (a b f c : Bool) → ((not a && (not b && not f)) && c) ≡ true → not f ≡ true
 no_fault false false false c h = refl
@@ -96,70 +85,33 @@ buffer_error n s _ h = absurd (false≢true h)
 pub error-something : (n : ℕ) (past : List Entry) → has_error n past ≡ true → has_something n past ≡ true
 error-something n past h = or_right (list_any (is_partial n) past) (list_any (returns_of_frame n) past || has_error n past) (or_right (list_any (returns_of_frame n) past) (has_error n past) h)
 
+-- a good buffer comes of a frame with a shutter and no request fault
+sound_cause : (script : Script) (past : List Entry) (n s : ℕ) → has_shutter n past ≡ true → is_sound script past n s ≡ true → IsCaused script past n
+sound_cause script past n s shutter sound = record {
+  began = or_left (has_shutter n past) (has_error_request n past) shutter;
+  fault = or_left (not (request_fault script n)) (has_error_request n past || is_stopped n past) (and_parts (not (request_fault script n)) (not (buffer_fault script n s)) (and_parts (not (request_fault script n) && not (buffer_fault script n s)) (not (has_error_request n past) && not (has_error_buffer n s past)) sound).0).0;
+}
+
 cause_of : (script : Script) (past : List Entry) (e : Entry) (n : ℕ) → IsLegal script (e ∷ past) → (has_something n past ≡ true → IsCaused script past n) → is_something n e ≡ true → IsCaused script (e ∷ past) n
 cause_of script past (Partial m k part) n legal before h =
-    let at : m.0 ≡ n = eqb-true m.0 n (alone (m.0 == n) h) in
+    let at : m.0 ≡ n = eqb-true m.0 n (or-alone (m.0 == n) h) in
     let shutter = (part-is script past m k part legal.0).shutter in
-    let may = part_given script past m.0 (part_count m.0 past + 1) (shutter_time m.0 past) (Partial m k part) legal.0 in
-    let sound = no_fault (has_error_request m.0 past) (has_error_result m.0 past) (request_fault script m.0) (nat_le (part_count m.0 past + 1) 3 && (not (part_count m.0 past + 1 == 3) || (not (result_fault script m.0) && each_earlier m.0 (λ j. is_metadata_ended j past) past))) may in
+    let may = part_given script past m.0 (partial_count m.0 past + 1) (shutter_time m.0 past) (Partial m k part) legal.0 in
+    let sound = no_fault (has_error_request m.0 past) (has_error_result m.0 past) (request_fault script m.0) (nat_le (partial_count m.0 past + 1) 3 && (not (partial_count m.0 past + 1 == 3) || (not (result_fault script m.0) && each_earlier m.0 (λ j. is_metadata_ended j past) past))) may in
     still_caused script past (Partial m k part) n (rw (← at) (record { began = or_left (has_shutter m.0 past) (has_error_request m.0 past) shutter; fault = or_left (not (request_fault script m.0)) (has_error_request m.0 past || is_stopped m.0 past) sound }))
-  where
-    alone : (a : Bool) → (a || (false || false)) ≡ true → a ≡ true
-    alone true h = refl
-    alone false h = h
 cause_of script past (Filled m s b f d) n legal before h =
-    let at : m.0 ≡ n = eqb-true m.0 n (alone (m.0 == n) h) in
-    let is = filled-is script past m s b f d legal.0 in
-    let sound = (filled-well script past m s b f d legal.0).sound in
-    let none = sound_parts (request_fault script m.0) (buffer_fault script m.0 s.0) (not (has_error_request m.0 past) && not (has_error_buffer m.0 s.0 past)) sound in
-    let t : Sent = is.0 in
-    let shutter = filled_shutter (is_at_device_by m.0 s.0 t.buffer.0 past) (has_shutter m.0 past) (is_sound script past m.0 s.0) _ is.2 in
-    still_caused script past (Filled m s b f d) n (rw (← at) (record { began = or_left (has_shutter m.0 past) (has_error_request m.0 past) shutter; fault = or_left (not (request_fault script m.0)) (has_error_request m.0 past || is_stopped m.0 past) none }))
-  where
-    alone : (a : Bool) → (false || (a || false)) ≡ true → a ≡ true
-    alone true h = refl
-    alone false h = h
-
-    sound_parts : (f b c : Bool) → ((not f && not b) && c) ≡ true → not f ≡ true
-    sound_parts false b c h = refl
-    sound_parts true b c h = absurd (false≢true h)
-
-    filled_shutter : (a s c d : Bool) → ((a && (s && c)) && d) ≡ true → s ≡ true
-    filled_shutter true true c d h = refl
-    filled_shutter true false c d h = absurd (false≢true h)
-    filled_shutter false s c d h = absurd (false≢true h)
+    let well = filled-well script past m s b f d legal.0 in
+    still_caused script past (Filled m s b f d) n (rw (← eqb-true m.0 n (or-alone (m.0 == n) h)) (sound_cause script past m.0 s.0 well.shutter well.sound))
 cause_of script past (Early m s b d) n legal before h =
-    let at : m.0 ≡ n = eqb-true m.0 n (alone (m.0 == n) h) in
-    let is = early-is script past m s b d legal.0 in
-    let sound = (early-well script past m s b d legal.0).sound in
-    let none = sound_parts (request_fault script m.0) (buffer_fault script m.0 s.0) (not (has_error_request m.0 past) && not (has_error_buffer m.0 s.0 past)) sound in
-    let t : Sent = is.0 in
-    let shutter = early_shutter (is_at_device_by m.0 s.0 t.buffer.0 past) (has_shutter m.0 past) (is_sound script past m.0 s.0) _ is.2 in
-    still_caused script past (Early m s b d) n (rw (← at) (record { began = or_left (has_shutter m.0 past) (has_error_request m.0 past) shutter; fault = or_left (not (request_fault script m.0)) (has_error_request m.0 past || is_stopped m.0 past) none }))
-  where
-    alone : (a : Bool) → (false || (a || false)) ≡ true → a ≡ true
-    alone true h = refl
-    alone false h = h
-
-    sound_parts : (f b c : Bool) → ((not f && not b) && c) ≡ true → not f ≡ true
-    sound_parts false b c h = refl
-    sound_parts true b c h = absurd (false≢true h)
-
-    early_shutter : (a s c d : Bool) → ((a && (s && c)) && d) ≡ true → s ≡ true
-    early_shutter true true c d h = refl
-    early_shutter true false c d h = absurd (false≢true h)
-    early_shutter false s c d h = absurd (false≢true h)
+    let well = early-well script past m s b d legal.0 in
+    still_caused script past (Early m s b d) n (rw (← eqb-true m.0 n (or-alone (m.0 == n) h)) (sound_cause script past m.0 s.0 well.shutter well.sound))
 cause_of script past (Failed m s b f) n legal before h =
-    let at : m.0 ≡ n = eqb-true m.0 n (alone (m.0 == n) h) in
+    let at : m.0 ≡ n = eqb-true m.0 n (or-alone (m.0 == n) h) in
     let cause = rw at at (failed_cause past m.0 s.0 (target_of m.0 s.0 past) (Failed m s b f) legal.0) in
     still_caused script past (Failed m s b f) n (elim (cases_Bool (has_error_request n past)) [
       | inl had ↦ whole script past n had
       | inr none ↦ (let named = rw none at cause in before (error-something n past (any-where (is_error_buffer n s.0) (is_error_of n) past (buffer_error n s.0) named)))
     ])
-  where
-    alone : (a : Bool) → (false || (a || false)) ≡ true → a ≡ true
-    alone true h = refl
-    alone false h = h
 cause_of script past (ErrorRequest m) n legal before h = whole script (ErrorRequest m ∷ past) n (or_left (m.0 == n) (has_error_request n past) h)
 cause_of script past (ErrorResult m) n legal before h =
     let at : m.0 ≡ n = eqb-true m.0 n h in

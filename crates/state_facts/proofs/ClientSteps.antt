@@ -15,7 +15,7 @@ use Rattle.trace_model.specs.Legal.{IsLegal}
 use Rattle.trace_model.specs.Numbers.{call_count}
 use Rattle.trace_model.specs.Open.{is_done}
 use Rattle.trace_laws.proofs.Calls.{call-is}
-use Rattle.state_facts.specs.Clients.{Clients, clients, finishes, noted, repeats, streams_called}
+use Rattle.state_facts.specs.Clients.{Clients, clients, finishes, clients_after, repeats, streams_called}
 use Rattle.state_facts.proofs.Done.{done-given, done-sent, done-signalled, done-submitted, one-finished}
 use Rattle.basic_lemmas.proofs.Counts.{count-one}
 use Rattle.basic_lemmas.proofs.Lists.{filter-none}
@@ -46,7 +46,7 @@ streams-called : (script : Script) (past : List Entry) (i : ℕ) (word : Word) (
 streams-called script past i word (Configured each) = refl
 streams-called script past i word _ = refl
 
-pub noted_is : (script : Script) (past : List Entry) (e : Entry) → IsLegal script (e ∷ past) → clients script (e ∷ past) ≡ noted script (repeats script past e) (finishes script past e) e (clients script past)
+pub noted_is : (script : Script) (past : List Entry) (e : Entry) → IsLegal script (e ∷ past) → clients script (e ∷ past) ≡ clients_after script (repeats script past e) (finishes script past e) e (clients script past)
 noted_is script past (Begin word) legal = same-clients _ _ _ _ _ _ _ _ _ _ _ refl refl (done-begun script past word)
 noted_is script past (Call i word reply) legal =
     same-clients _ _ _ _ _ _ _ _ _ _ _ (calls-counted script past i word reply legal.0) (streams-called script past i word reply) (done-called script past i word reply legal.1 legal.0)

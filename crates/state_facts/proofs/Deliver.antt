@@ -17,7 +17,7 @@ use Rattle.trace_model.specs.Numbers.{next_early}
 use Rattle.trace_model.specs.Open.{has_error_buffer, is_returned}
 use Rattle.state_facts.specs.Row.{open_rows, row_of, target_at}
 use Rattle.state_facts.specs.FrameReadings.{EarlyReads, FailedReads, FilledReads, early_from, early_row, each_below, failed_from, failed_row, filled_from, filled_row, lets_pass_row}
-use Rattle.state_facts.proofs.Errors.{done-returned, target-reads, target-stream}
+use Rattle.state_facts.proofs.Errors.{done-returned, target-reads, target-stream, done-passes}
 use Rattle.trace_laws.proofs.Times.{timed-shutter}
 use Rattle.state_facts.proofs.OpenRows.{IsDone, by-row, each-reads}
 use Rattle.trace_laws.proofs.Out.{out-reads}
@@ -52,16 +52,8 @@ passes-reads script past n s =
     turned false false false true = refl
     turned false false false false = refl
 
-done_passes : (past : List Entry) (n s : ℕ) → IsDone past n → lets_pass past s n ≡ true
-done_passes past n s done = more (not (has_target n s past)) (is_returned n s past) (has_error_buffer n s past || has_error_request n past) (done-returned past n s done)
-  where
-    more : (a b c : Bool) → (a || b) ≡ true → (a || (b || c)) ≡ true
-    more true b c h = refl
-    more false true c h = refl
-    more false false c h = absurd (false≢true h)
-
 pub all-pass-reads : (script : Script) (past : List Entry) (n s : ℕ) → IsLegal script past → each_earlier n (lets_pass past s) past ≡ each_below n (lets_pass_row s) (open_rows script past)
-all-pass-reads script past n s legal = each-reads script past n (lets_pass past s) (lets_pass_row s) legal (λ m sent done. done_passes past m s done) (λ m sent. passes-reads script past m s)
+all-pass-reads script past n s legal = each-reads script past n (lets_pass past s) (lets_pass_row s) legal (λ m sent done. done-passes past m s done) (λ m sent. passes-reads script past m s)
 
 -- ---- filled
 

@@ -1,10 +1,10 @@
 -- With which frames the device is done.
 use Rattle.std.proofs.Common.{◌≡◌, ℕ, ◌==◌, ◌+◌, ◌≤◌, Bool, true, false, ◌&&◌, ◌||◌, not, List, [], ◌∷◌, Option, Some, refl, sym, ap, ◌∙◌, arith, inl, inr, filter, find, length, nat_lt}
 use Rattle.std.specs.List.{list_any, list_all}
-use Rattle.std.proofs.lemmas.Bool.{and_from, and_parts, cases_Bool, eqb-true, false≢true, ltb-true, ne_eqb, or_right}
+use Rattle.std.proofs.lemmas.Bool.{and_from, and_parts, cases_Bool, false≢true, ltb-true, ne_eqb}
 use Rattle.cam_types.specs.declared.four.Four.{Four}
 use Rattle.cam_types.specs.declared.number.BufferId.{BufferId}
-use Rattle.cam_types.specs.declared.number.FenceNo.{FenceNo}
+use Rattle.cam_types.specs.declared.number.DeviceFenceNo.{DeviceFenceNo}
 use Rattle.cam_types.specs.declared.number.StreamIx.{StreamIx}
 use Rattle.cam_types.specs.declared.number.FrameNo.{FrameNo}
 use Rattle.cam_types.specs.declared.number.RequestId.{RequestId}
@@ -14,23 +14,19 @@ use Rattle.cam_types.specs.declared.script.Word.{Word}
 use Rattle.trace_model.specs.declared.entry.Entry.{Entry}
 use Rattle.trace_model.specs.declared.entry.Entry.TheVariants.{Call, Send, Partial, ErrorRequest, ErrorResult, Early, Late}
 use Rattle.trace_model.specs.declared.entry.Sent.{Sent}
-use Rattle.trace_model.specs.Allowed.{IsAllowed}
 use Rattle.trace_model.specs.Calls.{request_count}
 use Rattle.trace_model.specs.Client.{before_begin, call_due, done_since_begin}
 use Rattle.trace_model.specs.Entry.{is_early_with, sends}
-use Rattle.trace_model.specs.Errors.{may_fail_request}
 use Rattle.trace_model.specs.Filled.{early_due}
 use Rattle.trace_model.specs.Frames.{frames, is_repeating_frame, is_sent, repeats_in, send_of, targets_of}
 use Rattle.trace_model.specs.Laws.{ends_metadata}
 use Rattle.trace_model.specs.Legal.{IsLegal}
 use Rattle.trace_model.specs.Numbers.{next_number}
-use Rattle.trace_model.specs.Open.{all_settled, has_something, is_done, is_metadata_ended, is_open, is_settled}
+use Rattle.trace_model.specs.Open.{all_settled, is_done, is_metadata_ended, is_settled}
 use Rattle.trace_model.specs.Send.{may_send}
 use Rattle.trace_laws.proofs.Shapes.{late-is}
-use Rattle.trace_laws.proofs.Metadata.{ended-by, result-fails}
-use Rattle.trace_laws.proofs.Parts.{part-is}
+use Rattle.trace_laws.proofs.Metadata.{ended-by}
 use Rattle.trace_laws.proofs.Sends.{sent-below}
-use Rattle.trace_laws.proofs.Shutters.{shutter-sent}
 use Rattle.trace_laws.proofs.Submitted.{request-number}
 use Rattle.trace_laws.proofs.Done.{done-more, done-before}
 use Rattle.trace_laws.proofs.Frames.{below-next, frames-fall, sent-listed}
@@ -38,9 +34,11 @@ use Rattle.trace_laws.proofs.Settled.{settled-early, settled-signalled, not-its}
 use Rattle.state_facts.proofs.Names.{names_request, unnamed}
 use Rattle.state_facts.specs.Clients.{ends_early, ends_frame, finishes, one_if}
 use Rattle.state_facts.proofs.Counts.{filter-agree, one-more}
-use Rattle.basic_lemmas.proofs.Tests.{or-alone, passed-where}
-use Rattle.basic_lemmas.proofs.Lists.{any-behind, all-agree}
+use Rattle.basic_lemmas.proofs.Tests.{or-alone}
+use Rattle.basic_lemmas.proofs.Lists.{all-agree}
 use Rattle.trace_laws.proofs.BufferSends.{send-number}
+use Rattle.basic_lemmas.proofs.Shared.{found-also}
+use Rattle.trace_laws.proofs.Told.{sent-for, tells}
 
 -- ---- an entry of frame n, which changes nothing of the others
 
@@ -84,33 +82,15 @@ one-finished script past e n legal other same =
 
 -- ---- a send, whose frame isn't done
 
-ends-sent : (script : Script) (past : List Entry) (e : Entry) (n : ℕ) → IsLegal script past → IsAllowed script past e → ends_metadata n e ≡ true → is_sent n past ≡ true
-ends-sent script past (Partial j k part) n legal may h =
-    let at = eqb-true j.0 n (and_parts (j.0 == n) (k == 3) (or-alone ((j.0 == n) && (k == 3)) h)).0 in
-    let sent = shutter-sent script past j.0 legal (part-is script past j k part may).shutter in
-    rw at at sent
-ends-sent script past (ErrorResult j) n legal may h =
-    let at = eqb-true j.0 n (or-alone (j.0 == n) h) in
-    let sent = shutter-sent script past j.0 legal (result-fails script past j may).shutter in
-    rw at at sent
-ends-sent script past (ErrorRequest j) n legal may h =
-    let at = eqb-true j.0 n h in
-    let open_ = (and_parts (is_open j.0 past && not (has_something j.0 past)) _ (passed-where (may_fail_request script past j.0) (ErrorRequest (record { 0 = j.0 })) (ErrorRequest j) may)).0 in
-    let sent = (and_parts (is_sent j.0 past) _ (and_parts (is_open j.0 past) (not (has_something j.0 past)) open_).0).0 in
-    rw at at sent
-ends-sent script past _ n legal may h = absurd (false≢true h)
-
-any-ended-sent : (script : Script) (past : List Entry) (n : ℕ) → IsLegal script past → list_any (ends_metadata n) past ≡ true → is_sent n past ≡ true
-any-ended-sent script [] n legal h = absurd (false≢true h)
-any-ended-sent script (e ∷ past) n legal h =
-    elim (cases_Bool (ends_metadata n e)) [
-      | inl here ↦ any-behind (sends n) e past (ends-sent script past e n legal.1 legal.0 here)
-      | inr other ↦ (let h' = rw other at h in any-behind (sends n) e past (any-ended-sent script past n legal.1 h'))
-    ]
+ends-tells : (n : ℕ) (e : Entry) → ends_metadata n e ≡ true → tells n e ≡ true
+ends-tells n (Partial m k part) h = (and_parts (m.0 == n) (k == 3) (or-alone ((m.0 == n) && (k == 3)) h)).0
+ends-tells n (ErrorResult m) h = or-alone (m.0 == n) h
+ends-tells n (ErrorRequest m) h = h
+ends-tells n _ h = absurd (false≢true h)
 
 not-ended : (script : Script) (past : List Entry) (n : ℕ) → IsLegal script past → next_number past ≤ n → is_metadata_ended n past ≡ false
 not-ended script past n legal above = elim (cases_Bool (is_metadata_ended n past)) [
-  | inl ended ↦ absurd (let below = sent-below script past n legal (any-ended-sent script past n legal (ended-by n past ∙ ended)) in omega (arith, below, above))
+  | inl ended ↦ absurd (let below = sent-below script past n legal (sent-for script past n (ends_metadata n) legal (ends-tells n) (ended-by n past ∙ ended)) in omega (arith, below, above))
   | inr open_ ↦ open_
 ]
 
@@ -133,18 +113,10 @@ done-sent script past n r i same targets legal may =
 
 -- ---- a call, which changes nothing of the requests of frames
 
-pub found-some : {X : Type 0} (p t : X → Bool) (xs : List X) (x : X) → find p xs ≡ Some x → t x ≡ true → list_any t xs ≡ true
-found-some p t [] x h k = absurd (cc)
-found-some p t (y ∷ xs) x h k =
-    elim (cases_Bool (p y)) [
-      | inl here ↦ (let h' = rw here at h in let same : y ≡ x = cc in rw (same, k) refl)
-      | inr other ↦ (let h' = rw other at h in or_right (t y) (list_any t xs) (found-some p t xs x h' k))
-    ]
-
 repeats-same : (script : Script) (past : List Entry) (i : ℕ) (word : Word) (q : RequestId) (n : ℕ) (o : Option Entry) → IsLegal script past → q.0 ≡ request_count past → send_of n past ≡ o → repeats_in script (Call i word (Submitted q) ∷ past) o ≡ repeats_in script past o
 repeats-same script past i word q n (Some (Send m r k same targets)) legal number at =
     let own : (r.0 == r.0) ≡ true = grind arith in
-    let other : (q.0 == r.0) ≡ false = ne_eqb q.0 r.0 (λ eq. absurd (false≢true (sym (unnamed script past r.0 legal (omega (arith, number, eq))) ∙ found-some (sends n) (names_request r.0) past (Send m r k same targets) at own))) in
+    let other : (q.0 == r.0) ≡ false = ne_eqb q.0 r.0 (λ eq. absurd (false≢true (sym (unnamed script past r.0 legal (omega (arith, number, eq))) ∙ found-also (sends n) (names_request r.0) past (Send m r k same targets) at own))) in
     rw other refl
 repeats-same script past i word q n o legal number at = refl
 
@@ -157,11 +129,11 @@ done-submitted script past i word q legal may =
 
 -- ---- an early return, after which the device is done with no further frame
 
-done-early : (script : Script) (past : List Entry) (n : FrameNo) (s : StreamIx) (b : BufferId) (d : FenceNo) (m : ℕ) → IsLegal script past → early_due script past n.0 s.0 ≡ Some (Early n s b d) → is_done m (Early n s b d ∷ past) ≡ is_done m past
+done-early : (script : Script) (past : List Entry) (n : FrameNo) (s : StreamIx) (b : BufferId) (d : DeviceFenceNo) (m : ℕ) → IsLegal script past → early_due script past n.0 s.0 ≡ Some (Early n s b d) → is_done m (Early n s b d ∷ past) ≡ is_done m past
 done-early script past n s b d m legal may =
     ap (λ a. is_sent m past && (is_metadata_ended m past && a)) (all-agree (λ (t : Sent). is_settled m t.stream.0 (Early n s b d ∷ past)) (λ t. is_settled m t.stream.0 past) (targets_of m past) (λ t. settled-early script past n s b d m t.stream.0 legal may))
 
-pub done-given : (script : Script) (past : List Entry) (n : FrameNo) (s : StreamIx) (b : BufferId) (d : FenceNo) → IsLegal script past → early_due script past n.0 s.0 ≡ Some (Early n s b d) → done_since_begin script (Early n s b d ∷ past) ≡ done_since_begin script past
+pub done-given : (script : Script) (past : List Entry) (n : FrameNo) (s : StreamIx) (b : BufferId) (d : DeviceFenceNo) → IsLegal script past → early_due script past n.0 s.0 ≡ Some (Early n s b d) → done_since_begin script (Early n s b d ∷ past) ≡ done_since_begin script past
 done-given script past n s b d legal may =
     ap (λ (xs : List ℕ). length xs) (filter-agree (λ _. true) (counts script past (Early n s b d ∷ past)) (counts script past past) (frames past) (all-true (frames past))
     (λ m yes'. ap (λ x. is_repeating_frame script past m && (x && not (is_done m (before_begin past)))) (done-early script past n s b d m legal may)))
@@ -172,17 +144,17 @@ done-given script past n s b d legal may =
 
 -- ---- a device's signal, after which it may be done with the frame of the early return
 
-done-late : (script : Script) (past : List Entry) (g : FenceNo) (x : List ℕ) (n : FrameNo) (s : StreamIx) (b : BufferId) (f : FenceNo) (m : ℕ) → IsLegal script past → find (is_early_with g.0) past ≡ Some (Early n s b f) → (n.0 == m) ≡ false → is_done m (Late g x ∷ past) ≡ is_done m past
+done-late : (script : Script) (past : List Entry) (g : DeviceFenceNo) (x : List ℕ) (n : FrameNo) (s : StreamIx) (b : BufferId) (f : DeviceFenceNo) (m : ℕ) → IsLegal script past → find (is_early_with g.0) past ≡ Some (Early n s b f) → (n.0 == m) ≡ false → is_done m (Late g x ∷ past) ≡ is_done m past
 done-late script past g x n s b f m legal found other =
     ap (λ a. is_sent m past && (is_metadata_ended m past && a)) (all-agree (λ (t : Sent). is_settled m t.stream.0 (Late g x ∷ past)) (λ t. is_settled m t.stream.0 past) (targets_of m past)
     (λ t. settled-signalled g x past m t.stream.0 ∙ ap (λ h. h || is_settled m t.stream.0 past) (not-its script past g.0 n s b f m t.stream.0 legal found other)))
 
-pub done-signalled : (script : Script) (past : List Entry) (g : FenceNo) (x : List ℕ) → IsLegal script (Late g x ∷ past) → done_since_begin script (Late g x ∷ past) ≡ one_if (finishes script past (Late g x)) + done_since_begin script past
+pub done-signalled : (script : Script) (past : List Entry) (g : DeviceFenceNo) (x : List ℕ) → IsLegal script (Late g x ∷ past) → done_since_begin script (Late g x ∷ past) ≡ one_if (finishes script past (Late g x)) + done_since_begin script past
 done-signalled script past g x legal =
     let is = late-is script past g x legal.0 in
     by-found script past g x is.0 is.1 is.2 is.3 legal is.4 (find (is_early_with g.0) past) refl
   where
-    by-found : (script : Script) (past : List Entry) (g : FenceNo) (x : List ℕ) (n : FrameNo) (s : StreamIx) (b : BufferId) (f : FenceNo) → IsLegal script (Late g x ∷ past) → find (is_early_with g.0) past ≡ Some (Early n s b f) → (o : Option Entry) → find (is_early_with g.0) past ≡ o → done_since_begin script (Late g x ∷ past) ≡ one_if (ends_early script past (Late g x) (find (is_early_with g.0) past)) + done_since_begin script past
+    by-found : (script : Script) (past : List Entry) (g : DeviceFenceNo) (x : List ℕ) (n : FrameNo) (s : StreamIx) (b : BufferId) (f : DeviceFenceNo) → IsLegal script (Late g x ∷ past) → find (is_early_with g.0) past ≡ Some (Early n s b f) → (o : Option Entry) → find (is_early_with g.0) past ≡ o → done_since_begin script (Late g x ∷ past) ≡ one_if (ends_early script past (Late g x) (find (is_early_with g.0) past)) + done_since_begin script past
     by-found script past g x n s b f legal found o at =
         let one = one-finished script past (Late g x) n.0 legal refl (λ m other. done-late script past g x n s b f m legal.1 found other) in
         rw found one

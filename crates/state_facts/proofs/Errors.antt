@@ -6,7 +6,7 @@ use Rattle.trace_model.specs.declared.entry.Entry.{Entry}
 use Rattle.trace_model.specs.declared.entry.Sent.{Sent}
 use Rattle.trace_model.specs.Errors.{error_buffer_due, error_request_due, error_result_due, is_cut_short, may_fail_in_part}
 use Rattle.trace_model.specs.Faults.{buffer_fault, result_fault}
-use Rattle.trace_model.specs.Frames.{each_earlier, has_error_request, has_shutter, has_target, is_sent, target_of, targets_of}
+use Rattle.trace_model.specs.Frames.{each_earlier, has_error_request, has_target, target_of, targets_of}
 use Rattle.trace_model.specs.Legal.{IsLegal}
 use Rattle.trace_model.specs.Open.{has_error_buffer, is_metadata_ended, is_returned, is_settled}
 use Rattle.trace_laws.proofs.Printed.{one-of-all}
@@ -16,13 +16,11 @@ use Rattle.state_facts.proofs.Metadata.{ended-reads}
 use Rattle.trace_laws.proofs.Times.{timed-shutter}
 use Rattle.state_facts.proofs.OpenRows.{IsDone, by-row, row-ended, row-open}
 use Rattle.state_facts.proofs.Something.{something-reads}
-use Rattle.state_facts.proofs.Unsent.{unsent}
 use Rattle.basic_lemmas.proofs.Lists.{find-mapped, found-passes, any-found}
 use Rattle.trace_laws.proofs.Once.{settled-returned}
-
--- a frame that wasn't sent has no shutter
-pub unexposed : (script : Script) (past : List Entry) (n : ℕ) → IsLegal script past → is_sent n past ≡ false → has_shutter n past ≡ false
-unexposed script past n legal none = rw (timed-shutter n past, (unsent script past n legal none).shutter) refl
+use Rattle.trace_laws.proofs.Told.{unexposed}
+use Rattle.basic_lemmas.proofs.Tests.{or-more}
+use Rattle.trace_model.specs.Filled.{lets_pass}
 
 -- ---- of the request
 
@@ -85,6 +83,9 @@ done-returned past n s done =
           )
       | inr none ↦ rw none refl
     ]
+
+pub done-passes : (past : List Entry) (n s : ℕ) → IsDone past n → lets_pass past s n ≡ true
+done-passes past n s done = or-more (not (has_target n s past)) (is_returned n s past) (has_error_buffer n s past || has_error_request n past) (done-returned past n s done)
 
 pub buffer_reads : (script : Script) (past : List Entry) → BufferReads script past
 buffer_reads script past legal n s =

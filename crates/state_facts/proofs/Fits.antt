@@ -25,7 +25,7 @@ use Rattle.trace_model.specs.Legal.{IsLegal}
 use Rattle.trace_model.specs.Configuration.{made}
 use Rattle.trace_model.specs.Numbers.{next_number}
 use Rattle.trace_model.specs.Open.{early_fences, is_done}
-use Rattle.trace_model.specs.Partial.{part_count}
+use Rattle.trace_model.specs.Partial.{partial_count}
 use Rattle.trace_model.specs.Place.{last_naming}
 use Rattle.trace_model.specs.Printable.{fence_fits, is_filled, is_printable, is_small, sent_fits}
 use Rattle.trace_model.specs.Queue.{is_taken, named, queued, queued_items, repeating, sent_for, submitted}
@@ -51,7 +51,7 @@ use Rattle.state_facts.proofs.BufferReadings.{earlies_are, fences_are, made_is}
 use Rattle.state_facts.specs.Row.{in_order, is_open_row, open_rows, row_of, target_at}
 use Rattle.state_facts.proofs.Order.{order-sent}
 use Rattle.state_facts.specs.States.{state}
-use Rattle.state_facts.specs.Fits.{NumbersFit, row_fits, target_fits, time_fits, turn_fits, waiting_fits}
+use Rattle.state_facts.specs.Fits.{NumbersFit, device_fence_fits, row_fits, target_fits, time_fits, turn_fits, waiting_fits}
 use Rattle.basic_lemmas.proofs.Counts.{count-cons, count-one, count-over}
 use Rattle.basic_lemmas.proofs.Lists.{all-filtered, all-at, all-map, all-mapped, all-found, all-where}
 
@@ -121,7 +121,7 @@ fence-fits past b (Some (Release c f)) all at = (and_parts (is_small c.0) (is_sm
 fence-fits past b (Some (Failed n s c f)) all at = (and_parts _ (fence_fits f) (all-found is_printable (names b) past (Failed n s c f) all at)).1
 fence-fits past b (Some _) all at = refl
 
-held-fits : (past : List Entry) (b : ℕ) (o : Option Entry) → list_all is_printable past ≡ true → last_naming b past ≡ o → fence_fits (early_fence_after o) ≡ true
+held-fits : (past : List Entry) (b : ℕ) (o : Option Entry) → list_all is_printable past ≡ true → last_naming b past ≡ o → device_fence_fits (early_fence_after o) ≡ true
 held-fits past b None all at = refl
 held-fits past b (Some (Early n s c d)) all at = (and_parts _ (is_small d.0) (all-found is_printable (names b) past (Early n s c d) all at)).1
 held-fits past b (Some _) all at = refl
@@ -138,14 +138,14 @@ time-fits n (Shutter m time ∷ past) all =
     ]
 time-fits n (e ∷ past) all = time-fits n past (and_parts (is_printable e) (list_all is_printable past) all).1
 
-pub parts-few : (script : Script) (past : List Entry) (n : ℕ) → IsLegal script past → part_count n past ≤ 3
+pub parts-few : (script : Script) (past : List Entry) (n : ℕ) → IsLegal script past → partial_count n past ≤ 3
 parts-few script [] n legal = omega arith
 parts-few script (Partial m k part ∷ past) n legal =
     let ih = parts-few script past n legal.1 in
     let is = part-is script past m k part legal.0 in
     elim (cases_Bool (m.0 == n)) [
       | inl here ↦ (
-          let number : k ≡ part_count n past + 1 = rw (eqb-true m.0 n here) at is.number in
+          let number : k ≡ partial_count n past + 1 = rw (eqb-true m.0 n here) at is.number in
           let one = count-one (is_partial n) (Partial m k part) past here in
           omega (arith, number, is.short, one)
           )
@@ -185,7 +185,7 @@ row-fits script past n few all legal sent =
     let low = sent-below script past n legal sent in
     let frame = small n 65664 (omega (arith, low, few)) (omega arith) in
     let short = parts-few script past n legal in
-    let parts : nat_le (part_count n past) 3 ≡ true = grind (arith, nat_tests, short) in
+    let parts : nat_le (partial_count n past) 3 ≡ true = grind (arith, nat_tests, short) in
     and_from _ _ frame (and_from _ _ (time-fits n past all) (and_from _ _ parts (rows-targets-fit past n (targets_of n past) all (targets-fit past n (send_of n past) all refl))))
 
 rows-fit : (script : Script) (past : List Entry) → next_number past ≤ 65664 → list_all is_printable past ≡ true → IsLegal script past → list_all row_fits (open_rows script past) ≡ true
@@ -252,7 +252,7 @@ numbers_fit script past typed valid' legal =
       fences = below _ 262656 (omega (arith, released, fences, most.1)) (omega arith);
       device_fences = below _ 262656 (omega (arith, given, earlies, most.2)) (omega arith);
       at_home = all-map fence_fits (λ b. fence_of b past) (numbers past) (λ b. fence-fits past b (last_naming b past) all refl);
-      held = all-map fence_fits (λ b. early_fence_of b past) (numbers past) (λ b. held-fits past b (last_naming b past) all refl);
+      held = all-map device_fence_fits (λ b. early_fence_of b past) (numbers past) (λ b. held-fits past b (last_naming b past) all refl);
       calls = below _ 512 (omega (arith, calls, v.commands)) (omega arith);
       repeated = below _ 65664 (omega (arith, repeated, few)) (omega arith);
       done = below _ 65664 (omega (arith, done, sent, most.0)) (omega arith);

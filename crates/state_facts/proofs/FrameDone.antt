@@ -4,7 +4,7 @@ use Rattle.std.specs.List.{list_all}
 use Rattle.std.proofs.lemmas.Bool.{and_parts, cases_Bool, eq-eqb, false≢true, or_right}
 use Rattle.cam_types.specs.declared.four.Four.{Four}
 use Rattle.cam_types.specs.declared.number.BufferId.{BufferId}
-use Rattle.cam_types.specs.declared.number.FenceNo.{FenceNo}
+use Rattle.cam_types.specs.declared.number.DeviceFenceNo.{DeviceFenceNo}
 use Rattle.cam_types.specs.declared.number.FrameNo.{FrameNo}
 use Rattle.cam_types.specs.declared.number.RequestId.{RequestId}
 use Rattle.cam_types.specs.declared.number.StreamIx.{StreamIx}
@@ -23,7 +23,7 @@ use Rattle.trace_laws.proofs.Done.{done-before, done-stays}
 use Rattle.trace_laws.proofs.Early.{given}
 use Rattle.trace_laws.proofs.Shapes.{late-is}
 use Rattle.state_facts.specs.Clients.{ends_frame}
-use Rattle.state_facts.specs.Row.{Row, in_order, is_open_row, noted_row, open_rows, row_of}
+use Rattle.state_facts.specs.Row.{Row, in_order, is_open_row, row_after, open_rows, row_of}
 use Rattle.state_facts.specs.FrameReadings.{DoneReads, LastReads, closes, closes_one, has_pending, row_at}
 use Rattle.state_facts.proofs.Accepted.{repeating-kept}
 use Rattle.state_facts.proofs.Late.{the_row}
@@ -89,7 +89,7 @@ frame_counts : (script : Script) (past : List Entry) (e : Entry) (n : ℕ) → I
 frame_counts script past e n legal same sent other =
     let row = row_of script past n in
     let step = row-step script past e n legal sent in
-    let now : is_done n (e ∷ past) ≡ not (is_open_row (noted_row e row)) = done-closed script (e ∷ past) n legal (or_right (sends n e) (is_sent n past) sent) ∙ ap (λ r. not (is_open_row r)) step in
+    let now : is_done n (e ∷ past) ≡ not (is_open_row (row_after e row)) = done-closed script (e ∷ past) n legal (or_right (sends n e) (is_sent n past) sent) ∙ ap (λ r. not (is_open_row r)) step in
     let was : is_open_row row ≡ not (is_done n past) = row-open script past n legal.1 sent ∙ open-not (is_sent n past) (is_metadata_ended n past && all_settled n past) sent in
     let to : counted script (e ∷ past) n ≡ (is_repeating_frame script past n && (is_done n (e ∷ past) && not (is_done n (before_begin past)))) = rw (repeating-kept script past e n legal sent other, same) refl in
     let closing : closed_now e row ≡ (not (is_done n past) && (is_repeating_frame script past n && is_done n (e ∷ past))) = rw (was, now) refl in
@@ -159,7 +159,7 @@ ends-now r d d' b x y = rw (x, y) (ap (λ c. r && c) (and-true b))
 last-open : (script : Script) (past : List Entry) (e : Entry) (n : ℕ) → IsLegal script (e ∷ past) → is_sent n past ≡ true → is_open_row (row_of script past n) ≡ true → ends_frame script past n e ≡ closes e (row_of script past n)
 last-open script past e n legal sent here =
     let was : is_done n past ≡ false = done-closed script past n legal.1 sent ∙ rw here refl in
-    let now : is_done n (e ∷ past) ≡ not (is_open_row (noted_row e (row_of script past n))) = done-closed script (e ∷ past) n legal (or_right (sends n e) (is_sent n past) sent) ∙ ap (λ r. not (is_open_row r)) (row-step script past e n legal sent) in
+    let now : is_done n (e ∷ past) ≡ not (is_open_row (row_after e (row_of script past n))) = done-closed script (e ∷ past) n legal (or_right (sends n e) (is_sent n past) sent) ∙ ap (λ r. not (is_open_row r)) (row-step script past e n legal sent) in
     ends-now (is_repeating_frame script past n) (is_done n past) (is_done n (e ∷ past)) _ was now
 
 last-told : (script : Script) (past : List Entry) (e : Entry) (n : ℕ) → IsLegal script (e ∷ past) → sends n e ≡ false → ends_frame script past n e ≡ closes_one e (row_at n (open_rows script past))
@@ -186,7 +186,7 @@ last-told script past e n legal other =
     ]
 
 -- the signal of a device fence is of the row that waits for it
-last-signal : (script : Script) (past : List Entry) (d : FenceNo) (x : List ℕ) (n : FrameNo) (s : StreamIx) (b : BufferId) (f : FenceNo) → IsLegal script (Late d x ∷ past) → find (is_early_with d.0) past ≡ Some (Early n s b f) → is_late d.0 past ≡ false → ends_frame script past n.0 (Late d x) ≡ closes_one (Late d x) (find (has_pending d.0) (open_rows script past))
+last-signal : (script : Script) (past : List Entry) (d : DeviceFenceNo) (x : List ℕ) (n : FrameNo) (s : StreamIx) (b : BufferId) (f : DeviceFenceNo) → IsLegal script (Late d x ∷ past) → find (is_early_with d.0) past ≡ Some (Early n s b f) → is_late d.0 past ≡ false → ends_frame script past n.0 (Late d x) ≡ closes_one (Late d x) (find (has_pending d.0) (open_rows script past))
 last-signal script past d x n s b f legal found early =
     let at = the_row script past d.0 n s b f legal.1 found early in
     let here = all-found is_open_row (has_pending d.0) (open_rows script past) (row_of script past n.0) (filtered-all is_open_row (map (row_of script past) (in_order past))) at in

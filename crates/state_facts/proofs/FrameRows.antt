@@ -21,7 +21,7 @@ use Rattle.trace_laws.proofs.BufferSends.{not-the-next, send-number}
 use Rattle.trace_laws.proofs.Frames.{sent-once}
 use Rattle.trace_laws.proofs.Settled.{given-noted, settled-noted}
 use Rattle.trace_laws.proofs.Times.{parts-noted, time-noted}
-use Rattle.state_facts.specs.Row.{RowsFollow, Target, fresh_target, in_order, is_open_row, noted_row, noted_target, open_rows, row_of, sent_row, target_at}
+use Rattle.state_facts.specs.Row.{RowsFollow, Target, fresh_target, in_order, is_open_row, row_after, target_after, open_rows, row_of, sent_row, target_at}
 use Rattle.state_facts.proofs.Accepted.{repeating-kept, settings-kept}
 use Rattle.state_facts.proofs.OpenRows.{row-open}
 use Rattle.state_facts.proofs.Order.{order-sent}
@@ -36,14 +36,14 @@ and_sent false b h = refl
 same_target : (t : Sent) (a b : Bool) (g h : List ℕ) (c d : Bool) → g ≡ h → c ≡ d → ◌≡◌ {A = Target} (record { sent = t; announced = a; returned = b; given = g; settled = c }) (record { sent = t; announced = a; returned = b; given = h; settled = d })
 same_target t a b g h c d x y = rw (x, y) refl
 
-targets_step : (script : Script) (past : List Entry) (e : Entry) (n : ℕ) (ts : List Sent) → IsLegal script (e ∷ past) → map (target_at n (e ∷ past)) ts ≡ map (noted_target n e) (map (target_at n past) ts)
+targets_step : (script : Script) (past : List Entry) (e : Entry) (n : ℕ) (ts : List Sent) → IsLegal script (e ∷ past) → map (target_at n (e ∷ past)) ts ≡ map (target_after n e) (map (target_at n past) ts)
 targets_step script past e n [] legal = refl
 targets_step script past e n (t ∷ ts) legal =
-    let one : target_at n (e ∷ past) t ≡ noted_target n e (target_at n past t) = same_target t _ _ _ _ _ _ (given-noted e past n t.stream.0) (settled-noted script past e n t.stream.0 legal) in
-    ap (λ (x : Target). x ∷ map (target_at n (e ∷ past)) ts) one ∙ ap (λ (xs : List Target). noted_target n e (target_at n past t) ∷ xs) (targets_step script past e n ts legal)
+    let one : target_at n (e ∷ past) t ≡ target_after n e (target_at n past t) = same_target t _ _ _ _ _ _ (given-noted e past n t.stream.0) (settled-noted script past e n t.stream.0 legal) in
+    ap (λ (x : Target). x ∷ map (target_at n (e ∷ past)) ts) one ∙ ap (λ (xs : List Target). target_after n e (target_at n past t) ∷ xs) (targets_step script past e n ts legal)
 
 -- what an entry does to the row of a frame that was sent before
-pub row-step : (script : Script) (past : List Entry) (e : Entry) (n : ℕ) → IsLegal script (e ∷ past) → is_sent n past ≡ true → row_of script (e ∷ past) n ≡ noted_row e (row_of script past n)
+pub row-step : (script : Script) (past : List Entry) (e : Entry) (n : ℕ) → IsLegal script (e ∷ past) → is_sent n past ≡ true → row_of script (e ∷ past) n ≡ row_after e (row_of script past n)
 row-step script past e n legal sent =
     let other = sent-once script past e n legal.1 legal.0 sent in
     rw (settings-kept script past e n legal sent other, repeating-kept script past e n legal sent other, other, time-noted e past n, parts-noted script past e n legal.0, and_sent (is_stop e) _ sent, targets_step script past e n (targets_of n past) legal) refl
@@ -71,9 +71,9 @@ kept-step k f g h ok (x ∷ xs) step stays all =
       | inr closed ↦ rw (closed, stays x parts.0 closed) ih
     ]
 
-rows_noted : (script : Script) (past : List Entry) (e : Entry) → IsLegal script (e ∷ past) → filter is_open_row (map (row_of script (e ∷ past)) (in_order past)) ≡ filter is_open_row (map (noted_row e) (open_rows script past))
+rows_noted : (script : Script) (past : List Entry) (e : Entry) → IsLegal script (e ∷ past) → filter is_open_row (map (row_of script (e ∷ past)) (in_order past)) ≡ filter is_open_row (map (row_after e) (open_rows script past))
 rows_noted script past e legal =
-    kept-step is_open_row (row_of script (e ∷ past)) (row_of script past) (noted_row e) (λ n. is_sent n past) (in_order past)
+    kept-step is_open_row (row_of script (e ∷ past)) (row_of script past) (row_after e) (λ n. is_sent n past) (in_order past)
     (λ n sent. row-step script past e n legal sent) (λ n sent closed. row-stays script past e n legal sent closed) (order-sent past)
 
 pub not_sent : (script : Script) (past : List Entry) (n : ℕ) → IsLegal script past → n ≡ next_number past → is_sent n past ≡ false
@@ -93,5 +93,5 @@ rows_follow script past (Send n r i same targets) legal =
     let e = Send n r i same targets in
     let number = send-number script past n.0 r.0 i same targets legal.0 in
     let fresh = unsent script past n.0 legal.1 (not_sent script past n.0 legal.1 number) in
-    filter-more is_open_row (row_of script (e ∷ past)) (in_order past) n.0 (sent_row n (settings_in (item_at script past r.0 i)) (is_repeating script past r.0) targets) (filter is_open_row (map (noted_row e) (open_rows script past))) (new_row script past n r i same targets fresh) refl (rows_noted script past e legal)
-rows_follow script past e legal = rows_noted script past e legal ∙ sym (append-nil (filter is_open_row (map (noted_row e) (open_rows script past))))
+    filter-more is_open_row (row_of script (e ∷ past)) (in_order past) n.0 (sent_row n (settings_in (item_at script past r.0 i)) (is_repeating script past r.0) targets) (filter is_open_row (map (row_after e) (open_rows script past))) (new_row script past n r i same targets fresh) refl (rows_noted script past e legal)
+rows_follow script past e legal = rows_noted script past e legal ∙ sym (append-nil (filter is_open_row (map (row_after e) (open_rows script past))))

@@ -3,7 +3,7 @@ use Rattle.std.proofs.Common.{◌≡◌, ℕ, ◌==◌, Bool, true, false, ◌&&
 use Rattle.std.specs.List.{list_any, list_all}
 use Rattle.std.proofs.lemmas.Bool.{and_parts, both_ways, cases_Bool, eq-eqb, eqb-true, false≢true, or_left}
 use Rattle.cam_types.specs.declared.number.BufferId.{BufferId}
-use Rattle.cam_types.specs.declared.number.FenceNo.{FenceNo}
+use Rattle.cam_types.specs.declared.number.DeviceFenceNo.{DeviceFenceNo}
 use Rattle.cam_types.specs.declared.number.FrameNo.{FrameNo}
 use Rattle.cam_types.specs.declared.number.StreamIx.{StreamIx}
 use Rattle.cam_types.specs.declared.script.Script.{Script}
@@ -70,7 +70,7 @@ ungiven past d m u none =
       | inr other ↦ rw other refl
     ]
 
-module _ (script : Script) (past : List Entry) (d : ℕ) (n : FrameNo) (s : StreamIx) (b : BufferId) (f : FenceNo) (legal : IsLegal script past) (found : find (is_early_with d) past ≡ Some (Early n s b f)) where
+module _ (script : Script) (past : List Entry) (d : ℕ) (n : FrameNo) (s : StreamIx) (b : BufferId) (f : DeviceFenceNo) (legal : IsLegal script past) (found : find (is_early_with d) past ≡ Some (Early n s b f)) where
   own : f.0 ≡ d
   own = eqb-true f.0 d (found-passes (is_early_with d) past (Early n s b f) found)
 

@@ -29,8 +29,9 @@ use Rattle.trace_model.specs.Reply.{acceptance, queue_refusal, refusal, reply, r
 use Rattle.cam_types.specs.Refusals.{items_refusal, list_refusal}
 use Rattle.trace_laws.proofs.Calls.{by-answer}
 use Rattle.trace_laws.proofs.Refusals.{refuses, refusal-refuses}
-use Rattle.state_facts.proofs.Served.{is_served, is_within, items_none, list-none, or-none, own-none, within-served}
+use Rattle.state_facts.proofs.Served.{is_served, is_within, items_none, list-none, own-none, within-served}
 use Rattle.basic_lemmas.proofs.Lists.{all-where}
+use Rattle.cam_types.proofs.RefusalLemmas.{or-none}
 
 -- ---- the queue
 

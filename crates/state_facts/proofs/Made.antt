@@ -1,5 +1,5 @@
 -- The buffers of a configuration have the numbers from its first on, without a gap.
-use Rattle.std.proofs.Common.{◌≡◌, ℕ, ◌==◌, ◌+◌, ◌<◌, ◌≤◌, Bool, true, ◌&&◌, List, [], ◌∷◌, Option, Some, None, refl, arith, inl, inr, nat_le, nat_lt}
+use Rattle.std.proofs.Common.{◌≡◌, ℕ, ◌==◌, ◌+◌, ◌<◌, ◌≤◌, Bool, true, ◌&&◌, List, [], ◌∷◌, Option, Some, None, refl, arith, inl, inr, nat_le, nat_lt, sym, false}
 use Rattle.std.specs.List.{list_any, list_all, range_with_len}
 use Rattle.std.proofs.lemmas.Bool.{and_parts, cases_Bool, eqb-true, false≢true, leb-true, ltb-true}
 use Rattle.std.proofs.lemmas.List.Folds.{list_all-append}
@@ -16,7 +16,7 @@ use Rattle.cam_types.specs.declared.stream.StreamSpec.{StreamSpec}
 use Rattle.trace_model.specs.declared.entry.Entry.{Entry}
 use Rattle.trace_model.specs.declared.entry.Entry.TheVariants.{Call}
 use Rattle.trace_model.specs.Calls.{word_of}
-use Rattle.trace_model.specs.Configuration.{is_buffer, is_made, made, made_by, made_count, numbers_of}
+use Rattle.trace_model.specs.Configuration.{is_buffer, is_made, made, made_by, made_count, numbers_of, is_configured}
 use Rattle.trace_model.specs.Legal.{IsLegal}
 use Rattle.trace_model.specs.Numbers.{call_count}
 use Rattle.trace_model.specs.Place.{Pool, all_in_pool, is_at, place}
@@ -25,21 +25,19 @@ use Rattle.trace_laws.proofs.Calls.{by-call}
 use Rattle.trace_laws.proofs.Refusals.{refuses, refusal-refuses}
 use Rattle.state_facts.specs.Homes.{count_in, first_buffer, numbers}
 use Rattle.basic_lemmas.proofs.Ranges.{range-more, range-at}
+use Rattle.basic_lemmas.proofs.Tests.{own-number}
 
 -- each of them begins where the one before it ends
 abbrev pub are_joined : ℕ → List Made → Bool
 are_joined k [] = true
 are_joined k (m ∷ ms) = (m.first.0 == k) && are_joined (k + m.count) ms
 
-self-equal : (k : ℕ) → (k == k) ≡ true
-self-equal k = grind arith
-
 made-joined : (p : Profile) (k : ℕ) (specs : List StreamSpec) → are_joined k (four_list (four_of (made_for p k specs))) ≡ true
 made-joined p k [] = refl
-made-joined p k (a ∷ []) = rw (self-equal k) refl
-made-joined p k (a ∷ b ∷ []) = grind (arith, self-equal)
-made-joined p k (a ∷ b ∷ c ∷ []) = grind (arith, self-equal)
-made-joined p k (a ∷ b ∷ c ∷ d ∷ specs) = grind (arith, self-equal)
+made-joined p k (a ∷ []) = rw (own-number k) refl
+made-joined p k (a ∷ b ∷ []) = grind (arith, own-number)
+made-joined p k (a ∷ b ∷ c ∷ []) = grind (arith, own-number)
+made-joined p k (a ∷ b ∷ c ∷ d ∷ specs) = grind (arith, own-number)
 
 abbrev pub IsJoined : List Entry → Type 0
 IsJoined past = are_joined (first_buffer past) (made past) ≡ true
@@ -106,3 +104,9 @@ buffer-home script past b legal home own =
     let home' = rw (pool-is script past legal) at home in
     let place' = buffer-within script past b legal own in
     range-at (λ c. is_at (place c past) Pool) (first_buffer past) (count_in (made past)) b home' place'.0 place'.1
+
+pub no-made : (past : List Entry) → is_configured past ≡ false → made past ≡ []
+no-made [] h = refl
+no-made (Call i w (Configured each) ∷ past) h = absurd (false≢true (sym h))
+no-made (Call i w r ∷ past) h = no-made past h
+no-made (e ∷ past) h = no-made past h

@@ -8,15 +8,15 @@ use Rattle.trace_model.specs.declared.entry.Sent.{Sent}
 use Rattle.trace_model.specs.Errors.{may_fail_buffer, may_fail_device_at, may_fail_request, may_fail_result}
 use Rattle.trace_model.specs.Faults.{buffer_fault, device_fault, request_fault, result_fault}
 use Rattle.trace_model.specs.Filled.{is_sound, lets_pass}
-use Rattle.trace_model.specs.Frames.{each_earlier, has_error, has_error_request, has_shutter, has_target, shutter_time}
+use Rattle.trace_model.specs.Frames.{each_earlier, has_error, has_error_request, has_shutter, shutter_time}
 use Rattle.trace_model.specs.Legal.{IsLegal}
-use Rattle.trace_model.specs.Open.{has_error_buffer, has_error_result, has_something, is_metadata_ended, is_open, is_returned}
-use Rattle.trace_model.specs.Partial.{may_part, part_count, partial_due}
+use Rattle.trace_model.specs.Open.{has_error_buffer, has_error_result, has_something, is_metadata_ended, is_open}
+use Rattle.trace_model.specs.Partial.{may_have_partial, partial_count, partial_due}
 use Rattle.trace_model.specs.Place.{is_at_device_by}
 use Rattle.trace_model.specs.Shutter.{is_next_for_sensor, may_expose}
 use Rattle.trace_model.specs.Stopping.{is_stopped, is_stopping}
 use Rattle.state_facts.specs.Row.{is_ended, row_of}
-use Rattle.state_facts.proofs.Errors.{done-returned}
+use Rattle.state_facts.proofs.Errors.{done-passes}
 use Rattle.trace_laws.proofs.Times.{timed-shutter}
 use Rattle.state_facts.proofs.OpenRows.{IsDone, row-ended}
 use Rattle.trace_laws.proofs.Out.{not-returned-out}
@@ -45,7 +45,7 @@ pub data NextOf (script : Script) (past : List Entry) (n : ℕ) : Type 0 where
   Result : may_fail_result script past n ≡ true → NextOf script past n
   Buffer : (s : ℕ) (t : Sent) → IsOwed past n s t → may_fail_buffer script past n s ≡ true → NextOf script past n
   Expose : may_expose script past n ≡ true → NextOf script past n
-  Part : is_some (partial_due script past n) ≡ true → NextOf script past n
+  PartialResult : is_some (partial_due script past n) ≡ true → NextOf script past n
   Return : (s : ℕ) (t : Sent) → MayReturn past n s t → NextOf script past n
   Fill : (s : ℕ) (t : Sent) → MayFill script past n s t → NextOf script past n
   Await : (s : ℕ) → IsAwaited past n s → NextOf script past n
@@ -55,14 +55,6 @@ pub data NextOf (script : Script) (past : List Entry) (n : ℕ) : Type 0 where
 done_began : (script : Script) (past : List Entry) (m : ℕ) → IsLegal script past → IsDone past m → (has_shutter m past || has_error_request m past) ≡ true
 done_began script past m legal done = (caused script past m legal (ended-something m past done.ended)).began
 
-done_passes : (past : List Entry) (m s : ℕ) → IsDone past m → lets_pass past s m ≡ true
-done_passes past m s done = with (not (has_target m s past)) (is_returned m s past) (has_error_buffer m s past || has_error_request m past) (done-returned past m s done)
-  where
-    with : (a b c : Bool) → (a || b) ≡ true → (a || (b || c)) ≡ true
-    with true b c h = refl
-    with false true c h = refl
-    with false false c h = absurd (false≢true h)
-
 module _ (script : Script) (past : List Entry) (n : ℕ) (legal : IsLegal script past) (least : IsLeast past n) where
   all_ended : each_earlier n (λ m. is_metadata_ended m past) past ≡ true
   all_ended = each-done past n (λ m. is_metadata_ended m past) least (λ m sent done. done.ended)
@@ -71,7 +63,7 @@ module _ (script : Script) (past : List Entry) (n : ℕ) (legal : IsLegal script
   all_began = each-done past n (λ m. has_shutter m past || has_error_request m past) least (λ m sent done. done_began script past m legal done)
 
   all_pass : (s : ℕ) → each_earlier n (lets_pass past s) past ≡ true
-  all_pass s = each-done past n (lets_pass past s) least (λ m sent done. done_passes past m s done)
+  all_pass s = each-done past n (lets_pass past s) least (λ m sent done. done-passes past m s done)
 
   out_now : (s : ℕ) (t : Sent) → IsOwed past n s t → is_at_device_by n s t.buffer.0 past ≡ true
   out_now s t owes = not-returned-out script past n s t legal owes.at owes.out
@@ -122,21 +114,21 @@ module _ (script : Script) (past : List Entry) (n : ℕ) (legal : IsLegal script
       ]
 
   -- metadata
-  few_parts : is_metadata_ended n past ≡ false → (k : ℕ) → part_count n past + 1 ≡ k → nat_le k 3 ≡ true
+  few_parts : is_metadata_ended n past ≡ false → (k : ℕ) → partial_count n past + 1 ≡ k → nat_le k 3 ≡ true
   few_parts open' k at =
       let row : is_ended (row_of script past n) ≡ false = row-ended script past n legal ∙ open' in
-      let short : nat_le 3 (part_count n past) ≡ false = (or_parts _ _ row).0 in
-      by (part_count n past) k short at
+      let short : nat_le 3 (partial_count n past) ≡ false = (or_parts _ _ row).0 in
+      by (partial_count n past) k short at
     where
       by : (c k : ℕ) → nat_le 3 c ≡ false → c + 1 ≡ k → nat_le k 3 ≡ true
       by c k short at = grind (arith, nat_tests, short, at)
 
-  part_now : (o : Option ℕ) → is_some o ≡ true → shutter_time n past ≡ o → may_part script past n (part_count n past + 1) ≡ true → is_some (partial_due script past n) ≡ true
+  part_now : (o : Option ℕ) → is_some o ≡ true → shutter_time n past ≡ o → may_have_partial script past n (partial_count n past + 1) ≡ true → is_some (partial_due script past n) ≡ true
   part_now None some at may = absurd (false≢true some)
   part_now (Some time) some at may = rw (at, may) refl
 
-  may_now : has_error_request n past ≡ false → has_error_result n past ≡ false → request_fault script n ≡ false → nat_le (part_count n past + 1) 3 ≡ true → (not (result_fault script n) && each_earlier n (λ m. is_metadata_ended m past) past) ≡ true → may_part script past n (part_count n past + 1) ≡ true
-  may_now request result sound few last = all (has_error_request n past) (has_error_result n past) (request_fault script n) (nat_le (part_count n past + 1) 3) (not (part_count n past + 1 == 3)) (not (result_fault script n) && each_earlier n (λ m. is_metadata_ended m past) past) request result sound few last
+  may_now : has_error_request n past ≡ false → has_error_result n past ≡ false → request_fault script n ≡ false → nat_le (partial_count n past + 1) 3 ≡ true → (not (result_fault script n) && each_earlier n (λ m. is_metadata_ended m past) past) ≡ true → may_have_partial script past n (partial_count n past + 1) ≡ true
+  may_now request result sound few last = all (has_error_request n past) (has_error_result n past) (request_fault script n) (nat_le (partial_count n past + 1) 3) (not (partial_count n past + 1 == 3)) (not (result_fault script n) && each_earlier n (λ m. is_metadata_ended m past) past) request result sound few last
     where
       all : (a b f k l m : Bool) → a ≡ false → b ≡ false → f ≡ false → k ≡ true → m ≡ true → ((not a && (not b && not f)) && (k && (l || m))) ≡ true
       all a b f k l m h i j x y = rw (h, i, j, x) (or_right l m y)
@@ -149,8 +141,8 @@ module _ (script : Script) (past : List Entry) (n : ℕ) (legal : IsLegal script
             let first = or_parts _ _ open' in
             let second = or_parts _ _ first.1 in
             let last : (not (result_fault script n) && each_earlier n (λ m. is_metadata_ended m past) past) ≡ true = rw (none, all_ended) refl in
-            let may = may_now request second.0 sound (few_parts open' (part_count n past + 1) refl) last in
-            Part (part_now (shutter_time n past) (sym (timed-shutter n past) ∙ shutter) refl may)
+            let may = may_now request second.0 sound (few_parts open' (partial_count n past + 1) refl) last in
+            PartialResult (part_now (shutter_time n past) (sym (timed-shutter n past) ∙ shutter) refl may)
             )
       ]
 

@@ -1,5 +1,5 @@
 -- The frames in order are those that were sent, the last one first.
-use Rattle.std.proofs.Common.{◌≡◌, ℕ, Bool, true, false, ◌&&◌, ◌||◌, List, [], ◌∷◌, refl, ◌∙◌, arith, count_by, find, cond}
+use Rattle.std.proofs.Common.{◌≡◌, ℕ, Bool, true, List, [], ◌∷◌, refl, ◌∙◌, arith, count_by, find, cond}
 use Rattle.std.specs.List.{list_any, list_all}
 use Rattle.std.proofs.lemmas.List.Folds.{find-append, list_all-append, list_any-append}
 use Rattle.std.proofs.lemmas.List.Sums.{sum_by-append, sum_by-cons}
@@ -9,27 +9,16 @@ use Rattle.trace_model.specs.Frames.{frames, is_sent}
 use Rattle.trace_laws.proofs.BufferSends.{frames-sent}
 use Rattle.state_facts.specs.Row.{in_order}
 use Rattle.state_facts.proofs.Last.{last_where}
+use Rattle.basic_lemmas.proofs.Shared.{and-turned, or-turned}
 
 pub all-order : (p : ℕ → Bool) (past : List Entry) → list_all p (in_order past) ≡ list_all p (frames past)
 all-order p [] = refl
-all-order p (Send n r i same targets ∷ past) = rw (list_all-append p (in_order past) (n.0 ∷ []), all-order p past) (turned (list_all p (frames past)) (p n.0))
-  where
-    turned : (a b : Bool) → (a && (b && true)) ≡ (b && a)
-    turned true true = refl
-    turned true false = refl
-    turned false true = refl
-    turned false false = refl
+all-order p (Send n r i same targets ∷ past) = rw (list_all-append p (in_order past) (n.0 ∷ []), all-order p past) (and-turned (list_all p (frames past)) (p n.0))
 all-order p (e ∷ past) = all-order p past
 
 pub any-order : (p : ℕ → Bool) (past : List Entry) → list_any p (in_order past) ≡ list_any p (frames past)
 any-order p [] = refl
-any-order p (Send n r i same targets ∷ past) = rw (list_any-append p (in_order past) (n.0 ∷ []), any-order p past) (turned (list_any p (frames past)) (p n.0))
-  where
-    turned : (a b : Bool) → (a || (b || false)) ≡ (b || a)
-    turned true true = refl
-    turned true false = refl
-    turned false true = refl
-    turned false false = refl
+any-order p (Send n r i same targets ∷ past) = rw (list_any-append p (in_order past) (n.0 ∷ []), any-order p past) (or-turned (list_any p (frames past)) (p n.0))
 any-order p (e ∷ past) = any-order p past
 
 pub count-order : (p : ℕ → Bool) (past : List Entry) → count_by p (in_order past) ≡ count_by p (frames past)

@@ -19,7 +19,7 @@ use Rattle.trace_model.specs.Send.{are_streams, fits_next, has_capacity, has_roo
 use Rattle.trace_model.specs.Stopping.{is_stopping}
 use Rattle.trace_model.proofs.LawLemmas.{goes}
 use Rattle.state_facts.specs.Clients.{repeats}
-use Rattle.state_facts.specs.Row.{in_order, is_open_row, new_rows, noted_row, open_rows, row_of, sent_settings, target_at}
+use Rattle.state_facts.specs.Row.{in_order, is_open_row, new_rows, row_after, open_rows, row_of, sent_settings, target_at}
 use Rattle.state_facts.specs.FrameReadings.{RowsFew, RowsOrderly, is_orderly, rise, stream_of}
 use Rattle.state_facts.proofs.OpenRows.{count_reads}
 use Rattle.state_facts.proofs.Order.{order-sent}
@@ -38,8 +38,8 @@ capacity_by script past (Some w) n r i same targets h =
 
 rows_grow : (script : Script) (past : List Entry) (e : Entry) → IsLegal script (e ∷ past) → length (open_rows script (e ∷ past)) ≤ length (open_rows script past) + length (new_rows (sent_settings script past e) (repeats script past e) e)
 rows_grow script past e legal =
-    let short = filter-short is_open_row (map (noted_row e) (open_rows script past)) in
-    let same : length (map (noted_row e) (open_rows script past)) ≡ length (open_rows script past) = length-map (open_rows script past) (noted_row e) in
+    let short = filter-short is_open_row (map (row_after e) (open_rows script past)) in
+    let same : length (map (row_after e) (open_rows script past)) ≡ length (open_rows script past) = length-map (open_rows script past) (row_after e) in
     rw (rows_follow script past e legal, length-append) (omega (arith, short, same))
 
 pub rows_few : (script : Script) (past : List Entry) → RowsFew script past

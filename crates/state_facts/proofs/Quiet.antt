@@ -1,9 +1,9 @@
 -- While no frame is open: no buffer is at the device, and each buffer is in the pool or at the client.
-use Rattle.std.proofs.Common.{◌≡◌, ◌⊎◌, ◌≤◌, ℕ, zero, suc, ◌==◌, ◌+◌, Bool, true, false, not, List, [], ◌∷◌, Option, Some, None, refl, sym, ◌∙◌, arith, inl, inr, is_some, nat_le, nat_lt}
+use Rattle.std.proofs.Common.{◌≡◌, ◌⊎◌, ◌≤◌, ℕ, zero, suc, ◌==◌, ◌+◌, Bool, true, false, not, List, [], ◌∷◌, Option, Some, None, refl, sym, ◌∙◌, arith, inl, inr, is_some, nat_le, nat_lt, ◌&&◌}
 use Rattle.std.specs.List.{list_all, range_with_len}
 use Rattle.std.proofs.lemmas.Bool.{and_from, and_parts, cases_Bool, eqb-true, false≢true, lt-ltb}
 use Rattle.std.proofs.lemmas.Bool.Decides.{nat_tests}
-use Rattle.cam_types.specs.declared.number.FenceNo.{FenceNo}
+use Rattle.cam_types.specs.declared.number.DeviceFenceNo.{DeviceFenceNo}
 use Rattle.cam_types.specs.declared.reply.Made.{Made}
 use Rattle.cam_types.specs.declared.script.Script.{Script}
 use Rattle.trace_model.specs.declared.entry.Entry.{Entry}
@@ -25,7 +25,7 @@ use Rattle.trace_laws.proofs.Early.{late-when-quiet}
 use Rattle.trace_laws.proofs.Fences.{released-low}
 use Rattle.trace_laws.proofs.Once.{out-not-returned}
 use Rattle.trace_laws.proofs.Own.{at-device-by-some}
-use Rattle.trace_laws.proofs.BufferSends.{holds, out-sent, out-target}
+use Rattle.trace_laws.proofs.BufferSends.{holds, out-sent, out-target, frames-sent}
 use Rattle.state_facts.specs.FrameReadings.{is_none_left}
 use Rattle.state_facts.specs.Row.{Row, open_rows}
 use Rattle.state_facts.proofs.Errors.{done-returned}
@@ -34,7 +34,9 @@ use Rattle.state_facts.proofs.Room.{out_reads}
 use Rattle.state_facts.proofs.Below.{made-below}
 use Rattle.basic_lemmas.proofs.Counts.{count-cons}
 use Rattle.state_facts.proofs.Least.{done_by}
-use Rattle.basic_lemmas.proofs.Lists.{any-found}
+use Rattle.basic_lemmas.proofs.Lists.{any-found, all-where-both}
+use Rattle.trace_laws.proofs.Done.{closed-stays}
+use Rattle.basic_lemmas.proofs.Tests.{not-true}
 
 -- each frame that was sent is done
 pub quiet-done : (past : List Entry) (n : ℕ) → is_quiet past ≡ true → is_sent n past ≡ true → IsDone past n
@@ -42,6 +44,19 @@ quiet-done past n quiet sent =
     let closed = one-of-all (not (is_open n past) ≡ true) (λ m. not (is_open m past)) (λ m. m == n) (frames past) (λ m closed at. rw (eqb-true m n at) at closed) quiet (frame-among n past ∙ sent) in
     let parts = done_by (is_sent n past) (is_metadata_ended n past) (all_settled n past) sent closed in
     record { ended = parts.0; back = parts.1 }
+
+pub quiet-closed : (past : List Entry) (n : ℕ) → is_quiet past ≡ true → is_open n past ≡ true → ⊥
+quiet-closed past n quiet opened =
+    let parts = and_parts (is_sent n past) (not (is_metadata_ended n past && all_settled n past)) opened in
+    let done = quiet-done past n quiet parts.0 in
+    let wrong : false ≡ true = rw (done.ended, done.back) at parts.1 in
+    false≢true wrong
+
+-- and stays so
+pub quiet-stays : (script : Script) (past : List Entry) (e : Entry) → IsLegal script (e ∷ past) → is_quiet past ≡ true → list_all (λ n. not (is_open n (e ∷ past))) (frames past) ≡ true
+quiet-stays script past e legal quiet =
+    all-where-both (λ n. not (is_open n past)) (λ n. is_sent n past) (λ n. not (is_open n (e ∷ past))) (frames past)
+    (λ n closed sent. rw (closed-stays script past e n legal sent (not-true (is_open n past) closed)) refl) quiet (frames-sent past)
 
 -- ---- rows
 
@@ -94,11 +109,11 @@ range_below a zero k l = refl
 range_below a (suc n) k l = and_from _ _ (lt-ltb a k (omega (arith, l))) (range_below (a + 1) n k (omega (arith, l)))
 
 -- the device fence of a buffer that went to the client early was given
-abbrev pub is_low : Option FenceNo → List Entry → Bool
+abbrev pub is_low : Option DeviceFenceNo → List Entry → Bool
 is_low None past = true
 is_low (Some d) past = nat_lt d.0 (next_early past)
 
-low_more : (e : Entry) (past : List Entry) (o : Option FenceNo) → is_low o past ≡ true → is_low o (e ∷ past) ≡ true
+low_more : (e : Entry) (past : List Entry) (o : Option DeviceFenceNo) → is_low o past ≡ true → is_low o (e ∷ past) ≡ true
 low_more e past None h = refl
 low_more e past (Some d) h = let more = count-cons is_early e past in by d.0 (next_early past) (next_early (e ∷ past)) _ h more
   where
@@ -131,7 +146,7 @@ early-low script (e ∷ past) b legal =
 pub there-when-quiet : (script : Script) (past : List Entry) (b : ℕ) → IsLegal script past → is_quiet past ≡ true → is_there (early_fence_of b past) past ≡ true
 there-when-quiet script past b legal quiet = by (early_fence_of b past) (early-low script past b legal)
   where
-    by : (o : Option FenceNo) → is_low o past ≡ true → is_there o past ≡ true
+    by : (o : Option DeviceFenceNo) → is_low o past ≡ true → is_there o past ≡ true
     by None low = refl
     by (Some d) low = late-when-quiet script past d.0 legal quiet low
 

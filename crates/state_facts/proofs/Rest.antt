@@ -33,8 +33,9 @@ use Rattle.trace_laws.proofs.Refusals.{refuses, refusal-refuses}
 use Rattle.state_facts.proofs.Awaited.{await-few, begun-word}
 use Rattle.state_facts.proofs.Listed.{list-served, queue-served}
 use Rattle.state_facts.proofs.Sending.{send-goes}
-use Rattle.state_facts.proofs.Served.{IsAble, is_served, or-none}
+use Rattle.state_facts.proofs.Served.{IsAble, is_served}
 use Rattle.basic_lemmas.proofs.Lists.{all-at}
+use Rattle.cam_types.proofs.RefusalLemmas.{or-none}
 
 -- what comes next: a drop, a send, the client, or the end
 pub data RestOf (script : Script) (past : List Entry) : Type 0 where

@@ -24,10 +24,10 @@ use Rattle.state_facts.proofs.Last.{IsLast, find-none-all, find-one, first-kept,
 use Rattle.state_facts.proofs.Order.{first-order, order-sent}
 use Rattle.trace_laws.proofs.Times.{timed-shutter}
 use Rattle.state_facts.proofs.OpenRows.{IsDone, closed-done, frame-among, row-found}
-use Rattle.state_facts.proofs.Unsent.{buffer_exposed}
 use Rattle.basic_lemmas.proofs.Lists.{all-where, any-found}
 use Rattle.basic_lemmas.proofs.Tests.{passed-where}
 use Rattle.trace_laws.proofs.Frames.{frames-fall}
+use Rattle.trace_laws.proofs.Told.{buffer_exposed}
 
 -- the frame waits for the sensor
 abbrev pub waits : List Entry → ℕ → Bool

@@ -25,25 +25,14 @@ use Rattle.cam_types.specs.Profile.{max_buffers, max_buffers_of, profile_fits, i
 use Rattle.trace_model.specs.Legal.{IsLegal}
 use Rattle.trace_model.specs.Numbers.{call_count}
 use Rattle.trace_model.specs.Reply.{acceptance, made_for, own_refusal, refusal, reply_with, state_refusal}
-use Rattle.cam_types.specs.Refusals.{refused, or_else, where_true, with_value, first_repeated, targets_refusal, item_refusal, items_refusal, list_refusal, is_raw, is_yuv, at_place, specs_refusal}
+use Rattle.cam_types.specs.Refusals.{refused, where_true, with_value, first_repeated, targets_refusal, item_refusal, items_refusal, list_refusal, is_raw, is_yuv, at_place, specs_refusal}
 use Rattle.trace_model.specs.Send.{targets_in_order}
 use Rattle.trace_laws.proofs.Calls.{by-call}
 use Rattle.trace_laws.proofs.Refusals.{refuses, refusal-refuses}
-use Rattle.trace_laws.proofs.Accepted.{no-value}
+use Rattle.cam_types.proofs.RefusalLemmas.{no-value, placed-none, where-none}
+pub use Rattle.cam_types.proofs.RefusalLemmas.{or-none}
 
 -- ---- what isn't refused
-
-pub or-none : (a b : Option Reply) → or_else a b ≡ None → (a ≡ None) × (b ≡ None)
-or-none (Some r) b h = absurd (cc)
-or-none None b h = (refl, h)
-
-where_none : (t : Bool) (r : Reply) → where_true t r ≡ None → t ≡ false
-where_none true r h = absurd (cc)
-where_none false r h = refl
-
-placed_none : (code : ℕ) (o : Option ℕ) → at_place code o ≡ None → o ≡ None
-placed_none code None h = refl
-placed_none code (Some i) h = absurd (cc)
 
 place_none : {X : Type 0} (p : X → Bool) (i : ℕ) (xs : List X) → position_from p i xs ≡ None → list_all (λ x. not (p x)) xs ≡ true
 place_none p i [] h = refl
@@ -172,8 +161,8 @@ specs_none specs h =
     let second = or-none (where_true (nat_lt 4 (length specs)) (refused 22)) _ first.1 in
     let third = or-none (where_true (list_any (λ s. s.input) specs) (refused 23)) _ second.1 in
     let fourth = or-none (at_place 24 (position_from (λ s. not (is_raw s.format) && not (is_yuv s.format)) 0 specs)) _ third.1 in
-    let few = where_none (nat_lt 4 (length specs)) (refused 22) second.0 in
-    (at_most (length specs) few, place_none (λ (s : StreamSpec). not (is_raw s.format) && not (is_yuv s.format)) 0 specs (placed_none 24 _ fourth.0))
+    let few = where-none (nat_lt 4 (length specs)) (refused 22) second.0 in
+    (at_most (length specs) few, place_none (λ (s : StreamSpec). not (is_raw s.format) && not (is_yuv s.format)) 0 specs (placed-none 24 _ fourth.0))
   where
     at_most : (k : ℕ) → nat_lt 4 k ≡ false → k ≤ 4
     at_most k h = grind (arith, nat_tests, h)

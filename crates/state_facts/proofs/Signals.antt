@@ -6,6 +6,7 @@ use Rattle.std.proofs.lemmas.Bool.{ne_eqb}
 use Rattle.std.proofs.lemmas.List.{map-append}
 use Rattle.std.proofs.lemmas.List.Folds.{list_all-append, list_all-map}
 use Rattle.cam_types.specs.declared.number.BufferId.{BufferId}
+use Rattle.cam_types.specs.declared.number.DeviceFenceNo.{DeviceFenceNo}
 use Rattle.cam_types.specs.declared.number.FenceNo.{FenceNo}
 use Rattle.cam_types.specs.declared.number.FrameNo.{FrameNo}
 use Rattle.cam_types.specs.declared.number.StreamIx.{StreamIx}
@@ -66,14 +67,14 @@ abbrev pub late_marks : List Entry → List Bool
 late_marks past = map (λ d. is_late d past) (range_with_len 0 (next_early past))
 
 -- an early return adds a device fence that isn't signalled
-pub marks-given : (script : Script) (past : List Entry) (n : FrameNo) (s : StreamIx) (b : BufferId) (d : FenceNo) → IsLegal script past → late_marks (Early n s b d ∷ past) ≡ late_marks past ++ false ∷ []
+pub marks-given : (script : Script) (past : List Entry) (n : FrameNo) (s : StreamIx) (b : BufferId) (d : DeviceFenceNo) → IsLegal script past → late_marks (Early n s b d ∷ past) ≡ late_marks past ++ false ∷ []
 marks-given script past n s b d legal =
     let more : next_early (Early n s b d ∷ past) ≡ 1 + next_early past = count-one is_early (Early n s b d) past refl in
     let new = not-late script past (next_early past) legal (omega arith) in
     rw (more, range-end (next_early past), map-append (λ g. is_late g past) (range_with_len 0 (next_early past)) (next_early past ∷ []), new) refl
 
 -- the device's signal marks it
-pub marks-late : (past : List Entry) (g : FenceNo) (x : List ℕ) → late_marks (Late g x ∷ past) ≡ slice_set (late_marks past) g.0 true
+pub marks-late : (past : List Entry) (g : DeviceFenceNo) (x : List ℕ) → late_marks (Late g x ∷ past) ≡ slice_set (late_marks past) g.0 true
 marks-late past g x =
     map-same (λ d. (g.0 == d) || is_late d past) (λ d. if g.0 == d then true else is_late d past) (range_with_len 0 (next_early past)) (λ d. or-if (g.0 == d) (is_late d past))
     ∙ set-from (λ d. is_late d past) true g.0 0 g.0 (next_early past) (omega arith)

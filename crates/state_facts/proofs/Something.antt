@@ -19,23 +19,23 @@ use Rattle.trace_laws.proofs.BufferSends.{send-number}
 use Rattle.state_facts.specs.Row.{row_of, target_at}
 use Rattle.state_facts.specs.FrameReadings.{has_something_row}
 use Rattle.state_facts.proofs.FrameRows.{not_sent}
-use Rattle.state_facts.proofs.Unsent.{announce_speaks, return_speaks, speaks, unspoken}
 use Rattle.basic_lemmas.proofs.Counts.{none-counted, some-counted}
 use Rattle.basic_lemmas.proofs.Lists.{found-any, any-where, any-less, any-mapped, any-or, any-never}
 use Rattle.basic_lemmas.proofs.Tests.{passed-where}
+use Rattle.trace_laws.proofs.Told.{buffer-tells, return-tells, some-return-tells, tells, untold}
 
 -- what is said of a frame's targets, one by one, is what is said of any, where each entry says it of a target
-swap_any : (script : Script) (n : ℕ) (g : ℕ → Entry → Bool) (any : Entry → Bool) → ((s : ℕ) (e : Entry) → g s e ≡ true → speaks n e ≡ true) → ((e : Entry) → any e ≡ true → speaks n e ≡ true) → ((past : List Entry) (e : Entry) → IsLegal script (e ∷ past) → list_any (λ t. g t.stream.0 e) (targets_of n past) ≡ any e) → (past : List Entry) → IsLegal script past → list_any (λ t. list_any (g t.stream.0) past) (targets_of n past) ≡ list_any any past
+swap_any : (script : Script) (n : ℕ) (g : ℕ → Entry → Bool) (any : Entry → Bool) → ((s : ℕ) (e : Entry) → g s e ≡ true → tells n e ≡ true) → ((e : Entry) → any e ≡ true → tells n e ≡ true) → ((past : List Entry) (e : Entry) → IsLegal script (e ∷ past) → list_any (λ t. g t.stream.0 e) (targets_of n past) ≡ any e) → (past : List Entry) → IsLegal script past → list_any (λ t. list_any (g t.stream.0) past) (targets_of n past) ≡ list_any any past
 swap_any script n g any one some by [] legal = refl
 swap_any script n g any one some by (Send m r i same targets ∷ past) legal =
     let e = Send m r i same targets in
     elim (cases_Bool (m.0 == n)) [
       | inl here ↦ (
           let number = rw (eqb-true m.0 n here) at (send-number script past m.0 r.0 i same targets legal.0) in
-          let none = unspoken script past n legal.1 (not_sent script past n legal.1 number) in
-          let silent : list_any (speaks n) (e ∷ past) ≡ false = none in
-          let each = any-never (λ t. list_any (g t.stream.0) (e ∷ past)) (four_list targets) (λ t. any-less (speaks n) (g t.stream.0) (e ∷ past) (one t.stream.0) silent) in
-          rw (here, each) (sym (any-less (speaks n) any (e ∷ past) some silent))
+          let none = untold script past n legal.1 (not_sent script past n legal.1 number) in
+          let silent : list_any (tells n) (e ∷ past) ≡ false = none in
+          let each = any-never (λ t. list_any (g t.stream.0) (e ∷ past)) (four_list targets) (λ t. any-less (tells n) (g t.stream.0) (e ∷ past) (one t.stream.0) silent) in
+          rw (here, each) (sym (any-less (tells n) any (e ∷ past) some silent))
           )
       | inr other ↦ rw (other, any-or (λ t. g t.stream.0 e) (λ t. list_any (g t.stream.0) past) (targets_of n past), by past e legal, swap_any script n g any one some by past legal.1) refl
     ]
@@ -60,14 +60,8 @@ return_by script n past (Failed m s b f) legal = let back = failed-back past m s
 return_by script n past (Early m s b d) legal = let back = early-back script past m s b d legal.0 in named_by m.0 n s.0 past (has_that m.0 s.0 past back.target back.found)
 return_by script n past _ legal = any-never (λ t. false) (targets_of n past) (λ t. refl)
 
-any_speaks : (n : ℕ) (e : Entry) → returns_of_frame n e ≡ true → speaks n e ≡ true
-any_speaks n (Filled m t b f d) h = h
-any_speaks n (Failed m t b f) h = h
-any_speaks n (Early m t b d) h = h
-any_speaks n _ h = absurd (false≢true h)
-
 pub returned-any : (script : Script) (past : List Entry) (n : ℕ) → IsLegal script past → list_any (λ t. is_returned n t.stream.0 past) (targets_of n past) ≡ list_any (returns_of_frame n) past
-returned-any script past n legal = swap_any script n (returns_target n) (returns_of_frame n) (return_speaks n) (any_speaks n) (return_by script n) past legal
+returned-any script past n legal = swap_any script n (returns_target n) (returns_of_frame n) (return-tells n) (some-return-tells n) (return_by script n) past legal
 
 -- ---- what was announced
 
@@ -85,12 +79,12 @@ announce_by script n past (ErrorBuffer m s) legal =
     named_by m.0 n s.0 past (any-where (λ t. t.stream.0 == s.0) (λ t. s.0 == t.stream.0) (targets_of m.0 past) (λ u h. eq-eqb s.0 u.stream.0 (sym (eqb-true u.stream.0 s.0 h))) (announce_target script past m.0 s.0 (passed-where _ _ _ legal.0)))
 announce_by script n past _ legal = any-never (λ t. false) (targets_of n past) (λ t. refl)
 
-announces_speaks : (n : ℕ) (e : Entry) → announces n e ≡ true → speaks n e ≡ true
-announces_speaks n (ErrorBuffer m t) h = h
-announces_speaks n _ h = absurd (false≢true h)
+announces_tells : (n : ℕ) (e : Entry) → announces n e ≡ true → tells n e ≡ true
+announces_tells n (ErrorBuffer m t) h = h
+announces_tells n _ h = absurd (false≢true h)
 
 pub announced-any : (script : Script) (past : List Entry) (n : ℕ) → IsLegal script past → list_any (λ t. has_error_buffer n t.stream.0 past) (targets_of n past) ≡ list_any (announces n) past
-announced-any script past n legal = swap_any script n (is_error_buffer n) (announces n) (announce_speaks n) (announces_speaks n) (announce_by script n) past legal
+announced-any script past n legal = swap_any script n (is_error_buffer n) (announces n) (buffer-tells n) (announces_tells n) (announce_by script n) past legal
 
 -- ---- all of it
 

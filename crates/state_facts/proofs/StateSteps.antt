@@ -29,7 +29,7 @@ use Rattle.state_facts.proofs.FrameDone.{last_reads}
 use Rattle.state_facts.proofs.FrameRows.{rows_follow}
 use Rattle.state_facts.proofs.Sensor.{time_reads}
 use Rattle.state_facts.specs.Turns.{repeats_next, settings_next}
-use Rattle.state_facts.specs.States.{State, last_after, noted, state}
+use Rattle.state_facts.specs.States.{State, last_after, state_after, state}
 use Rattle.state_facts.proofs.Items.{IsNext, is-next}
 
 -- ---- what the next item says of a send
@@ -53,14 +53,14 @@ rows-after script past (Send n r i same targets) legal =
     two-args f s t a b x y = rw (x, y) refl
 rows-after script past e legal = rows_follow script past e legal
 
-client-after : (script : Script) (past : List Entry) (e : Entry) → IsLegal script (e ∷ past) → clients script (e ∷ past) ≡ client.noted script (repeats_next (next_of (turns script past))) (finishes_in e (open_rows script past)) e (clients script past)
+client-after : (script : Script) (past : List Entry) (e : Entry) → IsLegal script (e ∷ past) → clients script (e ∷ past) ≡ client.clients_after script (repeats_next (next_of (turns script past))) (finishes_in e (open_rows script past)) e (clients script past)
 client-after script past (Send n r i same targets) legal =
     let says = send-says script past n r i same targets legal.1 legal.0 in
-    client_is script past (Send n r i same targets) legal ∙ ap (λ b. client.noted script b false (Send n r i same targets) (clients script past)) says.1
+    client_is script past (Send n r i same targets) legal ∙ ap (λ b. client.clients_after script b false (Send n r i same targets) (clients script past)) says.1
 client-after script past e legal = client_is script past e legal ∙ told script past e (last_reads script past e legal)
   where
-    told : (script : Script) (past : List Entry) (e : Entry) → client.finishes script past e ≡ finishes_in e (open_rows script past) → client.noted script (client.repeats script past e) (client.finishes script past e) e (clients script past) ≡ client.noted script (client.repeats script past e) (finishes_in e (open_rows script past)) e (clients script past)
-    told script past e h = ap (λ b. client.noted script (client.repeats script past e) b e (clients script past)) h
+    told : (script : Script) (past : List Entry) (e : Entry) → client.finishes script past e ≡ finishes_in e (open_rows script past) → client.clients_after script (client.repeats script past e) (client.finishes script past e) e (clients script past) ≡ client.clients_after script (client.repeats script past e) (finishes_in e (open_rows script past)) e (clients script past)
+    told script past e h = ap (λ b. client.clients_after script (client.repeats script past e) b e (clients script past)) h
 
 last-after : (script : Script) (past : List Entry) (e : Entry) → IsLegal script (e ∷ past) → last_settings script (e ∷ past) ≡ last_after (settings_next (next_of (turns script past))) e (last_settings script past)
 last-after script past (Send n r i same targets) legal = ap Some (send-says script past n r i same targets legal.1 legal.0).0
@@ -73,6 +73,6 @@ last-after script past _ legal = refl
 same-state : (a b : Turns) (c d : Homes) (x y : Clients) (r s : List Row) (k l : Option Settings) (t u : ℕ) → a ≡ b → c ≡ d → x ≡ y → r ≡ s → k ≡ l → t ≡ u → ◌≡◌ {A = State} (record { queue = a; buffers = c; client = x; rows = r; last = k; clock = t }) (record { queue = b; buffers = d; client = y; rows = s; last = l; clock = u })
 same-state a b c d x y r s k l t u e1 e2 e3 e4 e5 e6 = rw (e1, e2, e3, e4, e5, e6) refl
 
-pub noted_is : (script : Script) (past : List Entry) (e : Entry) → IsLegal script (e ∷ past) → state script (e ∷ past) ≡ noted script e (state script past)
+pub noted_is : (script : Script) (past : List Entry) (e : Entry) → IsLegal script (e ∷ past) → state script (e ∷ past) ≡ state_after script e (state script past)
 noted_is script past e legal =
     same-state _ _ _ _ _ _ _ _ _ _ _ _ (queue_is script past e legal) (buffers_are script past e legal) (client-after script past e legal) (rows-after script past e legal) (last-after script past e legal) (time_reads script past e legal)

@@ -29,7 +29,7 @@ use Rattle.trace_model.specs.Stopping.{is_stopping}
 use Rattle.trace_laws.proofs.Calls.{by-call}
 use Rattle.trace_laws.proofs.Refusals.{refuses, refusal-refuses}
 use Rattle.trace_laws.proofs.Submitted.{request-number}
-use Rattle.state_facts.specs.Turns.{Turn, Turns, noted, placed, request_after, turn_called, turn_of, turns}
+use Rattle.state_facts.specs.Turns.{Turn, Turns, turns_after, placed, request_after, turn_called, turn_of, turns}
 use Rattle.state_facts.proofs.Names.{unsent}
 use Rattle.state_facts.proofs.Sends.{dropped-kept, queue-submitted, sent-kept}
 use Rattle.basic_lemmas.proofs.Counts.{count-one}
@@ -113,7 +113,7 @@ dropped-count script past n r i may =
 
 -- ---- each entry
 
-pub noted_is : (script : Script) (past : List Entry) (e : Entry) → IsLegal script (e ∷ past) → turns script (e ∷ past) ≡ noted script e (turns script past)
+pub noted_is : (script : Script) (past : List Entry) (e : Entry) → IsLegal script (e ∷ past) → turns script (e ∷ past) ≡ turns_after script e (turns script past)
 noted_is script past (Call i word reply) legal =
     same-turns _ _ _ _ _ _ _ _ (called-queue script past i word reply legal.1 legal.0) (called-turn script past i word reply legal.1 legal.0) refl (called-count script past i word reply legal.0)
 noted_is script past (Send n r i same targets) legal =

@@ -73,9 +73,9 @@ one_if b = if b then 1 else 0
 
 -- the two tests are what the queue and the frames say of the entry: that it sends an item of a repeating list, and that
 -- the device is done with a frame of one
-abbrev pub noted : Script → Bool → Bool → Entry → Clients → Clients
-noted script repeats finishes (Begin word) t = record t { begun = Some word; done = 0 }
-noted script repeats finishes (Call i word reply) t = record t {
+abbrev pub clients_after : Script → Bool → Bool → Entry → Clients → Clients
+clients_after script repeats finishes (Begin word) t = record t { begun = Some word; done = 0 }
+clients_after script repeats finishes (Call i word reply) t = record t {
   calls = i + 1;
   begun = None;
   configured = configures (Call i word reply) || t.configured;
@@ -83,15 +83,15 @@ noted script repeats finishes (Call i word reply) t = record t {
   streams = streams_called script i reply t.streams;
   repeated = 0;
 }
-noted script repeats finishes (Send _ _ _ _ _) t = record t { repeated = one_if repeats + t.repeated }
-noted script repeats finishes (Partial _ _ _) t = record t { done = one_if finishes + t.done }
-noted script repeats finishes (Filled _ _ _ _ _) t = record t { done = one_if finishes + t.done }
-noted script repeats finishes (Failed _ _ _ _) t = record t { done = one_if finishes + t.done }
-noted script repeats finishes (ErrorRequest _) t = record t { done = one_if finishes + t.done }
-noted script repeats finishes (ErrorResult _) t = record t { done = one_if finishes + t.done }
-noted script repeats finishes (Late _ _) t = record t { done = one_if finishes + t.done }
-noted script repeats finishes ErrorDevice t = record t { failed = true }
-noted script repeats finishes _ t = t
+clients_after script repeats finishes (Send _ _ _ _ _) t = record t { repeated = one_if repeats + t.repeated }
+clients_after script repeats finishes (Partial _ _ _) t = record t { done = one_if finishes + t.done }
+clients_after script repeats finishes (Filled _ _ _ _ _) t = record t { done = one_if finishes + t.done }
+clients_after script repeats finishes (Failed _ _ _ _) t = record t { done = one_if finishes + t.done }
+clients_after script repeats finishes (ErrorRequest _) t = record t { done = one_if finishes + t.done }
+clients_after script repeats finishes (ErrorResult _) t = record t { done = one_if finishes + t.done }
+clients_after script repeats finishes (Late _ _) t = record t { done = one_if finishes + t.done }
+clients_after script repeats finishes ErrorDevice t = record t { failed = true }
+clients_after script repeats finishes _ t = t
 
 -- the entry sends an item of a repeating request
 abbrev pub repeats : Script → List Entry → Entry → Bool

@@ -1,6 +1,7 @@
 use Rattle.std.specs.Prelude.{ℕ, ◌+◌, ◌^◌, ◌<◌, Bool, true, ◌&&◌, List, Option, Some, None, length, nat_le, nat_lt, IsTrue}
 use Rattle.std.specs.List.{list_all}
 use Rattle.cam_types.specs.Script.{is_valid}
+use Rattle.cam_types.specs.declared.number.DeviceFenceNo.{DeviceFenceNo}
 use Rattle.cam_types.specs.declared.request.WaitingItem.{WaitingItem}
 use Rattle.cam_types.specs.declared.script.Script.{Script}
 use Rattle.trace_model.specs.declared.entry.Entry.{Entry}
@@ -21,6 +22,11 @@ waiting_fits w = is_small w.request.0 && is_small w.index
 abbrev pub turn_fits : Option Turn → Bool
 turn_fits (Some q) = is_small q.request.0 && is_small q.place
 turn_fits None = true
+
+-- the number of a device fence, if there is one, fits
+abbrev pub device_fence_fits : Option DeviceFenceNo → Bool
+device_fence_fits (Some d) = is_small d.0
+device_fence_fits None = true
 
 -- the time of a shutter, if there is one, fits
 abbrev pub time_fits : Option ℕ → Bool
@@ -46,7 +52,7 @@ pub record NumbersFit (s : State) : Type 0 where
   pub fences : length s.buffers.signalled < 2 ^ 32
   pub device_fences : length s.buffers.late < 2 ^ 32
   pub at_home : IsTrue (list_all fence_fits s.buffers.fences)
-  pub held : IsTrue (list_all fence_fits s.buffers.held)
+  pub held : IsTrue (list_all device_fence_fits s.buffers.held)
   pub calls : s.client.calls < 2 ^ 32
   pub repeated : s.client.repeated < 2 ^ 32
   pub done : s.client.done < 2 ^ 32

@@ -21,7 +21,7 @@ use Rattle.trace_model.specs.Send.{at_device_count}
 use Rattle.trace_model.specs.Shutter.{next_time, shutter_due}
 use Rattle.trace_model.specs.Stopping.{is_stopping}
 use Rattle.state_facts.specs.Clients.{finishes}
-use Rattle.state_facts.specs.Row.{Row, Target, is_ended, is_open_row, noted_row, open_rows}
+use Rattle.state_facts.specs.Row.{Row, Target, is_ended, is_open_row, row_after, open_rows}
 use Rattle.trace_laws.specs.Settled.{has_fence}
 use Rattle.cam_types.specs.Limits.{frame_time}
 
@@ -294,7 +294,7 @@ RowsFew script past = IsLegal script past → length (open_rows script past) ≤
 
 -- the row is of a repeating request, and the entry closes it
 abbrev pub closes : Entry → Row → Bool
-closes e r = r.repeats && not (is_open_row (noted_row e r))
+closes e r = r.repeats && not (is_open_row (row_after e r))
 
 -- a begin counts anew; each other entry adds the rows that it closes
 abbrev pub done_after : List Row → Entry → ℕ → ℕ

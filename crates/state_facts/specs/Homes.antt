@@ -1,6 +1,7 @@
 use Rattle.std.specs.Prelude.{ℕ, ◌-◌, ◌+◌, Bool, true, false, ◌&&◌, not, List, [], ◌∷◌, ◌++◌, Option, Some, None, length, map, filter, find, nat_le, nat_lt, replicate, slice_get, slice_index_or, slice_set, sum_by, if◌then◌else◌}
 use Rattle.std.specs.List.{list_all, range_with_len}
 use Rattle.cam_types.specs.Four.{four_list}
+use Rattle.cam_types.specs.declared.number.DeviceFenceNo.{DeviceFenceNo}
 use Rattle.cam_types.specs.declared.number.FenceNo.{FenceNo}
 use Rattle.cam_types.specs.declared.reply.Made.{Made}
 use Rattle.cam_types.specs.declared.reply.Reply.TheVariants.{Configured}
@@ -24,7 +25,7 @@ pub record Homes : Type 0 where
   pub places : List Place
   pub fences : List (Option FenceNo)
   pub signalled : List Bool
-  pub held : List (Option FenceNo)
+  pub held : List (Option DeviceFenceNo)
   pub late : List Bool
 
 -- before the first configuration
@@ -67,7 +68,7 @@ put_all a v [] xs = xs
 put_all a v (t ∷ targets) xs = slice_set (put_all a v targets xs) (t.buffer.0 - a) v
 
 -- buffer b goes to a place, with a fence, and with a device fence
-abbrev pub put : ℕ → Place → Option FenceNo → Option FenceNo → Homes → Homes
+abbrev pub put : ℕ → Place → Option FenceNo → Option DeviceFenceNo → Homes → Homes
 put b p f d t =
     record t {
       places = slice_set t.places (b - t.first) p;
@@ -95,16 +96,16 @@ sent_with targets t =
     }
 
 -- the state after an entry: each that names a buffer moves it, each release and each early return gives a fence
-abbrev pub noted : Entry → Homes → Homes
-noted (Call _ _ (Configured each)) t = configured (four_list each) t
-noted (Send _ _ _ _ targets) t = sent_with (four_list targets) t
-noted (Filled _ _ b _ _) t = put b.0 Client None None t
-noted (Failed _ _ b f) t = put b.0 Pool f None t
-noted (Release b f) t = let back = put b.0 Pool (Some f) None t in record back { signalled = t.signalled ++ false ∷ [] }
-noted (Signal f) t = record t { signalled = slice_set t.signalled f.0 true }
-noted (Early _ _ b d) t = let back = put b.0 Client None (Some d) t in record back { late = t.late ++ false ∷ [] }
-noted (Late d _) t = record t { late = slice_set t.late d.0 true }
-noted _ t = t
+abbrev pub homes_after : Entry → Homes → Homes
+homes_after (Call _ _ (Configured each)) t = configured (four_list each) t
+homes_after (Send _ _ _ _ targets) t = sent_with (four_list targets) t
+homes_after (Filled _ _ b _ _) t = put b.0 Client None None t
+homes_after (Failed _ _ b f) t = put b.0 Pool f None t
+homes_after (Release b f) t = let back = put b.0 Pool (Some f) None t in record back { signalled = t.signalled ++ false ∷ [] }
+homes_after (Signal f) t = record t { signalled = slice_set t.signalled f.0 true }
+homes_after (Early _ _ b d) t = let back = put b.0 Client None (Some d) t in record back { late = t.late ++ false ∷ [] }
+homes_after (Late d _) t = record t { late = slice_set t.late d.0 true }
+homes_after _ t = t
 
 -- ---- what is read from it
 
@@ -126,7 +127,7 @@ passed_in t (Some f) = signalled_in t f.0
 passed_in t None = true
 
 -- the device fence of a buffer that went to the client early
-abbrev pub held_in : Homes → ℕ → Option FenceNo
+abbrev pub held_in : Homes → ℕ → Option DeviceFenceNo
 held_in t b = slice_index_or t.held (b - t.first) None
 
 -- a device fence is signalled: the picture of its early return is there
@@ -134,7 +135,7 @@ abbrev pub late_in : Homes → ℕ → Bool
 late_in t d = slice_index_or t.late d false
 
 -- there is no device fence to wait for, or it is signalled
-abbrev pub there_in : Homes → Option FenceNo → Bool
+abbrev pub there_in : Homes → Option DeviceFenceNo → Bool
 there_in t None = true
 there_in t (Some d) = late_in t d.0
 

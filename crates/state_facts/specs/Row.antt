@@ -1,5 +1,5 @@
 use Rattle.trace_laws.specs.Settled.{gives, settles}
-use Rattle.trace_laws.specs.Times.{note_parts, note_time}
+use Rattle.trace_laws.specs.Times.{partials_after, note_time}
 use Rattle.std.specs.Prelude.{◌≡◌, ℕ, Bool, false, ◌&&◌, ◌||◌, not, List, [], ◌∷◌, ◌++◌, Option, None, filter, map, nat_le}
 use Rattle.std.specs.List.{list_all}
 use Rattle.cam_types.specs.Four.{four_list}
@@ -15,7 +15,7 @@ use Rattle.trace_model.specs.Entry.{is_error_buffer, is_error_request, is_error_
 use Rattle.trace_model.specs.Frames.{has_error_request, is_repeating_frame, settings_in, settings_of, shutter_time, targets_of}
 use Rattle.trace_model.specs.Legal.{IsLegal}
 use Rattle.trace_model.specs.Open.{early_fences, has_error_buffer, has_error_result, is_returned, is_settled}
-use Rattle.trace_model.specs.Partial.{part_count}
+use Rattle.trace_model.specs.Partial.{partial_count}
 use Rattle.trace_model.specs.Stopping.{is_stopped}
 use Rattle.state_facts.specs.Clients.{repeats}
 
@@ -61,7 +61,7 @@ row_of script past n = record {
   repeats = is_repeating_frame script past n;
   targets = map (target_at n past) (targets_of n past);
   shutter = shutter_time n past;
-  parts = part_count n past;
+  parts = partial_count n past;
   request_error = has_error_request n past;
   result_error = has_error_result n past;
   stopped = is_stopped n past;
@@ -88,8 +88,8 @@ open_rows script past = filter is_open_row (map (row_of script past) (in_order p
 
 -- ---- entry by entry
 
-abbrev pub noted_target : ℕ → Entry → Target → Target
-noted_target n e t = record {
+abbrev pub target_after : ℕ → Entry → Target → Target
+target_after n e t = record {
   sent = t.sent;
   announced = is_error_buffer n t.sent.stream.0 e || t.announced;
   returned = returns_target n t.sent.stream.0 e || t.returned;
@@ -98,14 +98,14 @@ noted_target n e t = record {
 }
 
 -- what an entry does to a row, field by field
-abbrev pub noted_row : Entry → Row → Row
-noted_row e r = record {
+abbrev pub row_after : Entry → Row → Row
+row_after e r = record {
   number = r.number;
   settings = r.settings;
   repeats = r.repeats;
-  targets = map (noted_target r.number e) r.targets;
+  targets = map (target_after r.number e) r.targets;
   shutter = note_time e r.number r.shutter;
-  parts = note_parts e r.number r.parts;
+  parts = partials_after e r.number r.parts;
   request_error = is_error_request r.number e || r.request_error;
   result_error = is_error_result r.number e || r.result_error;
   stopped = is_stop e || r.stopped;
@@ -135,7 +135,7 @@ new_rows settings repeats _ = []
 
 -- the rows after an entry
 abbrev pub rows_after : Settings → Bool → Entry → List Row → List Row
-rows_after settings repeats e rows = filter is_open_row (map (noted_row e) rows) ++ new_rows settings repeats e
+rows_after settings repeats e rows = filter is_open_row (map (row_after e) rows) ++ new_rows settings repeats e
 
 -- the settings of the item that an entry sends, as the past says of the request and place that it names
 abbrev pub sent_settings : Script → List Entry → Entry → Settings

@@ -57,13 +57,13 @@ last_after settings (Send _ _ _ _ _) old = Some settings
 last_after settings _ old = old
 
 -- the state after an entry, from the state before it alone
-abbrev pub noted : Script → Entry → State → State
-noted script e s =
+abbrev pub state_after : Script → Entry → State → State
+state_after script e s =
     let next = next_of s.queue in
     record {
-      queue = queue.noted script e s.queue;
-      buffers = buffers.noted e s.buffers;
-      client = client.noted script (repeats_next next) (finishes_in e s.rows) e s.client;
+      queue = queue.turns_after script e s.queue;
+      buffers = buffers.homes_after e s.buffers;
+      client = client.clients_after script (repeats_next next) (finishes_in e s.rows) e s.client;
       rows = rows_after (settings_next next) (repeats_next next) e s.rows;
       last = last_after (settings_next next) e s.last;
       clock = time_after s.rows e s.clock;
@@ -152,7 +152,7 @@ abbrev pub error_device_in : Script → State → Option Entry
 error_device_in script s =
     if device_fails script (stopping_in s.client) (next_exposed s.rows) then Some ErrorDevice else None
 
--- the metadata result of frame n that is due
+-- the partial result of frame n that is due
 abbrev pub partial_in : Script → State → ℕ → Option Entry
 partial_in script s n = on_row (part_row script s.rows) (row_at n s.rows)
 

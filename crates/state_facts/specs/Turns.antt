@@ -90,16 +90,16 @@ request_after (Submitted r) old = r.0 + 1
 request_after _ old = old
 
 -- the state after an entry: what is accepted waits, what is sent or dropped doesn't, and each number is the entry's own
-abbrev pub noted : Script → Entry → Turns → Turns
-noted script (Call i word reply) t = record t {
+abbrev pub turns_after : Script → Entry → Turns → Turns
+turns_after script (Call i word reply) t = record t {
   waiting = t.waiting ++ puts script (Call i word reply);
   turn = turn_called script i word reply t.turn;
   requests = request_after reply t.requests;
 }
-noted script (Send n _ _ _ _) t =
+turns_after script (Send n _ _ _ _) t =
     record t { waiting = tail t.waiting; turn = turn_sent t.waiting t.turn; numbers = n.0 + 1 }
-noted script (Dropped n _ _) t = record t { waiting = tail t.waiting; numbers = n.0 + 1 }
-noted script _ t = t
+turns_after script (Dropped n _ _) t = record t { waiting = tail t.waiting; numbers = n.0 + 1 }
+turns_after script _ t = t
 
 -- ---- what is read from it
 

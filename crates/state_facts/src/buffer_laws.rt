@@ -10,18 +10,15 @@ ghost use Rattle.trace_model.specs.Numbers.{next_early, next_fence};
 ghost use Rattle.trace_model.specs.Place.{all_in_pool, place};
 ghost use Rattle.trace_model.specs.Release.{release_due, signal_due};
 ghost use Rattle.trace_model.specs.Send.{at_device_count, least_in_pool};
-ghost use Rattle.state_facts.specs.Homes.{all_home, all_signalled, at_device_in, fence_in, first_buffer, held_in, homes, late_in, least_in, no_homes, noted, place_in, release_in, signal_in, signalled_in};
+ghost use Rattle.state_facts.specs.Homes.{all_home, all_signalled, at_device_in, fence_in, first_buffer, held_in, homes, late_in, least_in, no_homes, homes_after, place_in, release_in, signal_in, signalled_in};
 
-/// Before the first entry there are no buffers.
-pub fn no_buffer_is_there_at_first()
-    ensures { homes [] ≡ no_homes }
-{}
-
-/// The state after each entry of a legal run is what the entry makes of the state before it.
+/// Before the first entry there are no buffers; the state after each entry of a legal run is what the entry makes of the
+/// state before it.
 #[tactic(auto, using(crate::proofs::BufferSteps::noted_is))]
 pub fn each_entry_moves_buffers()
-    ensures { (script : SomeScript) (past : List SomeEntry) (e : SomeEntry) →
-        IsLegal script (e ∷ past) → homes (e ∷ past) ≡ noted e (homes past) }
+    ensures first { homes [] ≡ no_homes }
+    ensures next { (script : SomeScript) (past : List SomeEntry) (e : SomeEntry) →
+        IsLegal script (e ∷ past) → homes (e ∷ past) ≡ homes_after e (homes past) }
 {}
 
 /// Each buffer's place is read from the state, whether all are in the pool, and how many buffers were made.

@@ -11,21 +11,18 @@ ghost use Rattle.trace_model.specs.Send.{may_repeat};
 ghost use Rattle.trace_model.specs.Stopping.{is_stopping};
 ghost use Rattle.state_facts.specs.Turns.{turns};
 ghost use Rattle.state_facts.specs.Homes.{homes};
-ghost use Rattle.state_facts.specs.Clients.{clients, finishes, no_clients, noted, repeats};
+ghost use Rattle.state_facts.specs.Clients.{clients, finishes, no_clients, clients_after, repeats};
 ghost use Rattle.state_facts.specs.Replies.{begin_in, call_in, may_repeat_in, reply_in, stopping_in};
 
-/// Before the first entry nothing is called.
-pub fn nothing_is_called_at_first()
-    ensures { (script : SomeScript) → clients script [] ≡ no_clients }
-{}
-
-/// The state after each entry of a legal run is what the entry makes of the state before it.
+/// Before the first entry nothing is called; the state after each entry of a legal run is what the entry makes of the state
+/// before it.
 #[tactic(auto, using(crate::proofs::ClientSteps::noted_is))]
 pub fn each_entry_moves_the_client()
-    ensures { (script : SomeScript) (past : List SomeEntry) (e : SomeEntry) →
+    ensures first { (script : SomeScript) → clients script [] ≡ no_clients }
+    ensures next { (script : SomeScript) (past : List SomeEntry) (e : SomeEntry) →
         IsLegal script (e ∷ past) →
         clients script (e ∷ past)
-        ≡ noted script (repeats script past e) (finishes script past e) e (clients script past) }
+        ≡ clients_after script (repeats script past e) (finishes script past e) e (clients script past) }
 {}
 
 /// What is due of the client is read from the states, and what reply each command has.

@@ -26,7 +26,7 @@ pub fn rows_tell_the_sensor()
     ensures time { (script : SomeScript) (past : List SomeEntry) (e : SomeEntry) → TimeReads script past e }
 {}
 
-/// The metadata result and the errors of a frame that are due.
+/// The partial result and the errors of a frame that are due.
 #[tactic(auto, using(crate::proofs::Metadata::part_reads, crate::proofs::Errors::request_reads, crate::proofs::Errors::result_reads, crate::proofs::Errors::buffer_reads))]
 pub fn rows_tell_metadata_and_errors()
     ensures part { (script : SomeScript) (past : List SomeEntry) → PartReads script past }

@@ -12,18 +12,15 @@ ghost use Rattle.trace_model.specs.Send.{send_due};
 ghost use Rattle.trace_model.specs.Shutter.{shutter_due};
 ghost use Rattle.state_facts.specs.Fits.{FitsTypes};
 ghost use Rattle.state_facts.specs.Runs.{IsRun, MayAdd, no_state, run};
-ghost use Rattle.state_facts.specs.States.{drop_in, early_in, error_buffer_in, error_device_in, error_request_in, error_result_in, failed_in, filled_in, late_in, noted, partial_in, send_in, shutter_in, state};
+ghost use Rattle.state_facts.specs.States.{drop_in, early_in, error_buffer_in, error_device_in, error_request_in, error_result_in, failed_in, filled_in, late_in, state_after, partial_in, send_in, shutter_in, state};
 
-/// Before the first entry nothing waits, there are no buffers, nothing is called and no frame is open.
-pub fn nothing_stands_at_first()
-    ensures { (script : SomeScript) → state script [] ≡ no_state }
-{}
-
-/// The state after each entry of a legal run is what the entry makes of the state before it.
+/// Before the first entry nothing waits, there are no buffers, nothing is called and no frame is open; the state after each
+/// entry of a legal run is what the entry makes of the state before it.
 #[tactic(auto, using(crate::proofs::StateSteps::noted_is))]
 pub fn each_entry_is_noted()
-    ensures { (script : SomeScript) (past : List SomeEntry) (e : SomeEntry) →
-        IsLegal script (e ∷ past) → state script (e ∷ past) ≡ noted script e (state script past) }
+    ensures first { (script : SomeScript) → state script [] ≡ no_state }
+    ensures next { (script : SomeScript) (past : List SomeEntry) (e : SomeEntry) →
+        IsLegal script (e ∷ past) → state script (e ∷ past) ≡ state_after script e (state script past) }
 {}
 
 /// Every send, drop and entry of a frame that is due is read from the state: that of a frame from its row, if it is

@@ -1,7 +1,7 @@
 -- The status that belongs to an input of `timeline` is 0 or 1.
 use Rattle.std.proofs.Common.{◌≤◌, ◌<◌, ℕ, Bool, true, false, List, Result, Ok, Err, length, arith, inl, inr, if◌then◌else◌}
 use Rattle.call_parts.specs.Answers.{AreAnswers}
-use Rattle.call_parts.proofs.Meanings.{long_limited, of_limited, of_verdict}
+use Rattle.call_parts.proofs.Meanings.{of_verdict}
 use Rattle.cam_types.specs.declared.script.Script.{Script}
 use Rattle.hal_timeline.specs.Charts.{breaches_of}
 use Rattle.hal_timeline.specs.Groups.{is_some_breach}
@@ -16,9 +16,8 @@ use Rattle.trace_model.specs.declared.list.TraceList.{TraceList}
 use Rattle.trace_reader.specs.Grammar.{trace_of}
 use Rattle.trace_reader.specs.declared.cause.TraceRefused.{TraceRefused}
 use Rattle.trace_reader.specs.declared.cause.TraceRefused.TheVariants.{Bad as BadTrace, NoMemory as NoTraceMemory}
-use Rattle.judge_text.specs.Lines.{refused_trace_text}
 use Rattle.judge_text.specs.Parts.{first_line, script_part, trace_part}
-use Rattle.timeline_call.specs.Shown.{Shows, ShowsBoth, ShowsKind, ShowsLog, ShowsParts, ShowsTrace}
+use Rattle.timeline_call.specs.Shown.{ShowsBoth, ShowsKind, ShowsLog, ShowsParts, ShowsTrace}
 use Rattle.timeline_call.specs.Kinds.{is_hal}
 use Rattle.timeline_call.specs.declared.form.Form.{Form}
 
@@ -50,8 +49,5 @@ of-kind form input true wanted text h = of-log form (log_of input) wanted text h
 of-kind form input false wanted text h =
     of-parts form (first_line input) (script_of (script_part input)) (trace_of (first_line input) (trace_part input)) wanted text h
 
-pub are_shown : (form : Form) (input : List ℕ) → AreAnswers (Shows form input)
-are_shown form input = of_limited _ (λ short. ShowsKind form short (is_hal short)) input (of-kind form input (is_hal input))
-
-pub long_refused : (form : Form) (input : List ℕ) → 134217728 < length input → Shows form input 1 (refused_trace_text 0 45)
-long_refused form input l = long_limited _ (λ short. ShowsKind form short (is_hal short)) input l
+pub are_shown : (form : Form) (input : List ℕ) → AreAnswers (ShowsKind form input (is_hal input))
+are_shown form input = of-kind form input (is_hal input)

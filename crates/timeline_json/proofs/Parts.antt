@@ -1,5 +1,5 @@
 -- The parts of the text make up the text of the whole.
-use Rattle.std.proofs.Common.{◌≡◌, ℕ, true, List, [], ◌∷◌, ◌++◌, append_assoc, append-nil, refl, sym, ap, ◌∙◌, codes, map, Option, Some, None}
+use Rattle.std.proofs.Common.{◌≡◌, ℕ, true, List, [], ◌∷◌, ◌++◌, append_assoc, refl, sym, ap, ◌∙◌, codes, map, Option, Some, None}
 use Rattle.std.specs.List.{flat_map}
 use Rattle.serde_json.specs.Data.{Data}
 use Rattle.serde_json.specs.Written.{compact_text, items_text}
@@ -7,11 +7,10 @@ use Rattle.serde_json.proofs.OnLiterals.{serde_json_on_literals}
 use Rattle.timeline_model.specs.declared.chart.Chart.{Chart}
 use Rattle.timeline_model.specs.declared.chart.Group.{Group}
 use Rattle.timeline_model.specs.declared.chart.Kind.{Kind}
-use Rattle.timeline_model.specs.declared.chart.Kind.TheVariants.{Trace, Hal}
 use Rattle.timeline_model.specs.declared.chart.Lane.{Lane}
 use Rattle.timeline_model.specs.declared.chart.Piece.{Piece}
 use Rattle.timeline_json.specs.Events.{verdict_data}
-use Rattle.timeline_json.specs.Timelines.{behind_commas, call_threads, call_threads_text, camera_data, camera_text, events_text, fault_events, fault_group_text, fault_of, group_events, group_text, hal_threads, hal_threads_text, head_text, items_of, json_text, level_events, more_events, names_text, note_line, piece_events, piece_text, rest_text, stream_name, thread, thread_names, thread_text, threads_text, told_of, trace_data, trace_threads, trace_threads_text, unfinished_event, verdict_text}
+use Rattle.timeline_json.specs.Timelines.{behind_commas, camera_data, camera_text, events_text, fault_events, fault_group_text, fault_of, group_events, group_text, head_text, items_of, json_text, level_events, more_events, names_text, note_line, piece_events, piece_text, rest_text, stream_name, thread_names, told_of, trace_data, unfinished_event, verdict_text}
 
 -- events in one list behind those in another
 both : (ds es : List Data) → behind_commas (ds ++ es) ≡ behind_commas ds ++ behind_commas es
@@ -54,33 +53,6 @@ fault : (kind : Kind) (f : Option Group) → behind_commas (fault_of kind f) ≡
 fault kind (Some g) = one kind g
 fault kind None = refl
 
--- six events, and four
-six : (a b c d e f : Data) → behind_commas (a ∷ b ∷ c ∷ d ∷ e ∷ f ∷ []) ≡ (44 ∷ compact_text a) ++ ((44 ∷ compact_text b) ++ ((44 ∷ compact_text c) ++ ((44 ∷ compact_text d) ++ ((44 ∷ compact_text e) ++ (44 ∷ compact_text f)))))
-six a b c d e f =
-    ap (λ (l : List ℕ). (44 ∷ compact_text a) ++ ((44 ∷ compact_text b) ++ ((44 ∷ compact_text c) ++ ((44 ∷ compact_text d) ++ ((44 ∷ compact_text e) ++ l))))) (append-nil (44 ∷ compact_text f))
-
-four : (a b c d : Data) → behind_commas (a ∷ b ∷ c ∷ d ∷ []) ≡ (44 ∷ compact_text a) ++ ((44 ∷ compact_text b) ++ ((44 ∷ compact_text c) ++ (44 ∷ compact_text d)))
-four a b c d =
-    ap (λ (l : List ℕ). (44 ∷ compact_text a) ++ ((44 ∷ compact_text b) ++ ((44 ∷ compact_text c) ++ l))) (append-nil (44 ∷ compact_text d))
-
-threads-trace : behind_commas trace_threads ≡ trace_threads_text
-unfolding trace_threads_text thread_text
-threads-trace = six (thread 1 (codes "calls")) (thread 2 (codes "send, drop")) (thread 3 (codes "shutter")) (thread 4 (codes "metadata")) (thread 5 (codes "fences")) (thread 6 (codes "not allowed"))
-
-threads-hal : behind_commas hal_threads ≡ hal_threads_text
-unfolding hal_threads_text thread_text
-threads-hal = four (thread 2 (codes "request")) (thread 3 (codes "shutter")) (thread 4 (codes "metadata")) (thread 6 (codes "breach"))
-
-threads-call : behind_commas call_threads ≡ call_threads_text
-unfolding call_threads_text thread_text
-threads-call = six (thread 7 (codes "open")) (thread 8 (codes "initialize")) (thread 9 (codes "template")) (thread 10 (codes "configure")) (thread 11 (codes "flush")) (thread 12 (codes "close"))
-
-threads : (kind : Kind) → behind_commas (thread_names kind) ≡ threads_text kind
-threads Trace = threads-trace
-threads Hal =
-    both hal_threads call_threads
-    ∙ (ap (λ (l : List ℕ). l ++ behind_commas call_threads) threads-hal ∙ ap (λ (l : List ℕ). hal_threads_text ++ l) threads-call)
-
 -- a list in five parts, with what ends it
 five : (a b c d e z : List ℕ) → (a ++ (b ++ (c ++ (d ++ e)))) ++ z ≡ (a ++ b) ++ ((c ++ (d ++ e)) ++ z)
 five a b c d e z = simp append_assoc
@@ -92,8 +64,8 @@ more c =
     let second = both (map stream_name c.lanes) (flat_map (group_events c.kind) c.groups ++ (map (unfinished_event c.count) c.unfinished ++ fault_of c.kind c.fault)) in
     let third = both (flat_map (group_events c.kind) c.groups) (map (unfinished_event c.count) c.unfinished ++ fault_of c.kind c.fault) in
     let fourth = both (map (unfinished_event c.count) c.unfinished) (fault_of c.kind c.fault) in
-    rw (first, threads c.kind, second, third, fourth, streams c.lanes, groups c.kind c.groups, bars c.count c.unfinished, fault c.kind c.fault)
-    (five (threads_text c.kind) (flat_map (λ lane. 44 ∷ compact_text (stream_name lane)) c.lanes) (flat_map (group_text c.kind) c.groups) (flat_map (λ p. 44 ∷ compact_text (unfinished_event c.count p)) c.unfinished) (fault_group_text c.kind c.fault) (93 ∷ (125 ∷ [])))
+    rw (first, second, third, fourth, streams c.lanes, groups c.kind c.groups, bars c.count c.unfinished, fault c.kind c.fault)
+    (five (behind_commas (thread_names c.kind)) (flat_map (λ lane. 44 ∷ compact_text (stream_name lane)) c.lanes) (flat_map (group_text c.kind) c.groups) (flat_map (λ p. 44 ∷ compact_text (unfinished_event c.count p)) c.unfinished) (fault_group_text c.kind c.fault) (93 ∷ (125 ∷ [])))
 
 joined : (a v b c i r : List ℕ) → (c ++ i) ++ 125 ∷ [] ≡ c ++ r → a ++ (v ++ (b ++ ((c ++ i) ++ 125 ∷ []))) ≡ ((a ++ v) ++ (b ++ c)) ++ r
 joined a v b c i r h = rw h (simp append_assoc)

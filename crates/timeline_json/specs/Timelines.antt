@@ -1,5 +1,5 @@
 -- The events of a chart (our own choice): a place is a microsecond, as the trace events count.
-use Rattle.std.specs.Prelude.{ℕ, ◌+◌, ◌-◌, Bool, true, false, ◌||◌, List, [], ◌∷◌, ◌++◌, Option, Some, None, codes, decimal, map, if◌then◌else◌}
+use Rattle.std.specs.Prelude.{ℕ, ◌+◌, ◌-◌, Bool, List, [], ◌∷◌, ◌++◌, Option, Some, None, codes, decimal, map, if◌then◌else◌}
 use Rattle.std.specs.List.{flat_map}
 use Rattle.serde_json.specs.Data.{Data, Items, array, object, member, no_members, item, no_items}
 use Rattle.serde_json.specs.Written.{compact_text}
@@ -29,32 +29,23 @@ unfoldable pub piece_slice : ℕ → List ℕ → Piece → Data
 piece_slice place told p =
     slice_data (track_of p.look p.seat) (start_of place p.since) (place + 1 - start_of place p.since) (named (look_text p.look) p.frame) (line_data told)
 
--- a flow begins with the send or the request, and goes on with each buffer that comes back or is filled
-abbrev pub begins_flow : Look → Bool
-begins_flow Send = true
-begins_flow RequestBegin = true
-begins_flow _ = false
+-- a flow begins (`s`) with the send or the request, and goes on (`t`) with each buffer that comes back or is filled
+abbrev pub phase_of : Look → Option (List ℕ)
+phase_of Send = Some (codes "s")
+phase_of RequestBegin = Some (codes "s")
+phase_of Filled = Some (codes "t")
+phase_of Failed = Some (codes "t")
+phase_of Unclear = Some (codes "t")
+phase_of Early = Some (codes "t")
+phase_of Late = Some (codes "t")
+phase_of _ = None
 
-abbrev pub goes_on : Look → Bool
-goes_on Filled = true
-goes_on Failed = true
-goes_on Unclear = true
-goes_on Early = true
-goes_on Late = true
-goes_on _ = false
-
-abbrev pub phase_of : Look → List ℕ
-phase_of look = if begins_flow look then codes "s" else codes "t"
-
-abbrev pub flow_of : ℕ → Piece → Option ℕ → List Data
-flow_of place p (Some n) =
-    if begins_flow p.look || goes_on p.look
-    then flow_data (track_of p.look p.seat) place n (phase_of p.look) ∷ []
-    else []
-flow_of place p None = []
+abbrev pub flow_of : ℕ → Piece → Option ℕ → Option (List ℕ) → List Data
+flow_of place p (Some n) (Some phase) = flow_data (track_of p.look p.seat) place n phase ∷ []
+flow_of place p _ _ = []
 
 unfoldable pub piece_events : ℕ → List ℕ → Piece → List Data
-piece_events place told p = piece_slice place told p ∷ flow_of place p p.frame
+piece_events place told p = piece_slice place told p ∷ flow_of place p p.frame (phase_of p.look)
 
 -- a line that isn't allowed, or breaks a rule
 unfoldable pub fault_event : Kind → ℕ → List ℕ → Data
@@ -163,32 +154,6 @@ abbrev pub fault_group_text : Kind → Option Group → List ℕ
 fault_group_text kind (Some g) = group_text kind g
 fault_group_text kind None = []
 
-unfoldable pub thread_text : ℕ → List ℕ → List ℕ
-thread_text number name = 44 ∷ compact_text (thread number name)
-
-unfoldable pub trace_threads_text : List ℕ
-trace_threads_text =
-    thread_text 1 (codes "calls")
-    ++ (thread_text 2 (codes "send, drop")
-    ++ (thread_text 3 (codes "shutter")
-    ++ (thread_text 4 (codes "metadata") ++ (thread_text 5 (codes "fences") ++ thread_text 6 (codes "not allowed")))))
-
-unfoldable pub hal_threads_text : List ℕ
-hal_threads_text =
-    thread_text 2 (codes "request")
-    ++ (thread_text 3 (codes "shutter") ++ (thread_text 4 (codes "metadata") ++ thread_text 6 (codes "breach")))
-
-unfoldable pub call_threads_text : List ℕ
-call_threads_text =
-    thread_text 7 (codes "open")
-    ++ (thread_text 8 (codes "initialize")
-    ++ (thread_text 9 (codes "template")
-    ++ (thread_text 10 (codes "configure") ++ (thread_text 11 (codes "flush") ++ thread_text 12 (codes "close")))))
-
-abbrev pub threads_text : Kind → List ℕ
-threads_text Trace = trace_threads_text
-threads_text Hal = hal_threads_text ++ call_threads_text
-
 unfoldable pub verdict_text : List ℕ → List ℕ
 verdict_text note = codes "{\"otherData\":" ++ compact_text (verdict_data note)
 
@@ -199,7 +164,7 @@ abbrev pub head_text : List (List ℕ) → List ℕ
 head_text notes = verdict_text (flat_map note_line notes) ++ camera_text
 
 unfoldable pub names_text : Chart → List ℕ
-names_text c = threads_text c.kind ++ flat_map (λ lane. 44 ∷ compact_text (stream_name lane)) c.lanes
+names_text c = behind_commas (thread_names c.kind) ++ flat_map (λ lane. 44 ∷ compact_text (stream_name lane)) c.lanes
 
 unfoldable pub events_text : Chart → List ℕ
 events_text c =

@@ -1,13 +1,16 @@
 //! The events of a chart.
-ghost use Rattle.std.specs.Prelude.{◌≡◌, ◌++◌, ◌∷◌, IfOk, OnOk, string_bytes};
+ghost use Rattle.std.specs.Prelude.{◌≡◌, ◌++◌, ◌∷◌, false, IfOk, OnOk, string_bytes};
 ghost use Rattle.std.specs.List.{flat_map};
-ghost use Rattle.serde_json.specs.Written.{compact_text};
-ghost use Rattle.timeline_json.specs.Timelines.{begins_flow, behind_commas, fault_event, fault_events, fault_group_text, flow_of, goes_on, group_text, level_events, one_if, phase_of, piece_slice, piece_text, start_of, told_of, unfinished_event};
+ghost use Rattle.std.specs.Option.{option_map};
+ghost use Rattle.serde_json.specs.View.{view};
+ghost use Rattle.serde_json.specs.Written.{compact_text, has_float};
+ghost use Rattle.timeline_json.specs.Timelines.{behind_commas, fault_event, fault_events, fault_group_text, flow_of, group_text, level_events, one_if, phase_of, piece_slice, piece_text, start_of, told_of, unfinished_event};
 
-use crate::event::{put_flow, put_levels, put_slice};
-use crate::text::put_plain;
+use crate::event::{flow, levels_at, slice_of};
+use crate::text::{put_event, put_plain};
 use crate::track::{fault_text, look_text, named, own, track_of};
 use cam_types::NoMemory;
+use serde_json::Value;
 use std::alloc::Global;
 use timeline_model::{Group, Kind, Look, Piece};
 
@@ -31,82 +34,44 @@ fn told_of(alloc: Global, group: &Group) -> Result<String, NoMemory>
     Ok(text)
 }
 
-/// Writes the slice of a piece, with what is told of it.
+/// The slice of a piece, with what is told of it.
 #[tactic(auto, unfolding(crate::specs::Timelines::piece_slice))]
-fn put_piece_slice(
-    out: &mut Vec<u8>,
-    alloc: Global,
-    place: u32,
-    told: &str,
-    piece: &Piece,
-) -> Result<(), NoMemory>
-    ensures { OnOk result (out.new.items ≡ out.old.items ++ 44 ∷ compact_text (piece_slice place told.now piece.now)) }
+fn piece_slice(alloc: Global, place: u32, told: &str, piece: &Piece) -> Result<Value, NoMemory>
+    ensures value { IfOk result (λ v. view v ≡ piece_slice place told.now piece.now) }
+    ensures plain { IfOk result (λ v. has_float (view v) ≡ false) }
 {
     let name = named(alloc, look_text(piece.look), piece.frame)?;
     let from = start_of(place, piece.since);
     let length = (u64::from(place) + 1).saturating_sub(from);
     let track = track_of(piece.look, piece.seat);
-    put_slice(out, alloc, track, from, length, name.as_str(), told)
+    slice_of(alloc, track, from, length, name.as_str(), told)
 }
 
-/// Whether a flow begins.
-fn begins_flow(look: Look) -> bool
-    ensures { result ≡ begins_flow look }
+/// What a piece is to the flow of its frame, where it is part of it.
+fn phase_of(look: Look) -> Option<&'static str>
+    ensures { option_map (λ phase. phase.now) result ≡ phase_of look }
 {
     match look {
-        Look::Send => true,
-        Look::RequestBegin => true,
-        _ => false,
+        Look::Send | Look::RequestBegin => Some("s"),
+        Look::Filled | Look::Failed | Look::Unclear | Look::Early | Look::Late => Some("t"),
+        _ => None,
     }
-}
-
-/// Whether a flow goes on.
-fn goes_on(look: Look) -> bool
-    ensures { result ≡ goes_on look }
-{
-    match look {
-        Look::Filled => true,
-        Look::Failed => true,
-        Look::Unclear => true,
-        Look::Early => true,
-        Look::Late => true,
-        _ => false,
-    }
-}
-
-fn phase_of(look: Look) -> &'static str
-    ensures { result.now ≡ phase_of look }
-{
-    if begins_flow(look) { "s" } else { "t" }
 }
 
 /// Writes the step of a frame's flow, where a piece is one.
-fn put_flow_of(
-    out: &mut Vec<u8>,
-    alloc: Global,
-    place: u32,
-    piece: &Piece,
-    frame: Option<u32>,
-) -> Result<(), NoMemory>
-    ensures { OnOk result (out.new.items ≡ out.old.items ++ behind_commas (flow_of place piece.now frame)) }
+fn put_flow(out: &mut Vec<u8>, alloc: Global, place: u32, piece: &Piece) -> Result<(), NoMemory>
+    ensures { OnOk result (out.new.items ≡ out.old.items
+        ++ behind_commas (flow_of place piece.now piece.now.frame (phase_of piece.now.look))) }
 {
-    match frame {
-        Some(frame) => {
-            if begins_flow(piece.look) || goes_on(piece.look) {
-                put_flow(
-                    out,
-                    alloc,
-                    track_of(piece.look, piece.seat),
-                    u64::from(place),
-                    u64::from(frame),
-                    phase_of(piece.look),
-                )
-            } else {
-                Ok(())
-            }
-        }
-        None => Ok(()),
-    }
+    let Some(frame) = piece.frame else {
+        return Ok(());
+    };
+    let Some(phase) = phase_of(piece.look) else {
+        return Ok(());
+    };
+    let track = track_of(piece.look, piece.seat);
+    let step = flow(alloc, track, u64::from(place), u64::from(frame), phase)?;
+    put_event(out, alloc, &step)
 }
 
 /// Writes the events of a piece.
@@ -120,8 +85,9 @@ fn put_piece(
 ) -> Result<(), NoMemory>
     ensures { OnOk result (out.new.items ≡ out.old.items ++ piece_text place told.now piece.now) }
 {
-    put_piece_slice(out, alloc, place, told, piece)?;
-    put_flow_of(out, alloc, place, piece, piece.frame)
+    let slice = piece_slice(alloc, place, told, piece)?;
+    put_event(out, alloc, &slice)?;
+    put_flow(out, alloc, place, piece)
 }
 
 /// Writes the events of the pieces of a line.
@@ -140,20 +106,13 @@ fn put_pieces(
     Ok(())
 }
 
-/// Writes the event of a line that isn't allowed, or breaks a rule.
+/// The event of a line that isn't allowed, or breaks a rule.
 #[tactic(auto, unfolding(crate::specs::Timelines::fault_event))]
-fn put_fault_event(
-    out: &mut Vec<u8>,
-    alloc: Global,
-    kind: Kind,
-    place: u32,
-    told: &str,
-) -> Result<(), NoMemory>
-    ensures { OnOk result (out.new.items
-        ≡ out.old.items ++ 44 ∷ compact_text (fault_event kind place told.now)) }
+fn fault_event(alloc: Global, kind: Kind, place: u32, told: &str) -> Result<Value, NoMemory>
+    ensures value { IfOk result (λ v. view v ≡ fault_event kind place told.now) }
+    ensures plain { IfOk result (λ v. has_float (view v) ≡ false) }
 {
-    let name = fault_text(kind);
-    put_slice(out, alloc, own(6), u64::from(place), 1, name, told)
+    slice_of(alloc, own(6), u64::from(place), 1, fault_text(kind), told)
 }
 
 /// Writes that event, where the line is at fault.
@@ -169,7 +128,8 @@ fn put_fault(
         ≡ out.old.items ++ behind_commas (fault_events kind place told.now broken)) }
 {
     if broken {
-        put_fault_event(out, alloc, kind, place, told)
+        let event = fault_event(alloc, kind, place, told)?;
+        put_event(out, alloc, &event)
     } else {
         Ok(())
     }
@@ -187,13 +147,9 @@ fn put_level_events(out: &mut Vec<u8>, alloc: Global, group: &Group) -> Result<(
     ensures { OnOk result (out.new.items ≡ out.old.items ++ behind_commas (level_events group.now)) }
 {
     if group.counted {
-        put_levels(
-            out,
-            alloc,
-            u64::from(group.place),
-            group.level,
-            one_if(group.stopping),
-        )
+        let stopping = one_if(group.stopping);
+        let levels = levels_at(alloc, u64::from(group.place), group.level, stopping)?;
+        put_event(out, alloc, &levels)
     } else {
         Ok(())
     }
@@ -245,17 +201,13 @@ pub fn put_fault_group(
     }
 }
 
-/// Writes the event of a bar that isn't ended.
+/// The event of a bar that isn't ended.
 #[tactic(auto, unfolding(crate::specs::Timelines::unfinished_event))]
-fn put_unfinished(
-    out: &mut Vec<u8>,
-    alloc: Global,
-    last: u32,
-    piece: &Piece,
-) -> Result<(), NoMemory>
-    ensures { OnOk result (out.new.items ≡ out.old.items ++ 44 ∷ compact_text (unfinished_event last piece.now)) }
+fn unfinished_event(alloc: Global, last: u32, piece: &Piece) -> Result<Value, NoMemory>
+    ensures value { IfOk result (λ v. view v ≡ unfinished_event last piece.now) }
+    ensures plain { IfOk result (λ v. has_float (view v) ≡ false) }
 {
-    put_piece_slice(out, alloc, last, "isn't done", piece)
+    piece_slice(alloc, last, "isn't done", piece)
 }
 
 /// Writes the events of all bars that aren't ended.
@@ -269,7 +221,8 @@ pub fn put_all_unfinished(
         ++ flat_map (λ p. 44 ∷ compact_text (unfinished_event last p)) pieces.now) }
 {
     for piece in pieces {
-        put_unfinished(out, alloc, last, piece)?;
+        let event = unfinished_event(alloc, last, piece)?;
+        put_event(out, alloc, &event)?;
     }
     Ok(())
 }

@@ -1,73 +1,68 @@
 //! The whole text: the notes, the names of the tracks, and the events.
-ghost use Rattle.std.specs.Prelude.{◌≡◌, ◌++◌, ◌∷◌, [], IfOk, OnOk, string_bytes};
+ghost use Rattle.std.specs.Prelude.{◌≡◌, ◌++◌, ◌∷◌, [], IfOk, OnOk, map, string_bytes};
 ghost use Rattle.std.specs.List.{flat_map};
 ghost use Rattle.serde_json.specs.Written.{compact_text};
-ghost use Rattle.timeline_json.specs.Timelines.{call_threads_text, camera_text, events_text, hal_threads_text, head_text, json_text, names_text, note_line, rest_text, stream_name, thread_text, threads_text, trace_threads_text, verdict_text};
+ghost use Rattle.timeline_json.specs.Timelines.{behind_commas, camera_text, events_text, head_text, json_text, names_text, note_line, rest_text, stream_name, thread, thread_names, verdict_text};
 
-use crate::event::{put_name, put_naming, verdict_value};
+use crate::event::{name_of, verdict_value};
 use crate::events::{put_all_unfinished, put_fault_group, put_groups};
-use crate::text::{put, put_plain, put_value};
+use crate::text::{put, put_event, put_plain, put_value};
 use crate::track::{Track, named, own};
 use cam_types::NoMemory;
 use std::alloc::Global;
 use timeline_model::{Chart, Kind, Lane, Series};
 
 /// Writes the name of a thread.
-#[tactic(auto, unfolding(crate::specs::Timelines::thread_text))]
 fn put_thread(out: &mut Vec<u8>, alloc: Global, number: u64, name: &str) -> Result<(), NoMemory>
-    ensures { OnOk result (out.new.items ≡ out.old.items ++ thread_text number name.now) }
+    ensures { OnOk result (out.new.items ≡ out.old.items ++ 44 ∷ compact_text (thread number name.now)) }
 {
-    put_name(out, alloc, "thread_name", own(number), name)
+    let event = name_of(alloc, "thread_name", own(number), name)?;
+    put_event(out, alloc, &event)
 }
 
-/// Writes the names of the threads that each trace has.
-#[tactic(auto, unfolding(crate::specs::Timelines::trace_threads_text))]
-fn put_trace_threads(out: &mut Vec<u8>, alloc: Global) -> Result<(), NoMemory>
-    ensures { OnOk result (out.new.items ≡ out.old.items ++ trace_threads_text) }
-{
-    put_thread(out, alloc, 1, "calls")?;
-    put_thread(out, alloc, 2, "send, drop")?;
-    put_thread(out, alloc, 3, "shutter")?;
-    put_thread(out, alloc, 4, "metadata")?;
-    put_thread(out, alloc, 5, "fences")?;
-    put_thread(out, alloc, 6, "not allowed")
-}
+/// The threads that each trace has.
+const TRACE_THREADS: [(u64, &str); 6] = [
+    (1, "calls"),
+    (2, "send, drop"),
+    (3, "shutter"),
+    (4, "metadata"),
+    (5, "fences"),
+    (6, "not allowed"),
+];
 
-/// Writes the names of the threads that each hal log has, but those of calls.
-#[tactic(auto, unfolding(crate::specs::Timelines::hal_threads_text))]
-fn put_hal_threads(out: &mut Vec<u8>, alloc: Global) -> Result<(), NoMemory>
-    ensures { OnOk result (out.new.items ≡ out.old.items ++ hal_threads_text) }
-{
-    put_thread(out, alloc, 2, "request")?;
-    put_thread(out, alloc, 3, "shutter")?;
-    put_thread(out, alloc, 4, "metadata")?;
-    put_thread(out, alloc, 6, "breach")
-}
+/// Those that each hal log has, one for each kind of call among them.
+const HAL_THREADS: [(u64, &str); 10] = [
+    (2, "request"),
+    (3, "shutter"),
+    (4, "metadata"),
+    (6, "breach"),
+    (7, "open"),
+    (8, "initialize"),
+    (9, "template"),
+    (10, "configure"),
+    (11, "flush"),
+    (12, "close"),
+];
 
-/// Writes the names of the threads of calls.
-#[tactic(auto, unfolding(crate::specs::Timelines::call_threads_text))]
-fn put_call_threads(out: &mut Vec<u8>, alloc: Global) -> Result<(), NoMemory>
-    ensures { OnOk result (out.new.items ≡ out.old.items ++ call_threads_text) }
-{
-    put_thread(out, alloc, 7, "open")?;
-    put_thread(out, alloc, 8, "initialize")?;
-    put_thread(out, alloc, 9, "template")?;
-    put_thread(out, alloc, 10, "configure")?;
-    put_thread(out, alloc, 11, "flush")?;
-    put_thread(out, alloc, 12, "close")
-}
-
-/// Writes the names of the threads.
-fn put_threads(out: &mut Vec<u8>, alloc: Global, kind: Kind) -> Result<(), NoMemory>
-    ensures { OnOk result (out.new.items ≡ out.old.items ++ threads_text kind) }
+/// The threads of a kind of input, with their numbers.
+fn threads_of(kind: Kind) -> &'static [(u64, &'static str)]
+    ensures { map (λ t. thread t.0 t.1.now) result.now ≡ thread_names kind }
 {
     match kind {
-        Kind::Trace => put_trace_threads(out, alloc),
-        Kind::Hal => {
-            put_hal_threads(out, alloc)?;
-            put_call_threads(out, alloc)
-        }
+        Kind::Trace => &TRACE_THREADS,
+        Kind::Hal => &HAL_THREADS,
     }
+}
+
+/// Writes the names of threads.
+fn put_threads(out: &mut Vec<u8>, alloc: Global, threads: &[(u64, &str)]) -> Result<(), NoMemory>
+    ensures { OnOk result (out.new.items ≡ out.old.items
+        ++ behind_commas (map (λ t. thread t.0 t.1.now) threads.now)) }
+{
+    for thread in threads {
+        put_thread(out, alloc, thread.0, thread.1)?;
+    }
+    Ok(())
 }
 
 /// Writes the name of a stream.
@@ -79,7 +74,8 @@ fn put_stream(out: &mut Vec<u8>, alloc: Global, lane: &Lane) -> Result<(), NoMem
         process: 2 + u64::from(lane.place),
         thread: 0,
     };
-    put_name(out, alloc, "process_name", track, name.as_str())
+    let event = name_of(alloc, "process_name", track, name.as_str())?;
+    put_event(out, alloc, &event)
 }
 
 /// Writes the names of the streams.
@@ -131,8 +127,9 @@ fn put_camera(out: &mut Vec<u8>, alloc: Global) -> Result<(), NoMemory>
         process: 1,
         thread: 0,
     };
+    let event = name_of(alloc, "process_name", track, "camera")?;
     put(out, b",\"traceEvents\":[")?;
-    put_naming(out, alloc, "process_name", track, "camera")
+    put_value(out, alloc, &event)
 }
 
 /// Writes the notes, and the first event.
@@ -149,7 +146,7 @@ fn put_head(out: &mut Vec<u8>, alloc: Global, notes: &[Series<u8>]) -> Result<()
 fn put_names(out: &mut Vec<u8>, alloc: Global, chart: &Chart) -> Result<(), NoMemory>
     ensures { OnOk result (out.new.items ≡ out.old.items ++ names_text chart.now) }
 {
-    put_threads(out, alloc, chart.kind)?;
+    put_threads(out, alloc, threads_of(chart.kind))?;
     put_streams(out, alloc, chart.lanes.as_slice())
 }
 

@@ -9,7 +9,7 @@ use Rattle.trace_model.specs.Legal.{IsLegal}
 use Rattle.trace_model.specs.Queue.{named, puts, queued, queued_items}
 use Rattle.trace_model.specs.declared.entry.Entry.{Entry}
 use Rattle.trace_model.specs.declared.entry.Entry.TheVariants.{Call, Send, Dropped}
-use Rattle.state_facts.specs.Turns.{Turns, noted, tail, turns}
+use Rattle.state_facts.specs.Turns.{Turns, turns_after, tail, turns}
 use Rattle.state_facts.proofs.Steps.{noted_is}
 use Rattle.timeline_model.specs.Walks.{queued_by}
 use Rattle.trace_laws.proofs.FrameLemmas.{named-length}
@@ -18,7 +18,7 @@ tail-length : (ws : List WaitingItem) → length (tail ws) ≡ length ws - 1
 tail-length [] = refl
 tail-length (w ∷ ws) = omega arith
 
-by-entry : (script : Script) (e : Entry) (t : Turns) → length (noted script e t).waiting ≡ queued_by script e (length t.waiting)
+by-entry : (script : Script) (e : Entry) (t : Turns) → length (turns_after script e t).waiting ≡ queued_by script e (length t.waiting)
 by-entry script (Call i w Ok) t = omega (arith, length-append t.waiting [])
 by-entry script (Call i w (Submitted r)) t = length-append t.waiting (puts script (Call i w (Submitted r))) ∙ ap (λ n. length t.waiting + n) (named-length r 0 (queued_items (command_at script i)))
 by-entry script (Call i w (Configured m)) t = omega (arith, length-append t.waiting [])

@@ -4,7 +4,7 @@ ghost use Rattle.trace_model.specs.Entry.{is_early_with};
 ghost use Rattle.timeline_model.specs.Drawings.{since, since_seat, target_in, target_of};
 
 use crate::Seat;
-use cam_types::{FenceNo, FrameNo, StreamIx};
+use cam_types::{DeviceFenceNo, FrameNo, StreamIx};
 use judge_entries::entry::is_early_with;
 use trace_model::Entry;
 
@@ -16,7 +16,7 @@ pub struct Target {
 }
 
 /// The entry with which a buffer came back early, with the device fence.
-fn early_with(entries: &[Entry], fence: FenceNo) -> Option<&Entry>
+fn early_with(entries: &[Entry], fence: DeviceFenceNo) -> Option<&Entry>
     ensures { option_copied result ≡ find (is_early_with fence.0) (reverse entries.now) }
 {
     entries
@@ -39,7 +39,7 @@ fn target_of(entry: Option<&Entry>) -> Option<Target>
 }
 
 /// The target whose buffer came back early with the device fence.
-fn early_target(entries: &[Entry], fence: FenceNo) -> Option<Target>
+fn early_target(entries: &[Entry], fence: DeviceFenceNo) -> Option<Target>
     ensures { result ≡ target_of (find (is_early_with fence.0) (reverse entries.now)) }
 {
     target_of(early_with(entries, fence))

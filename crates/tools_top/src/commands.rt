@@ -8,6 +8,7 @@ ghost use Rattle.tools_top.specs.Commands.{IsDone, TellsOfTool, drawing_of, form
 ghost use Rattle.tools_top.specs.Help.{help_text, usage_line};
 ghost use Rattle.tools_top.specs.Words.{limit_of};
 ghost use Rattle.tools_top.specs.Tools.{tool_of};
+ghost use Rattle.call_parts.specs.Status.{status_number};
 
 use crate::{Tool, tool_of};
 use call_parts::{Status, answer};
@@ -38,29 +39,29 @@ pub fn tools_main<S: Source, K: Sink>(
     sink: &mut K,
 ) -> Status
     // The status and the text are those that belong to the tool that the words ask for, and to the input's meaning.
-    ensures tells { TellsOfTool (tool_of words.now) (S.left source.old) result.number (K.state sink.old)
+    ensures tells { TellsOfTool (tool_of words.now) (S.left source.old) (status_number result) (K.state sink.old)
         (K.state sink.new) }
-    ensures usage_only { result.number ≡ 2 → tool_of words.now ≡ Option.None }
+    ensures usage_only { status_number result ≡ 2 → tool_of words.now ≡ Option.None }
 
     // Status 0: the help text; or the source was read to its end, and what the tool is asked for was done and written.
-    ensures help_done { tool_of words.now ≡ Option.Some Tool.Help → result.number ≡ 0
+    ensures help_done { tool_of words.now ≡ Option.Some Tool.Help → status_number result ≡ 0
         → Writes (K.state sink.old) (K.state sink.new) help_text }
-    ensures done { is_some (limit_of (tool_of words.now)) ≡ true → result.number ≡ 0 → IsAtEnd (S.left source.new)
+    ensures done { is_some (limit_of (tool_of words.now)) ≡ true → status_number result ≡ 0 → IsAtEnd (S.left source.new)
         × IfSome (S.left source.old)
         (λ input. IsDone (tool_of words.now) input (K.state sink.old) (K.state sink.new)) }
-    ensures done_tool { result.number ≡ 0 → is_some (tool_of words.now) ≡ true }
+    ensures done_tool { status_number result ≡ 0 → is_some (tool_of words.now) ≡ true }
 
     // Other words leave the source as it is, and end with 0, 2 or 4.
     ensures unread { is_some (limit_of (tool_of words.now)) ≡ false → (S.left source.new ≡ S.left source.old)
-        × (S.faults source.new ≡ S.faults source.old) × (result.number ≢ 1) × (result.number ≢ 3)
-        × (result.number ≢ 5) }
+        × (S.faults source.new ≡ S.faults source.old) × (status_number result ≢ 1) × (status_number result ≢ 3)
+        × (status_number result ≢ 5) }
     // The source's count of faults rose at 3 alone, and the sink's at 4 alone; at 3 and 5 nothing was written. At 0 a tool
     // that reads has read the source to its end; where it has another answer, too, or there is more than the limit.
-    ensures source { CountsSource result.number (S.faults source.old) (S.faults source.new) }
-    ensures sink { CountsSink result.number (K.state sink.old) (K.state sink.new) }
-    ensures read { IfSome (limit_of (tool_of words.now)) (λ limit. ReadsBy limit result.number (S.left source.old)
+    ensures source { CountsSource (status_number result) (S.faults source.old) (S.faults source.new) }
+    ensures sink { CountsSink (status_number result) (K.state sink.old) (K.state sink.new) }
+    ensures read { IfSome (limit_of (tool_of words.now)) (λ limit. ReadsBy limit (status_number result) (S.left source.old)
         (S.left source.new)) }
-    ensures known { result.number ≤ 5 }
+    ensures known { status_number result ≤ 5 }
 {
     match tool_of(words) {
         Some(Tool::Hal { plain, strict }) => hal_call(alloc, source, sink, form_of(plain), strict),
@@ -102,14 +103,14 @@ fn drawing_of(perfetto: bool) -> Drawing
 
 /// Writes the usage line.
 fn usage<K: Sink>(sink: &mut K) -> Status
-    ensures { Answers 2 usage_line result.number (K.state sink.old) (K.state sink.new) }
+    ensures { Answers 2 usage_line (status_number result) (K.state sink.old) (K.state sink.new) }
 {
-    answer(sink, USAGE_LINE, Status::USAGE)
+    answer(sink, USAGE_LINE, Status::Usage)
 }
 
 /// Writes what the program does, and the usage line. It takes no memory.
 pub fn help_call<K: Sink>(sink: &mut K) -> Status
-    ensures { Answers 0 help_text result.number (K.state sink.old) (K.state sink.new) }
+    ensures { Answers 0 help_text (status_number result) (K.state sink.old) (K.state sink.new) }
 {
-    answer(sink, HELP_TEXT, Status::DONE)
+    answer(sink, HELP_TEXT, Status::Done)
 }

@@ -7,7 +7,7 @@ use Rattle.std.proofs.lemmas.Bool.Decides.{nat_tests}
 use Rattle.basic_lemmas.proofs.Lists.{all-always, all-filtered, all-mapped}
 use Rattle.std.proofs.lemmas.List.{reverse-append}
 use Rattle.cam_types.specs.declared.number.BufferId.{BufferId}
-use Rattle.cam_types.specs.declared.number.FenceNo.{FenceNo}
+use Rattle.cam_types.specs.declared.number.DeviceFenceNo.{DeviceFenceNo}
 use Rattle.cam_types.specs.declared.number.FrameNo.{FrameNo}
 use Rattle.cam_types.specs.declared.number.RequestId.{RequestId}
 use Rattle.cam_types.specs.declared.number.StreamIx.{StreamIx}
@@ -40,7 +40,7 @@ use Rattle.state_facts.proofs.OpenRows.{quiet_reads}
 use Rattle.state_facts.specs.Row.{Row, Target, in_order, is_open_row, open_rows, row_of, target_at}
 use Rattle.state_facts.specs.Fits.{NumbersFit}
 use Rattle.state_facts.specs.Runs.{MayAdd}
-use Rattle.state_facts.specs.States.{State, drop_with, fits_in, noted, state}
+use Rattle.state_facts.specs.States.{State, drop_with, fits_in, state_after, state}
 use Rattle.state_facts.proofs.Fits.{numbers_fit}
 use Rattle.state_facts.proofs.Runs.{allowed_from, may_add_from}
 use Rattle.state_facts.proofs.StateSteps.{noted_is}
@@ -104,7 +104,7 @@ drop-next : (stopping : Bool) (numbers : ℕ) (n : FrameNo) (r : RequestId) (i :
 drop-next true numbers n r i o h = drop-named numbers n r i o h
 drop-next false numbers n r i o h = absurd (cc)
 
-can-capture : (script : Script) (past : List Entry) (e : Entry) → is_valid script ≡ true → IsLegal script (e ∷ past) → MayAdd script (state script past) e → NumbersFit (noted script e (state script past)) → CanCapture script (turns script past) (length script.commands) e
+can-capture : (script : Script) (past : List Entry) (e : Entry) → is_valid script ≡ true → IsLegal script (e ∷ past) → MayAdd script (state script past) e → NumbersFit (state_after script e (state script past)) → CanCapture script (turns script past) (length script.commands) e
 can-capture script past (Call i word reply) ok legal may fits =
     let a = answered script past i word reply legal.0 in
     let told = call_taken script past i word reply a.command ok legal a.next in
@@ -131,12 +131,12 @@ can-capture script past (Late d digest) ok legal may fits = tt
 
 -- ---- a buffer comes back early once
 
-no-fences : (script : Script) (past : List Entry) (n : FrameNo) (s : StreamIx) (b : BufferId) (d : FenceNo) → IsLegal script (Early n s b d ∷ past) → early_fences n.0 s.0 past ≡ []
+no-fences : (script : Script) (past : List Entry) (n : FrameNo) (s : StreamIx) (b : BufferId) (d : DeviceFenceNo) → IsLegal script (Early n s b d ∷ past) → early_fences n.0 s.0 past ≡ []
 no-fences script past n s b d legal =
     let back = early-back script past n s b d legal.0 in
     not-given n.0 s.0 past (out-not-returned script past n.0 s.0 b.0 legal.1 back.out)
 
-free-slot : (past : List Entry) (n : FrameNo) (s : StreamIx) (b : BufferId) (d : FenceNo) (m : ℕ) (t : Sent) → early_fences n.0 s.0 past ≡ [] → is_free (Early n s b d) m (target_at m past t) ≡ true
+free-slot : (past : List Entry) (n : FrameNo) (s : StreamIx) (b : BufferId) (d : DeviceFenceNo) (m : ℕ) (t : Sent) → early_fences n.0 s.0 past ≡ [] → is_free (Early n s b d) m (target_at m past t) ≡ true
 free-slot past n s b d m t none = elim (cases_Bool ((n.0 == m) && (s.0 == t.stream.0))) [
   | inl same ↦ (
       let parts = and_parts (n.0 == m) (s.0 == t.stream.0) same in
@@ -149,7 +149,7 @@ free-slot past n s b d m t none = elim (cases_Bool ((n.0 == m) && (s.0 == t.stre
   | inr other ↦ rw other refl
 ]
 
-free-early : (script : Script) (past : List Entry) (n : FrameNo) (s : StreamIx) (b : BufferId) (d : FenceNo) → IsLegal script (Early n s b d ∷ past) → are_free (Early n s b d) (open_rows script past) ≡ true
+free-early : (script : Script) (past : List Entry) (n : FrameNo) (s : StreamIx) (b : BufferId) (d : DeviceFenceNo) → IsLegal script (Early n s b d ∷ past) → are_free (Early n s b d) (open_rows script past) ≡ true
 free-early script past n s b d legal =
     let none = no-fences script past n s b d legal in
     all-filtered (λ (r : Row). list_all (is_free (Early n s b d) r.number) r.targets) is_open_row (map (row_of script past) (in_order past))
@@ -179,12 +179,12 @@ free script past (Release b f) legal = free-all (Release b f) (open_rows script 
 free script past (Signal f) legal = free-all (Signal f) (open_rows script past) (λ m x. refl)
 free script past (Late d digest) legal = free-all (Late d digest) (open_rows script past) (λ m x. refl)
 
--- ---- an allowed entry can be noted
+-- ---- an allowed entry can be state_after
 
-fitting : (script : Script) (past : List Entry) (e : Entry) → is_typed script ≡ true → is_valid script ≡ true → IsLegal script (e ∷ past) → NumbersFit (noted script e (state script past))
+fitting : (script : Script) (past : List Entry) (e : Entry) → is_typed script ≡ true → is_valid script ≡ true → IsLegal script (e ∷ past) → NumbersFit (state_after script e (state script past))
 fitting script past e typed ok legal = subst NumbersFit (noted_is script past e legal) (numbers_fit script (e ∷ past) typed ok legal)
 
-few-noted : (script : Script) (past : List Entry) (e : Entry) → IsLegal script (e ∷ past) → length (noted script e (state script past)).client.streams ≤ 4
+few-noted : (script : Script) (past : List Entry) (e : Entry) → IsLegal script (e ∷ past) → length (state_after script e (state script past)).client.streams ≤ 4
 few-noted script past e legal = subst (λ (s : State). length s.client.streams ≤ 4) (noted_is script past e legal) (few-streams script (e ∷ past) legal)
 
 within : (a b : ℕ) → a + b < 2 ^ 32 → a < 2 ^ 32
@@ -205,10 +205,10 @@ can_note script past e typed ok legal may =
     }
 
 -- what the tables hold after it
-pub held_more : (script : Script) (past : List Entry) (e : Entry) (t u : Judged) → IsLegal script past → IsAllowed script past e → t ≡ held script past → u ≡ record t { state = noted script e t.state } → u ≡ held script (e ∷ past)
+pub held_more : (script : Script) (past : List Entry) (e : Entry) (t u : Judged) → IsLegal script past → IsAllowed script past e → t ≡ held script past → u ≡ record t { state = state_after script e t.state } → u ≡ held script (e ∷ past)
 held_more script past e t u legal may holds step =
     let more : IsLegal script (e ∷ past) = (may, legal) in
-    step ∙ (ap (λ (x : Judged). record x { state = noted script e x.state }) holds
+    step ∙ (ap (λ (x : Judged). record x { state = state_after script e x.state }) holds
     ∙ ap (λ (s : State). record { state = s; room = length script.commands }) (sym (noted_is script past e more)))
 
 -- what may be added to the state that the tables hold is what is allowed

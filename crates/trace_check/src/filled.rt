@@ -9,7 +9,9 @@ ghost use Rattle.trace_model.specs.Frames.{settings_of};
 ghost use Rattle.trace_model.specs.Legal.{IsLegal};
 ghost use Rattle.trace_model.specs.Picture.{digest_of};
 
-use cam_types::{BufferId, FenceNo, FrameNo, Script, Settings, StreamIx, StreamSpec};
+use cam_types::{
+    BufferId, DeviceFenceNo, FenceNo, FrameNo, Script, Settings, StreamIx, StreamSpec,
+};
 use digest_memory::Canvas;
 use judge_filters::configuration::streams;
 use judge_filters::frame::item_of;
@@ -113,7 +115,7 @@ pub fn is_filled_due(
 pub fn is_late_due(
     script: &Script,
     entries: &[Entry],
-    fence: FenceNo,
+    fence: DeviceFenceNo,
     digest: [u8; 32],
     canvas: Canvas,
 ) -> (bool, Canvas)

@@ -8,7 +8,7 @@ pub enum RuleName {
     D10,
     /// The exposure of a frame begins.
     D11,
-    /// A metadata result.
+    /// A partial result.
     D12,
     /// A buffer comes back with its picture, or early and its picture later.
     D13,

@@ -19,9 +19,10 @@ use Rattle.trace_model.specs.Frames.{item_in, send_of, settings_in, settings_of}
 use Rattle.trace_model.specs.Legal.{IsLegal}
 use Rattle.trace_model.specs.Numbers.{call_count}
 use Rattle.trace_model.specs.Reply.{acceptance, own_refusal, queue_refusal, refusal, reply_with, state_refusal}
-use Rattle.cam_types.specs.Refusals.{or_else, with_value, targets_refusal, item_refusal, items_refusal, list_refusal}
+use Rattle.cam_types.specs.Refusals.{with_value, targets_refusal, item_refusal, items_refusal, list_refusal}
 use Rattle.trace_laws.proofs.Calls.{by-call}
 use Rattle.trace_laws.proofs.Refusals.{refuses, refusal-refuses}
+use Rattle.cam_types.proofs.RefusalLemmas.{no-value, or-none}
 
 -- ---- settings
 
@@ -50,14 +51,6 @@ in-range s h =
     and_more (nat_le s.pattern 2) (nat_le s.level 255) (nat_le s.exposure 100000000) (nat_le 100 s.iso) (nat_le s.iso 1600) all
 
 -- ---- accepted items
-
-or-none : (a b : Option Reply) → or_else a b ≡ None → (a ≡ None) × (b ≡ None)
-or-none (Some r) b h = absurd (cc)
-or-none None b h = (refl, h)
-
-pub no-value : (code i : ℕ) (o : Option ℕ) → with_value code i o ≡ None → o ≡ None
-no-value code i None h = refl
-no-value code i (Some v) h = absurd (cc)
 
 abbrev pub has_moderate : Item → Bool
 has_moderate item = is_moderate item.settings

@@ -1,11 +1,11 @@
 -- Buffers that came back early: the frame stays open until their device fence is signalled, which is once.
-use Rattle.std.proofs.Common.{◌≡◌, ℕ, ◌==◌, ◌+◌, ◌≤◌, Bool, true, false, ◌&&◌, ◌||◌, not, List, [], ◌∷◌, Some, refl, sym, ◌∙◌, arith, inl, inr, find, count_by, nat_lt, if◌then◌else◌}
+use Rattle.std.proofs.Common.{◌≡◌, ℕ, ◌==◌, ◌≤◌, Bool, true, false, ◌&&◌, ◌||◌, not, List, [], ◌∷◌, Some, refl, sym, ◌∙◌, arith, inl, inr, find, count_by, nat_lt, if◌then◌else◌}
 use Rattle.std.specs.List.{list_all, list_any}
 use Rattle.std.proofs.lemmas.Bool.{cases_Bool, false≢true, and_parts}
 use Rattle.std.proofs.lemmas.Bool.Decides.{nat_tests}
 use Rattle.cam_types.specs.Four.{four_list}
 use Rattle.cam_types.specs.declared.number.BufferId.{BufferId}
-use Rattle.cam_types.specs.declared.number.FenceNo.{FenceNo}
+use Rattle.cam_types.specs.declared.number.DeviceFenceNo.{DeviceFenceNo}
 use Rattle.cam_types.specs.declared.number.FrameNo.{FrameNo}
 use Rattle.cam_types.specs.declared.number.StreamIx.{StreamIx}
 use Rattle.cam_types.specs.declared.script.Script.{Script}
@@ -36,6 +36,8 @@ use Rattle.trace_laws.proofs.BufferSends.{not-the-next, out-sent, send-number}
 use Rattle.basic_lemmas.proofs.Counts.{count-one, count-over, none-counted, some-counted, some-where-counted, one-of}
 use Rattle.basic_lemmas.proofs.Lists.{all-where, found-any}
 use Rattle.trace_laws.proofs.Frames.{sent-listed}
+use Rattle.basic_lemmas.proofs.Shared.{lt-next}
+use Rattle.basic_lemmas.proofs.Tests.{lt-more}
 
 -- ---- what an early return leaves
 
@@ -99,10 +101,10 @@ other-pair script past m u c n s f legal back g =
       | inr other ↦ other
     ]
 
-new-given : (script : Script) (past : List Entry) (e : Entry) (n : FrameNo) (s : StreamIx) (b : BufferId) (f : FenceNo) → e ≡ Early n s b f → IsLegal script past → IsAllowed script past e → Given (e ∷ past) n.0 s.0 f.0
+new-given : (script : Script) (past : List Entry) (e : Entry) (n : FrameNo) (s : StreamIx) (b : BufferId) (f : DeviceFenceNo) → e ≡ Early n s b f → IsLegal script past → IsAllowed script past e → Given (e ∷ past) n.0 s.0 f.0
 new-given script past e n s b f is legal may = rw is (now script past n s b f legal (rw is at may))
   where
-    now : (script : Script) (past : List Entry) (n : FrameNo) (s : StreamIx) (b : BufferId) (f : FenceNo) → IsLegal script past → early_due script past n.0 s.0 ≡ Some (Early n s b f) → Given (Early n s b f ∷ past) n.0 s.0 f.0
+    now : (script : Script) (past : List Entry) (n : FrameNo) (s : StreamIx) (b : BufferId) (f : DeviceFenceNo) → IsLegal script past → early_due script past n.0 s.0 ≡ Some (Early n s b f) → Given (Early n s b f ∷ past) n.0 s.0 f.0
     now script past n s b f legal may =
         let back = early-back script past n s b f may in
         let none' = out-not-returned script past n.0 s.0 b.0 legal back.out in
@@ -116,7 +118,7 @@ new-given script past e n s b f is legal may = rw is (now script past n s b f le
           sent = out-sent past n.0 s.0 b.0 back.out;
         }
 
-pub given : (script : Script) (past : List Entry) (d : ℕ) (n : FrameNo) (s : StreamIx) (b : BufferId) (f : FenceNo) → IsLegal script past → find (is_early_with d) past ≡ Some (Early n s b f) → Given past n.0 s.0 f.0
+pub given : (script : Script) (past : List Entry) (d : ℕ) (n : FrameNo) (s : StreamIx) (b : BufferId) (f : DeviceFenceNo) → IsLegal script past → find (is_early_with d) past ≡ Some (Early n s b f) → Given past n.0 s.0 f.0
 given script [] d n s b f legal found = absurd (cc)
 given script (Early m t c g ∷ past) d n s b f legal found =
     elim (cases_Bool (g.0 == d)) [
@@ -201,14 +203,8 @@ given-low script (Early n s b g ∷ past) legal =
     let ih = given-low script past legal.1 in
     let number = (early-is script past n s b g legal.0).4 in
     let next = count-one is_early (Early n s b g) past refl in
-    let first : nat_lt g.0 (next_early (Early n s b g ∷ past)) ≡ true = below_next g.0 (next_early past) (next_early (Early n s b g ∷ past)) number next in
-    rw (first, all-where (λ d. nat_lt d (next_early past)) (λ d. nat_lt d (next_early (Early n s b g ∷ past))) (device_fences past) (λ d low. below_more d (next_early past) (next_early (Early n s b g ∷ past)) next low) ih) refl
-  where
-    below_next : (g n m : ℕ) → g ≡ n → m ≡ 1 + n → nat_lt g m ≡ true
-    below_next g n m number next = grind (arith, nat_tests, number, next)
-
-    below_more : (f n m : ℕ) → m ≡ 1 + n → nat_lt f n ≡ true → nat_lt f m ≡ true
-    below_more f n m next low = grind (arith, nat_tests, next, low)
+    let first : nat_lt g.0 (next_early (Early n s b g ∷ past)) ≡ true = lt-next g.0 (next_early past) (next_early (Early n s b g ∷ past)) number next in
+    rw (first, all-where (λ d. nat_lt d (next_early past)) (λ d. nat_lt d (next_early (Early n s b g ∷ past))) (device_fences past) (λ d low. lt-more d (next_early past) (next_early (Early n s b g ∷ past)) next low) ih) refl
 given-low script (e ∷ past) legal = given-low script past legal.1
 
 given_once : (script : Script) (past : List Entry) → IsLegal script past → list_all (λ d. count_by (is_early_with d) past == 1) (device_fences past) ≡ true
@@ -239,7 +235,7 @@ late-at-most-once script (Late g x ∷ past) d legal =
 late-at-most-once script (e ∷ past) d legal = late-at-most-once script past d legal.1
 
 abbrev pub FoundEarly : List Entry → ℕ → Type 0
-FoundEarly past d = (n : FrameNo) × (s : StreamIx) × (b : BufferId) × (f : FenceNo) × (find (is_early_with d) past ≡ Some (Early n s b f)) × (f.0 ≡ d)
+FoundEarly past d = (n : FrameNo) × (s : StreamIx) × (b : BufferId) × (f : DeviceFenceNo) × (find (is_early_with d) past ≡ Some (Early n s b f)) × (f.0 ≡ d)
 
 pub found-early : (past : List Entry) (d : ℕ) → list_any (is_early_with d) past ≡ true → FoundEarly past d
 found-early [] d h = absurd (false≢true h)
@@ -276,7 +272,7 @@ late-when-quiet script past d legal quiet low =
     let n : FrameNo = found.0 in
     let s : StreamIx = found.1 in
     let b : BufferId = found.2 in
-    let f : FenceNo = found.3 in
+    let f : DeviceFenceNo = found.3 in
     let g : Given past n.0 s.0 f.0 = given script past d n s b f legal found.4 in
     elim (cases_Bool (is_late f.0 past)) [
       | inl late ↦ (let same : f.0 ≡ d = found.5 in rw same at late)

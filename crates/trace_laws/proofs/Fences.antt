@@ -17,7 +17,8 @@ use Rattle.trace_model.specs.Release.{signal_due}
 use Rattle.trace_laws.proofs.Shapes.{release-is, signal-is}
 use Rattle.basic_lemmas.proofs.Counts.{count-one, count-over, none-counted, some-counted, some-where-counted, one-of}
 use Rattle.basic_lemmas.proofs.Lists.{all-where}
-use Rattle.basic_lemmas.proofs.Tests.{given-where}
+use Rattle.basic_lemmas.proofs.Tests.{given-where, lt-more}
+use Rattle.basic_lemmas.proofs.Shared.{lt-next}
 
 -- ---- releases
 
@@ -67,14 +68,8 @@ released-low script (Release b g ∷ past) legal =
     let ih = released-low script past legal.1 in
     let number = (release-is past b g legal.0).1 in
     let next = count-one is_release (Release b g) past refl in
-    let first : nat_lt g.0 (next_fence (Release b g ∷ past)) ≡ true = below_next g.0 (next_fence past) (next_fence (Release b g ∷ past)) number next in
-    rw (first, all-where (λ f. nat_lt f (next_fence past)) (λ f. nat_lt f (next_fence (Release b g ∷ past))) (released past) (λ f low. below_more f (next_fence past) (next_fence (Release b g ∷ past)) next low) ih) refl
-  where
-    below_next : (g n m : ℕ) → g ≡ n → m ≡ 1 + n → nat_lt g m ≡ true
-    below_next g n m number next = grind (arith, nat_tests, number, next)
-
-    below_more : (f n m : ℕ) → m ≡ 1 + n → nat_lt f n ≡ true → nat_lt f m ≡ true
-    below_more f n m next low = grind (arith, nat_tests, next, low)
+    let first : nat_lt g.0 (next_fence (Release b g ∷ past)) ≡ true = lt-next g.0 (next_fence past) (next_fence (Release b g ∷ past)) number next in
+    rw (first, all-where (λ f. nat_lt f (next_fence past)) (λ f. nat_lt f (next_fence (Release b g ∷ past))) (released past) (λ f low. lt-more f (next_fence past) (next_fence (Release b g ∷ past)) next low) ih) refl
 released-low script (e ∷ past) legal = released-low script past legal.1
 
 pub is_one : (k : ℕ) (below : Bool) → below ≡ true → k ≡ (if below then 1 else 0) → k ≡ 1

@@ -4,6 +4,7 @@ pub mod RepeatLemmas
 pub mod FrameLemmas
 pub mod ValidLemmas
 pub mod Shapes
+pub mod Lent
 pub mod FenceLemmas
 pub mod Accepted
 pub mod BufferLemmas

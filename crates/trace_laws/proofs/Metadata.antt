@@ -4,7 +4,7 @@ use Rattle.std.proofs.Common.{◌≡◌, ℕ, ◌==◌, Bool, true, false, ◌&&
 use Rattle.std.specs.List.{list_any, list_all}
 use Rattle.std.proofs.lemmas.Bool.{and_parts, eqb-true, false≢true, not-true, or_parts}
 use Rattle.cam_types.specs.declared.number.FrameNo.{FrameNo}
-use Rattle.cam_types.specs.declared.part.Part.{Part}
+use Rattle.cam_types.specs.declared.partial_result.PartialResult.{PartialResult}
 use Rattle.cam_types.specs.declared.script.Script.{Script}
 use Rattle.trace_model.specs.declared.entry.Entry.{Entry}
 use Rattle.trace_model.specs.declared.entry.Entry.TheVariants.{Partial, ErrorRequest, ErrorResult}
@@ -80,7 +80,7 @@ request-fails script past n h =
 
 -- ---- it ends once
 
-last_part_open : (script : Script) (past : List Entry) (n : FrameNo) (k : ℕ) (part : Part) → IsLegal script past → IsAllowed script past (Partial n k part) → k ≡ 3 → is_metadata_ended n.0 past ≡ false
+last_part_open : (script : Script) (past : List Entry) (n : FrameNo) (k : ℕ) (part : PartialResult) → IsLegal script past → IsAllowed script past (Partial n k part) → k ≡ 3 → is_metadata_ended n.0 past ≡ false
 last_part_open script past n k part legal may last =
     let is = part-is script past n k part may in
     let first : has_part n.0 3 past ≡ false = rw last at (part-first script past n k part legal may) in

@@ -4,7 +4,7 @@ use Rattle.std.proofs.Common.{◌≡◌, ℕ, ◌==◌, ◌<◌, Bool, true, fal
 use Rattle.std.specs.List.{list_any, list_all}
 use Rattle.std.proofs.lemmas.Bool.{and_parts, both_ways, cases_Bool, cases_order, eq-eqb, eqb-true, false≢true, lt-ltb}
 use Rattle.cam_types.specs.declared.number.FrameNo.{FrameNo}
-use Rattle.cam_types.specs.declared.part.Part.{Part}
+use Rattle.cam_types.specs.declared.partial_result.PartialResult.{PartialResult}
 use Rattle.cam_types.specs.declared.script.Script.{Script}
 use Rattle.trace_model.specs.declared.entry.Entry.{Entry}
 use Rattle.trace_model.specs.declared.entry.Entry.TheVariants.{Send, Partial, ErrorResult}
@@ -120,7 +120,7 @@ all_below n (ErrorResult m ∷ past) each =
 all_below n (e ∷ past) each = all_below n past each
 
 -- a last part is above all that ended before
-last_above : (script : Script) (past : List Entry) (n : FrameNo) (k : ℕ) (part : Part) → IsLegal script past → IsAllowed script past (Partial n k part) → (k == 3) ≡ true → list_all (ends_below n.0) past ≡ true
+last_above : (script : Script) (past : List Entry) (n : FrameNo) (k : ℕ) (part : PartialResult) → IsLegal script past → IsAllowed script past (Partial n k part) → (k == 3) ≡ true → list_all (ends_below n.0) past ≡ true
 last_above script past n k part legal may last =
     let ends : ends_metadata n.0 (Partial n k part) ≡ true = rw (eq-eqb n.0 n.0 refl, last) refl in
     let sent = shutter-sent script past n.0 legal (part-is script past n k part may).shutter in

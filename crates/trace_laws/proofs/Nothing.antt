@@ -1,5 +1,5 @@
 -- What is due of a frame that has a request error.
-use Rattle.std.proofs.Common.{◌≡◌, ℕ, ◌+◌, ◌==◌, Bool, true, false, not, ◌&&◌, ◌||◌, List, [], ◌∷◌, ◌++◌, Option, Some, None, refl, sym, ◌∙◌}
+use Rattle.std.proofs.Common.{◌≡◌, ℕ, ◌+◌, ◌==◌, Bool, true, false, not, ◌&&◌, List, [], ◌∷◌, ◌++◌, Option, Some, None, refl}
 use Rattle.std.specs.Prelude.{if◌then◌else◌}
 use Rattle.std.specs.List.{list_any}
 use Rattle.std.proofs.lemmas.Bool.Decides.{Decides-eqb}
@@ -15,10 +15,10 @@ use Rattle.trace_model.specs.Filled.{early_due, early_of, filled_due, filled_of,
 use Rattle.trace_model.specs.Frames.{each_earlier, has_error_request, has_shutter, shutter_time, target_of}
 use Rattle.trace_model.specs.Legal.{IsLegal}
 use Rattle.trace_model.specs.Open.{has_error_buffer}
-use Rattle.trace_model.specs.Partial.{may_part, part_count, part_of, partial_due}
+use Rattle.trace_model.specs.Partial.{may_have_partial, partial_count, partial_of, partial_due}
 use Rattle.trace_model.specs.Place.{is_at_device_by}
 use Rattle.trace_laws.specs.Good.{is_good_of}
-use Rattle.basic_lemmas.proofs.Tests.{not-so}
+use Rattle.basic_lemmas.proofs.Tests.{not-so, or-right}
 
 -- ---- tests
 
@@ -43,9 +43,9 @@ unless b x e = rw e refl
 
 -- ---- what is due
 
-no-part : (script : Script) (past : List Entry) (n k : ℕ) (time : Option ℕ) → has_error_request n past ≡ true → part_of script past n k time ≡ None
+no-part : (script : Script) (past : List Entry) (n k : ℕ) (time : Option ℕ) → has_error_request n past ≡ true → partial_of script past n k time ≡ None
 no-part script past n k None has = refl
-no-part script past n k (Some time) has = unless (may_part script past n k) _ (first (has_error_request n past) _ _ has)
+no-part script past n k (Some time) has = unless (may_have_partial script past n k) _ (first (has_error_request n past) _ _ has)
 
 undelivered : (script : Script) (past : List Entry) (n s : ℕ) (t : Sent) → has_error_request n past ≡ true → may_deliver script past n s t ≡ false
 undelivered script past n s t has =
@@ -70,7 +70,7 @@ with-error m n past same has = let e : m ≡ n = (Decides-eqb m n).0 same in rw 
 
 pub not_good : (script : Script) (past : List Entry) (e : Entry) (n : ℕ) → IsAllowed script past e → has_error_request n past ≡ true → is_good_of n e ≡ false
 not_good script past (Partial m k part) n ok has =
-    not-so (m.0 == n) (λ same. clash (partial_due script past m.0) (Partial m k part) (no-part script past m.0 (part_count m.0 past + 1) (shutter_time m.0 past) (with-error m.0 n past same has)) ok)
+    not-so (m.0 == n) (λ same. clash (partial_due script past m.0) (Partial m k part) (no-part script past m.0 (partial_count m.0 past + 1) (shutter_time m.0 past) (with-error m.0 n past same has)) ok)
 not_good script past (Filled m s b f digest) n ok has =
     not-so (m.0 == n) (λ same. clash (filled_due script past m.0 s.0) (Filled m s b f digest) (no-buffer script past m.0 s.0 (target_of m.0 s.0 past) (with-error m.0 n past same has)) ok)
 not_good script past (Early m s b d) n ok has =
@@ -79,13 +79,9 @@ not_good script past _ n ok has = refl
 
 -- ---- all that comes later
 
-either : (b c : Bool) → c ≡ true → (b || c) ≡ true
-either true c e = refl
-either false c e = e
-
 still : (n : ℕ) (later past : List Entry) → has_error_request n past ≡ true → has_error_request n (later ++ past) ≡ true
 still n [] past has = has
-still n (e ∷ later) past has = either (is_error_request n e) (has_error_request n (later ++ past)) (still n later past has)
+still n (e ∷ later) past has = or-right (is_error_request n e) (has_error_request n (later ++ past)) (still n later past has)
 
 pub nothing_good : (script : Script) (past later : List Entry) (n : ℕ) → IsLegal script (later ++ past) → has_error_request n past ≡ true → list_any (is_good_of n) later ≡ false
 nothing_good script past [] n legal has = refl

@@ -1,5 +1,5 @@
 -- A buffer of a frame comes back at most once; in a complete run, once.
-use Rattle.std.proofs.Common.{◌≡◌, ℕ, ◌==◌, ◌≤◌, Bool, true, false, ◌&&◌, not, List, [], ◌∷◌, Some, refl, sym, arith, inl, inr, count_by}
+use Rattle.std.proofs.Common.{◌≡◌, ℕ, ◌==◌, ◌≤◌, Bool, true, false, ◌&&◌, not, List, [], ◌∷◌, Some, refl, sym, arith, inl, inr, count_by, ◌∙◌}
 use Rattle.std.specs.List.{list_all, list_any}
 use Rattle.std.proofs.lemmas.Bool.{cases_Bool, false≢true, and_parts}
 use Rattle.std.proofs.lemmas.Bool.Decides.{nat_tests}
@@ -9,44 +9,22 @@ use Rattle.trace_model.specs.declared.entry.Entry.{Entry}
 use Rattle.trace_model.specs.declared.entry.Entry.TheVariants.{Send, Filled, Failed, Release, Early}
 use Rattle.trace_model.specs.declared.entry.Sent.{Sent}
 use Rattle.trace_model.specs.Complete.{IsComplete}
-use Rattle.trace_model.specs.Entry.{brings, names, returns_target, sends}
+use Rattle.trace_model.specs.Entry.{brings, names, returns_target}
 use Rattle.trace_model.specs.Fence.{is_late}
 use Rattle.trace_model.specs.Frames.{frames, is_sent, target_of, targets_of}
 use Rattle.trace_model.specs.Legal.{IsLegal}
 use Rattle.trace_model.specs.Open.{all_settled, early_fences, is_metadata_ended, is_open, is_returned, is_settled}
-use Rattle.trace_model.specs.Place.{is_at_device_by}
+use Rattle.trace_model.specs.Place.{is_at_device_by, sends_with}
 use Rattle.trace_laws.proofs.Returns.{ComesBack, early-back, filled-back, failed-back}
-use Rattle.trace_laws.proofs.BufferSends.{frames-sent, holds, is_with, not-the-next, out-before, out-sent, out-target, send-number}
+use Rattle.trace_laws.proofs.BufferSends.{frames-sent, holds, is_with, not-the-next, out-before, out-target, send-number}
 use Rattle.basic_lemmas.proofs.Lists.{any-behind, all-where, all-where-both, any-where}
 use Rattle.basic_lemmas.proofs.Counts.{count-one, count-over, none-counted, some-counted, one-of}
+use Rattle.trace_laws.proofs.Told.{return-tells, sent-for}
 
 -- ---- what came back was sent
 
-of_frame : (past : List Entry) (m u n s : ℕ) → ((m == n) && (u == s)) ≡ true → is_sent m past ≡ true → is_sent n past ≡ true
-of_frame past m u n s h sent =
-    let number = (and_parts (m == n) (u == s) h).0 in
-    let same : m ≡ n = grind (arith, nat_tests, number) in
-    rw same at sent
-
 pub returned-sent : (script : Script) (past : List Entry) (n s : ℕ) → IsLegal script past → is_returned n s past ≡ true → is_sent n past ≡ true
-returned-sent script [] n s legal h = absurd (false≢true h)
-returned-sent script (Send m r i same targets ∷ past) n s legal h = any-behind (sends n) (Send m r i same targets) past (returned-sent script past n s legal.1 h)
-returned-sent script (Filled m u c f d ∷ past) n s legal h =
-    elim (cases_Bool (returns_target n s (Filled m u c f d))) [
-      | inl own ↦ of_frame past m.0 u.0 n s own (out-sent past m.0 u.0 c.0 (filled-back script past m u c f d legal.0).out)
-      | inr other ↦ (let h' = rw other at h in returned-sent script past n s legal.1 h')
-    ]
-returned-sent script (Failed m u c f ∷ past) n s legal h =
-    elim (cases_Bool (returns_target n s (Failed m u c f))) [
-      | inl own ↦ of_frame past m.0 u.0 n s own (out-sent past m.0 u.0 c.0 (failed-back past m u c f legal.0).out)
-      | inr other ↦ (let h' = rw other at h in returned-sent script past n s legal.1 h')
-    ]
-returned-sent script (Early m u c d ∷ past) n s legal h =
-    elim (cases_Bool (returns_target n s (Early m u c d))) [
-      | inl own ↦ of_frame past m.0 u.0 n s own (out-sent past m.0 u.0 c.0 (early-back script past m u c d legal.0).out)
-      | inr other ↦ (let h' = rw other at h in returned-sent script past n s legal.1 h')
-    ]
-returned-sent script (e ∷ past) n s legal h = returned-sent script past n s legal.1 h
+returned-sent script past n s legal h = sent-for script past n (returns_target n s) legal (return-tells n s) h
 
 not_returned_unsent : (script : Script) (past : List Entry) (m n s : ℕ) → IsLegal script past → (m == n) ≡ true → ((k : ℕ) → is_sent k past ≡ true → (m == k) ≡ false) → is_returned n s past ≡ false
 not_returned_unsent script past m n s legal own fresh =
@@ -74,6 +52,14 @@ apart_from past m u c n s b back other own =
       | inr apart ↦ apart
     ]
 
+-- what isn't a send leaves a buffer at the device only where it doesn't name it
+still_out : (e : Entry) (past : List Entry) (n s b : ℕ) → sends_with n s b (Some e) ≡ false → is_at_device_by n s b (e ∷ past) ≡ true → (names b e ≡ false) × (is_at_device_by n s b past ≡ true)
+still_out e past n s b send h =
+    elim (cases_Bool (names b e)) [
+      | inl named ↦ (let wrong = rw named at h in absurd (false≢true (sym send ∙ wrong)))
+      | inr other ↦ (other, out-before past e n s b other h)
+    ]
+
 pub out-not-returned : (script : Script) (past : List Entry) (n s b : ℕ) → IsLegal script past → is_at_device_by n s b past ≡ true → is_returned n s past ≡ false
 out-not-returned script [] n s b legal h = refl
 out-not-returned script (Send m r i same targets ∷ past) n s b legal h =
@@ -86,37 +72,18 @@ out-not-returned script (Send m r i same targets ∷ past) n s b legal h =
       | inr other ↦ out-not-returned script past n s b legal.1 (out-before past (Send m r i same targets) n s b other h)
     ]
 out-not-returned script (Filled m u c f d ∷ past) n s b legal h =
-    elim (cases_Bool (c.0 == b)) [
-      | inl named ↦ (let wrong = rw named at h in absurd (false≢true wrong))
-      | inr other ↦ (
-          let out = out-before past (Filled m u c f d) n s b other h in
-          let apart = apart_from past m.0 u.0 c.0 n s b (filled-back script past m u c f d legal.0) other (out-target script past n s b legal.1 out) in
-          rw (apart, out-not-returned script past n s b legal.1 out) refl
-          )
-    ]
+    let out = still_out (Filled m u c f d) past n s b refl h in
+    let apart = apart_from past m.0 u.0 c.0 n s b (filled-back script past m u c f d legal.0) out.0 (out-target script past n s b legal.1 out.1) in
+    rw (apart, out-not-returned script past n s b legal.1 out.1) refl
 out-not-returned script (Failed m u c f ∷ past) n s b legal h =
-    elim (cases_Bool (c.0 == b)) [
-      | inl named ↦ (let wrong = rw named at h in absurd (false≢true wrong))
-      | inr other ↦ (
-          let out = out-before past (Failed m u c f) n s b other h in
-          let apart = apart_from past m.0 u.0 c.0 n s b (failed-back past m u c f legal.0) other (out-target script past n s b legal.1 out) in
-          rw (apart, out-not-returned script past n s b legal.1 out) refl
-          )
-    ]
+    let out = still_out (Failed m u c f) past n s b refl h in
+    let apart = apart_from past m.0 u.0 c.0 n s b (failed-back past m u c f legal.0) out.0 (out-target script past n s b legal.1 out.1) in
+    rw (apart, out-not-returned script past n s b legal.1 out.1) refl
 out-not-returned script (Early m u c d ∷ past) n s b legal h =
-    elim (cases_Bool (c.0 == b)) [
-      | inl named ↦ (let wrong = rw named at h in absurd (false≢true wrong))
-      | inr other ↦ (
-          let out = out-before past (Early m u c d) n s b other h in
-          let apart = apart_from past m.0 u.0 c.0 n s b (early-back script past m u c d legal.0) other (out-target script past n s b legal.1 out) in
-          rw (apart, out-not-returned script past n s b legal.1 out) refl
-          )
-    ]
-out-not-returned script (Release c f ∷ past) n s b legal h =
-    elim (cases_Bool (c.0 == b)) [
-      | inl named ↦ (let wrong = rw named at h in absurd (false≢true wrong))
-      | inr other ↦ out-not-returned script past n s b legal.1 (out-before past (Release c f) n s b other h)
-    ]
+    let out = still_out (Early m u c d) past n s b refl h in
+    let apart = apart_from past m.0 u.0 c.0 n s b (early-back script past m u c d legal.0) out.0 (out-target script past n s b legal.1 out.1) in
+    rw (apart, out-not-returned script past n s b legal.1 out.1) refl
+out-not-returned script (Release c f ∷ past) n s b legal h = out-not-returned script past n s b legal.1 (still_out (Release c f) past n s b refl h).1
 out-not-returned script (e ∷ past) n s b legal h = out-not-returned script past n s b legal.1 h
 
 -- ---- at most once

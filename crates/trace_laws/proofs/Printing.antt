@@ -14,11 +14,12 @@ use Rattle.cam_types.specs.Script.{command_fits, is_valid}
 use Rattle.cam_types.specs.declared.four.Four.{Four}
 use Rattle.cam_types.specs.declared.item.Settings.{Settings}
 use Rattle.cam_types.specs.declared.number.BufferId.{BufferId}
+use Rattle.cam_types.specs.declared.number.DeviceFenceNo.{DeviceFenceNo}
 use Rattle.cam_types.specs.declared.number.FenceNo.{FenceNo}
 use Rattle.cam_types.specs.declared.number.FrameNo.{FrameNo}
 use Rattle.cam_types.specs.declared.number.RequestId.{RequestId}
 use Rattle.cam_types.specs.declared.number.StreamIx.{StreamIx}
-use Rattle.cam_types.specs.declared.part.Part.{Part}
+use Rattle.cam_types.specs.declared.partial_result.PartialResult.{PartialResult}
 use Rattle.cam_types.specs.declared.reply.Reply.{Reply}
 use Rattle.cam_types.specs.declared.reply.Reply.TheVariants.{Ok, Submitted, Configured, Refused}
 use Rattle.cam_types.specs.declared.script.Command.{Command}
@@ -37,14 +38,14 @@ use Rattle.trace_model.specs.Entry.{is_early_with}
 use Rattle.trace_model.specs.Errors.{error_buffer_due, error_request_due, error_result_due, failed_due, fence_left, is_cut_short, may_fail_buffer, may_fail_in_part, may_fail_request, may_fail_result}
 use Rattle.trace_model.specs.Faults.{buffer_fault, request_fault, result_fault}
 use Rattle.trace_model.specs.Fence.{fence_of, is_passed, is_same_fence}
-use Rattle.trace_model.specs.Filled.{early_due, filled_due, late_due, is_sound, lets_pass}
+use Rattle.trace_model.specs.Filled.{early_due, filled_due, late_due, may_deliver}
 use Rattle.trace_model.specs.Frames.{each_earlier, frames, has_error_request, has_shutter, has_target, is_sent, settings_of, shutter_time, target_of, targets_of}
 use Rattle.trace_model.specs.Legal.{IsLegal}
 use Rattle.trace_model.specs.Numbers.{call_count, next_early, next_fence, next_number}
 use Rattle.trace_model.specs.Open.{all_settled, has_error_buffer, has_something, is_metadata_ended, is_open, is_returned}
-use Rattle.trace_model.specs.Partial.{may_part, part_count, part_of, partial_due}
+use Rattle.trace_model.specs.Partial.{may_have_partial, partial_count, partial_of, partial_due}
 use Rattle.trace_model.specs.Picture.{digest, digest_of, digest_on}
-use Rattle.trace_model.specs.Place.{Pool, is_at, is_at_device_by, place}
+use Rattle.trace_model.specs.Place.{Pool, is_at, place}
 use Rattle.trace_model.specs.Printable.{fence_fits, is_byte, is_digest, is_printable, is_small, part_fits, reply_fits, sent_fits}
 use Rattle.trace_model.specs.Queue.{first_in, next, queued}
 use Rattle.cam_types.specs.declared.request.Queued.{Queued}
@@ -67,12 +68,13 @@ use Rattle.trace_laws.proofs.FrameLemmas.{frames_bounded}
 use Rattle.trace_laws.proofs.NextFits.{next-small, queued-small, request-small}
 use Rattle.trace_laws.proofs.Printed.{client-small, small-same, exposed-small, fence-fits, frames-small, sent-small, stream-byte, target-fits, target-small}
 use Rattle.trace_laws.proofs.RefusedFits.{fits_if_any, refusal-fits, small}
-use Rattle.trace_laws.proofs.Shapes.{early-is, failed-is, filled-is, late-is, release-is, shutter-is, signal-is}
+use Rattle.trace_laws.proofs.Shapes.{delivers, early-is, failed-is, filled-is, late-is, release-is, shutter-is, signal-is}
 use Rattle.trace_laws.proofs.StreamLemmas.{buffer-small, few-made, low-fits, made-all-low, made-low, own-stream, stream-there}
 use Rattle.trace_laws.proofs.TimeLemmas.{next-time-bounded, times_bounded}
 use Rattle.trace_laws.proofs.ValidLemmas.{Valid, at-most, few-frames, valid}
 use Rattle.basic_lemmas.proofs.Lists.{all-filtered, found-passes, all-at, all-found}
 use Rattle.trace_laws.proofs.Due.{four_filled}
+use Rattle.basic_lemmas.proofs.Tests.{passed-where}
 
 -- ---- numbers
 
@@ -210,23 +212,23 @@ part-fits (suc (suc zero)) s time some few range l = grind (arith, nat_tests)
 part-fits (suc (suc (suc zero))) s time some few range l = grind (arith, nat_tests)
 part-fits (suc (suc (suc (suc k)))) s time some few range l = absurd (omega (arith, few))
 
-part_is : (b : Bool) (m n : FrameNo) (j k : ℕ) (p q : Part) → (if b then Some (Partial m j p) else None) ≡ Some (Partial n k q) → (j ≡ k) × (p ≡ q)
+part_is : (b : Bool) (m n : FrameNo) (j k : ℕ) (p q : PartialResult) → (if b then Some (Partial m j p) else None) ≡ Some (Partial n k q) → (j ≡ k) × (p ≡ q)
 part_is true m n j k p q h = (cc, cc)
 part_is false m n j k p q h = absurd (cc)
 
-part_prints : (script : Script) (past : List Entry) (n : FrameNo) (j k : ℕ) (part : Part) (o : Option ℕ) → Valid script → IsLegal script past → list_all is_printable past ≡ true → 0 < k → k ≤ 3 → shutter_time n.0 past ≡ o → part_of script past n.0 j o ≡ Some (Partial n k part) → is_printable (Partial n k part) ≡ true
+part_prints : (script : Script) (past : List Entry) (n : FrameNo) (j k : ℕ) (part : PartialResult) (o : Option ℕ) → Valid script → IsLegal script past → list_all is_printable past ≡ true → 0 < k → k ≤ 3 → shutter_time n.0 past ≡ o → partial_of script past n.0 j o ≡ Some (Partial n k part) → is_printable (Partial n k part) ≡ true
 part_prints script past n j k part None v legal printed some few at h = absurd (cc)
 part_prints script past n j k part (Some time) v legal printed some few at h =
-    let is = part_is (may_part script past n.0 j) (record { 0 = n.0 }) n j k (part_at j (settings_of script past n.0) time) part h in
+    let is = part_is (may_have_partial script past n.0 j) (record { 0 = n.0 }) n j k (part_at j (settings_of script past n.0) time) part h in
     let found = time_found (time_bound script) n.0 past time (times_bounded script past legal) printed at in
     let fits = part-fits k (settings_of script past n.0) time some few (frame-moderate script past n.0 legal) (time-fits script time v found.0) in
     let own : part_fits k part ≡ true = rw (← is.1, is.0) fits in
     rw (found.1, own) refl
 
-partial-prints : (script : Script) (past : List Entry) (n : FrameNo) (k : ℕ) (part : Part) → Valid script → IsLegal script past → list_all is_printable past ≡ true → partial_due script past n.0 ≡ Some (Partial n k part) → is_printable (Partial n k part) ≡ true
+partial-prints : (script : Script) (past : List Entry) (n : FrameNo) (k : ℕ) (part : PartialResult) → Valid script → IsLegal script past → list_all is_printable past ≡ true → partial_due script past n.0 ≡ Some (Partial n k part) → is_printable (Partial n k part) ≡ true
 partial-prints script past n k part v legal printed h =
     let shape = parts-shape script past n k part h in
-    part_prints script past n (part_count n.0 past + 1) k part (shutter_time n.0 past) v legal printed shape.0 shape.1 refl h
+    part_prints script past n (partial_count n.0 past + 1) k part (shutter_time n.0 past) v legal printed shape.0 shape.1 refl h
 
 -- ---- digests
 
@@ -269,50 +271,43 @@ digest-on-fits (Some spec) s n h = digest-fits spec s n
 
 -- ---- filled and failed buffers
 
-by_device : (at shutter sound passed earlier : Bool) → ((at && (shutter && sound)) && (passed && earlier)) ≡ true → (at ≡ true) × (shutter ≡ true)
-by_device at shutter sound passed earlier h =
-    let first = and_parts (at && (shutter && sound)) (passed && earlier) h in
-    let second = and_parts at (shutter && sound) first.0 in
-    (second.0, (and_parts shutter sound second.1).0)
+-- the frame, the stream and the buffer of one that comes back filled or early
+delivered-fits : (script : Script) (past : List Entry) (n s b : ℕ) (t : Sent) → list_all is_printable past ≡ true → target_of n s past ≡ Some t → may_deliver script past n s t ≡ true → t.buffer.0 ≡ b → (is_small n ≡ true) × (is_byte s ≡ true) × (is_small b ≡ true)
+delivered-fits script past n s b t printed found may same =
+    let fits = target-fits n s past t printed found in
+    let own = (and_parts (is_small t.buffer.0) (fence_fits t.fence) (and_parts (is_byte t.stream.0) (is_small t.buffer.0 && fence_fits t.fence) fits.0).1).0 in
+    (exposed-small n past printed (delivers script past n s t may).shutter, fits.1, rw same at own)
 
 filled-prints : (script : Script) (past : List Entry) (n : FrameNo) (s : StreamIx) (b : BufferId) (f : Option FenceNo) (d : List ℕ) → IsLegal script past → list_all is_printable past ≡ true → filled_due script past n.0 s.0 ≡ Some (Filled n s b f d) → is_printable (Filled n s b f d) ≡ true
 filled-prints script past n s b f d legal printed h =
     let is = filled-is script past n s b f d h in
     let t : Sent = is.0 in
-    let by = by_device (is_at_device_by n.0 s.0 t.buffer.0 past) (has_shutter n.0 past) (is_sound script past n.0 s.0) (is_passed t.fence past) (each_earlier n.0 (lets_pass past s.0) past) is.2 in
-    let fits = target-fits n.0 s.0 past t printed is.1 in
-    let own = (and_parts (is_small t.buffer.0) (fence_fits t.fence) (and_parts (is_byte t.stream.0) (is_small t.buffer.0 && fence_fits t.fence) fits.0).1).0 in
-    let buffer : is_small b.0 ≡ true = rw (is.3) at own in
-    let number = exposed-small n.0 past printed by.1 in
-    let there = stream-there script past n.0 s.0 t.buffer.0 legal by.0 in
+    let fits = delivered-fits script past n.0 s.0 b.0 t printed is.1 is.2 (ap (λ (z : BufferId). z.0) is.3) in
+    let there = stream-there script past n.0 s.0 t.buffer.0 legal (delivers script past n.0 s.0 t is.2).out in
     let digest' : is_digest (digest_of script past n.0 s.0) ≡ true = digest-on-fits (slice_get (streams script past) s.0) (settings_of script past n.0) n.0 there in
-    filled_line n s b f d (digest_of script past n.0 s.0) number fits.1 buffer is.4 is.5 digest'
+    filled_line n s b f d (digest_of script past n.0 s.0) fits.0 fits.1 fits.2 is.4 is.5 digest'
   where
     filled_line : (n : FrameNo) (s : StreamIx) (b : BufferId) (f : Option FenceNo) (d e : List ℕ) → is_small n.0 ≡ true → is_byte s.0 ≡ true → is_small b.0 ≡ true → f ≡ None → d ≡ e → is_digest e ≡ true → is_printable (Filled n s b f d) ≡ true
     filled_line n s b f d e one two three none same fits = rw (one, two, three, none, same, fits) refl
 
-early-prints : (script : Script) (past : List Entry) (n : FrameNo) (s : StreamIx) (b : BufferId) (d : FenceNo) → Valid script → IsLegal script past → list_all is_printable past ≡ true → early_due script past n.0 s.0 ≡ Some (Early n s b d) → is_printable (Early n s b d) ≡ true
+early-prints : (script : Script) (past : List Entry) (n : FrameNo) (s : StreamIx) (b : BufferId) (d : DeviceFenceNo) → Valid script → IsLegal script past → list_all is_printable past ≡ true → early_due script past n.0 s.0 ≡ Some (Early n s b d) → is_printable (Early n s b d) ≡ true
 early-prints script past n s b d v legal printed h =
     let is = early-is script past n s b d h in
     let t : Sent = is.0 in
-    let by = by_device (is_at_device_by n.0 s.0 t.buffer.0 past) (has_shutter n.0 past) (is_sound script past n.0 s.0) (is_passed t.fence past) (each_earlier n.0 (lets_pass past s.0) past) is.2 in
-    let fits = target-fits n.0 s.0 past t printed is.1 in
-    let own = (and_parts (is_small t.buffer.0) (fence_fits t.fence) (and_parts (is_byte t.stream.0) (is_small t.buffer.0 && fence_fits t.fence) fits.0).1).0 in
-    let buffer : is_small b.0 ≡ true = rw (is.3) at own in
-    let number = exposed-small n.0 past printed by.1 in
+    let fits = delivered-fits script past n.0 s.0 b.0 t printed is.1 is.2 (ap (λ (z : BufferId). z.0) is.3) in
     let fence = same-small d.0 (next_early past) is.4 (fence-small script (next_early past) v (earlies_bounded script past legal)) in
-    early_line n s b d number fits.1 buffer fence
+    early_line n s b d fits.0 fits.1 fits.2 fence
   where
-    early_line : (n : FrameNo) (s : StreamIx) (b : BufferId) (d : FenceNo) → is_small n.0 ≡ true → is_byte s.0 ≡ true → is_small b.0 ≡ true → is_small d.0 ≡ true → is_printable (Early n s b d) ≡ true
+    early_line : (n : FrameNo) (s : StreamIx) (b : BufferId) (d : DeviceFenceNo) → is_small n.0 ≡ true → is_byte s.0 ≡ true → is_small b.0 ≡ true → is_small d.0 ≡ true → is_printable (Early n s b d) ≡ true
     early_line n s b d one two three four = rw (one, two, three, four) refl
 
-late-prints : (script : Script) (past : List Entry) (d : FenceNo) (x : List ℕ) → IsLegal script past → list_all is_printable past ≡ true → late_due script past d.0 ≡ Some (Late d x) → is_printable (Late d x) ≡ true
+late-prints : (script : Script) (past : List Entry) (d : DeviceFenceNo) (x : List ℕ) → IsLegal script past → list_all is_printable past ≡ true → late_due script past d.0 ≡ Some (Late d x) → is_printable (Late d x) ≡ true
 late-prints script past d x legal printed h =
     let is = late-is script past d x h in
     let n : FrameNo = is.0 in
     let s : StreamIx = is.1 in
     let b : BufferId = is.2 in
-    let f : FenceNo = is.3 in
+    let f : DeviceFenceNo = is.3 in
     let found : find (is_early_with d.0) past ≡ Some (Early n s b f) = is.4 in
     let p = pending script past d.0 n s b f legal found is.5 in
     let there = own-stream script past s.0 b.0 legal (p.own) in
@@ -322,7 +317,7 @@ late-prints script past d x legal printed h =
     let fence = small-same f.0 d.0 own (found-passes (is_early_with d.0) past (Early n s b f) found) in
     late_line d x (digest_of script past n.0 s.0) fence is.6 digest'
   where
-    late_line : (d : FenceNo) (x e : List ℕ) → is_small d.0 ≡ true → x ≡ e → is_digest e ≡ true → is_printable (Late d x) ≡ true
+    late_line : (d : DeviceFenceNo) (x e : List ℕ) → is_small d.0 ≡ true → x ≡ e → is_digest e ≡ true → is_printable (Late d x) ≡ true
     late_line d x e one same fits = rw (one, same, fits) refl
 
 left-fits : (fence : Option FenceNo) (past : List Entry) → fence_fits fence ≡ true → fence_fits (fence_left fence past) ≡ true
@@ -358,13 +353,9 @@ failed-prints past n s b f printed h =
 
 -- ---- errors
 
-where_some : (b : Bool) (x y : Entry) → (if b then Some x else None) ≡ Some y → b ≡ true
-where_some true x y h = refl
-where_some false x y h = absurd (cc)
-
 request-prints : (script : Script) (past : List Entry) (n : FrameNo) → list_all is_printable past ≡ true → error_request_due script past n.0 ≡ Some (ErrorRequest n) → is_printable (ErrorRequest n) ≡ true
 request-prints script past n printed h =
-    let may = where_some (may_fail_request script past n.0) (ErrorRequest (record { 0 = n.0 })) (ErrorRequest n) h in
+    let may = passed-where (may_fail_request script past n.0) (ErrorRequest (record { 0 = n.0 })) (ErrorRequest n) h in
     let first = and_parts (is_open n.0 past && not (has_something n.0 past)) ((request_fault script n.0 && has_shutter n.0 past) || is_stopped n.0 past) may in
     let open' = and_parts (is_open n.0 past) (not (has_something n.0 past)) first.0 in
     let sent = and_parts (is_sent n.0 past) (not (is_metadata_ended n.0 past && all_settled n.0 past)) open'.0 in
@@ -372,7 +363,7 @@ request-prints script past n printed h =
 
 result-prints : (script : Script) (past : List Entry) (n : FrameNo) → list_all is_printable past ≡ true → error_result_due script past n.0 ≡ Some (ErrorResult n) → is_printable (ErrorResult n) ≡ true
 result-prints script past n printed h =
-    let may = where_some (may_fail_result script past n.0) (ErrorResult (record { 0 = n.0 })) (ErrorResult n) h in
+    let may = passed-where (may_fail_result script past n.0) (ErrorResult (record { 0 = n.0 })) (ErrorResult n) h in
     let first = and_parts (may_fail_in_part script past n.0 && not (is_metadata_ended n.0 past)) (each_earlier n.0 (λ m. is_metadata_ended m past) past && (result_fault script n.0 || is_cut_short past n.0)) may in
     let part = and_parts (may_fail_in_part script past n.0) (not (is_metadata_ended n.0 past)) first.0 in
     let shutter = and_parts (has_shutter n.0 past) (not (request_fault script n.0) || is_stopped n.0 past) part.0 in
@@ -380,7 +371,7 @@ result-prints script past n printed h =
 
 buffer-prints : (script : Script) (past : List Entry) (n : FrameNo) (s : StreamIx) → list_all is_printable past ≡ true → error_buffer_due script past n.0 s.0 ≡ Some (ErrorBuffer n s) → is_printable (ErrorBuffer n s) ≡ true
 buffer-prints script past n s printed h =
-    let may = where_some (may_fail_buffer script past n.0 s.0) (ErrorBuffer (record { 0 = n.0 }) (record { 0 = s.0 })) (ErrorBuffer n s) h in
+    let may = passed-where (may_fail_buffer script past n.0 s.0) (ErrorBuffer (record { 0 = n.0 }) (record { 0 = s.0 })) (ErrorBuffer n s) h in
     let first = and_parts (has_target n.0 s.0 past && (may_fail_in_part script past n.0 && not (has_error_request n.0 past))) ((not (has_error_buffer n.0 s.0 past) && not (is_returned n.0 s.0 past)) && (buffer_fault script n.0 s.0 || is_cut_short past n.0)) may in
     let target = and_parts (has_target n.0 s.0 past) (may_fail_in_part script past n.0 && not (has_error_request n.0 past)) first.0 in
     and_from (is_small n.0) (is_byte s.0) (target-small n.0 s.0 past printed target.0) (stream-byte n.0 s.0 past printed target.0)

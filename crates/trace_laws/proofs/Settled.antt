@@ -4,7 +4,7 @@ use Rattle.std.specs.List.{list_any}
 use Rattle.std.proofs.lemmas.Bool.{and_parts, cases_Bool, eqb-true, false≢true, or_right, ne_eqb}
 use Rattle.std.proofs.lemmas.Bool.Decides.{nat_tests}
 use Rattle.cam_types.specs.declared.number.BufferId.{BufferId}
-use Rattle.cam_types.specs.declared.number.FenceNo.{FenceNo}
+use Rattle.cam_types.specs.declared.number.DeviceFenceNo.{DeviceFenceNo}
 use Rattle.cam_types.specs.declared.number.FrameNo.{FrameNo}
 use Rattle.cam_types.specs.declared.number.StreamIx.{StreamIx}
 use Rattle.cam_types.specs.declared.script.Script.{Script}
@@ -23,7 +23,7 @@ use Rattle.trace_laws.proofs.Early.{given-below}
 use Rattle.basic_lemmas.proofs.Tests.{or-again, one-below}
 use Rattle.trace_laws.specs.Settled.{has_fence, gives, settles}
 
-pub late-low : (script : Script) (past : List Entry) (d : FenceNo) (x : List ℕ) → IsLegal script past → late_due script past d.0 ≡ Some (Late d x) → d.0 < next_early past
+pub late-low : (script : Script) (past : List Entry) (d : DeviceFenceNo) (x : List ℕ) → IsLegal script past → late_due script past d.0 ≡ Some (Late d x) → d.0 < next_early past
 late-low script past d x legal may =
     let is = late-is script past d x may in
     let any = found-any (is_early_with d.0) past (Early is.0 is.1 is.2 is.3) is.4 in
@@ -63,7 +63,7 @@ settled-stays n s e past h =
     or-left true b h = refl
     or-left false b h = absurd (false≢true h)
 
-pub settled-early : (script : Script) (past : List Entry) (n : FrameNo) (s : StreamIx) (b : BufferId) (d : FenceNo) (m u : ℕ) → IsLegal script past → early_due script past n.0 s.0 ≡ Some (Early n s b d) → is_settled m u (Early n s b d ∷ past) ≡ is_settled m u past
+pub settled-early : (script : Script) (past : List Entry) (n : FrameNo) (s : StreamIx) (b : BufferId) (d : DeviceFenceNo) (m u : ℕ) → IsLegal script past → early_due script past n.0 s.0 ≡ Some (Early n s b d) → is_settled m u (Early n s b d ∷ past) ≡ is_settled m u past
 settled-early script past n s b d m u legal may =
     let number = (early-is script past n s b d may).4 in
     let new : is_late d.0 past ≡ false = not-late script past d.0 legal (omega (arith, number)) in
@@ -72,7 +72,7 @@ settled-early script past n s b d m u legal may =
       | inr other ↦ rw other refl
     ]
 
-pub settled-signalled : (g : FenceNo) (x : List ℕ) (past : List Entry) (m u : ℕ) → is_settled m u (Late g x ∷ past) ≡ (has_fence g.0 (early_fences m u past) || is_settled m u past)
+pub settled-signalled : (g : DeviceFenceNo) (x : List ℕ) (past : List Entry) (m u : ℕ) → is_settled m u (Late g x ∷ past) ≡ (has_fence g.0 (early_fences m u past) || is_settled m u past)
 settled-signalled g x past m u =
     rw (any-or (λ d. g.0 == d) (λ d. is_late d past) (early_fences m u past)) (turned (list_any (brings m u) past) (has_fence g.0 (early_fences m u past)) (list_any (λ d. is_late d past) (early_fences m u past)))
   where
@@ -99,7 +99,7 @@ fences-low script (Early k t c d ∷ past) g m u legal h =
 fences-low script (e ∷ past) g m u legal h = fences-low script past g m u legal.1 h
 
 -- the early return with a device fence is of the frame and stream that have it
-pub fence-frame : (script : Script) (past : List Entry) (g : ℕ) (n : FrameNo) (s : StreamIx) (b : BufferId) (f : FenceNo) (m u : ℕ) → IsLegal script past → find (is_early_with g) past ≡ Some (Early n s b f) → has_fence g (early_fences m u past) ≡ true → ((n.0 == m) && (s.0 == u)) ≡ true
+pub fence-frame : (script : Script) (past : List Entry) (g : ℕ) (n : FrameNo) (s : StreamIx) (b : BufferId) (f : DeviceFenceNo) (m u : ℕ) → IsLegal script past → find (is_early_with g) past ≡ Some (Early n s b f) → has_fence g (early_fences m u past) ≡ true → ((n.0 == m) && (s.0 == u)) ≡ true
 fence-frame script [] g n s b f m u legal found h = absurd (false≢true h)
 fence-frame script (Early k t c d ∷ past) g n s b f m u legal found h =
     let number = (early-is script past k t c d legal.0).4 in
@@ -128,14 +128,14 @@ fence-frame script (Early k t c d ∷ past) g n s b f m u legal found h =
           )
     ]
   where
-    early-parts : (k n : FrameNo) (t s : StreamIx) (c b : BufferId) (d f : FenceNo) → Early k t c d ≡ Early n s b f → (k ≡ n) × (t ≡ s)
+    early-parts : (k n : FrameNo) (t s : StreamIx) (c b : BufferId) (d f : DeviceFenceNo) → Early k t c d ≡ Early n s b f → (k ≡ n) × (t ≡ s)
     early-parts k n t s c b d f h = (cc, cc)
 
     turn : (g d : ℕ) → (d == g) ≡ false → (g == d) ≡ false
     turn g d h = grind (arith, nat_tests, h)
 fence-frame script (e ∷ past) g n s b f m u legal found h = fence-frame script past g n s b f m u legal.1 found h
 
-pub not-its : (script : Script) (past : List Entry) (g : ℕ) (n : FrameNo) (s : StreamIx) (b : BufferId) (f : FenceNo) (m u : ℕ) → IsLegal script past → find (is_early_with g) past ≡ Some (Early n s b f) → (n.0 == m) ≡ false → has_fence g (early_fences m u past) ≡ false
+pub not-its : (script : Script) (past : List Entry) (g : ℕ) (n : FrameNo) (s : StreamIx) (b : BufferId) (f : DeviceFenceNo) (m u : ℕ) → IsLegal script past → find (is_early_with g) past ≡ Some (Early n s b f) → (n.0 == m) ≡ false → has_fence g (early_fences m u past) ≡ false
 not-its script past g n s b f m u legal found other =
     elim (cases_Bool (has_fence g (early_fences m u past))) [
       | inl has ↦ (let own = (and_parts (n.0 == m) (s.0 == u) (fence-frame script past g n s b f m u legal found has)).0 in absurd (false≢true (sym other ∙ own)))

@@ -4,6 +4,7 @@ use Rattle.std.specs.List.{list_any}
 use Rattle.std.proofs.lemmas.Bool.{cases_Bool, and_parts}
 use Rattle.std.proofs.lemmas.Bool.Decides.{nat_tests}
 use Rattle.cam_types.specs.declared.number.BufferId.{BufferId}
+use Rattle.cam_types.specs.declared.number.DeviceFenceNo.{DeviceFenceNo}
 use Rattle.cam_types.specs.declared.number.FenceNo.{FenceNo}
 use Rattle.cam_types.specs.declared.number.FrameNo.{FrameNo}
 use Rattle.cam_types.specs.declared.number.StreamIx.{StreamIx}
@@ -43,19 +44,29 @@ filled_parts script past m u (Some t) n s b f d h =
 pub filled-is : (script : Script) (past : List Entry) (n : FrameNo) (s : StreamIx) (b : BufferId) (f : Option FenceNo) (d : List ℕ) → filled_due script past n.0 s.0 ≡ Some (Filled n s b f d) → (t : Sent) × (target_of n.0 s.0 past ≡ Some t) × (may_deliver script past n.0 s.0 t ≡ true) × (t.buffer ≡ b) × (f ≡ None) × (d ≡ digest_of script past n.0 s.0)
 filled-is script past n s b f d h = filled_parts script past n.0 s.0 (target_of n.0 s.0 past) n s b f d h
 
-by_device : (at shutter sound passed earlier : Bool) → ((at && (shutter && sound)) && (passed && earlier)) ≡ true → at ≡ true
-by_device at shutter sound passed earlier h = (and_parts at (shutter && sound) (and_parts (at && (shutter && sound)) (passed && earlier) h).0).0
+-- what it says of a buffer that it may come back filled or early
+pub record MayDeliver (script : Script) (past : List Entry) (n s : ℕ) (t : Sent) : Type 0 where
+  pub out : is_at_device_by n s t.buffer.0 past ≡ true
+  pub shutter : has_shutter n past ≡ true
+  pub sound : is_sound script past n s ≡ true
+  pub passed : is_passed t.fence past ≡ true
+  pub earlier : each_earlier n (lets_pass past s) past ≡ true
+
+pub delivers : (script : Script) (past : List Entry) (n s : ℕ) (t : Sent) → may_deliver script past n s t ≡ true → MayDeliver script past n s t
+delivers script past n s t may =
+    let both = and_parts (is_at_device_by n s t.buffer.0 past && (has_shutter n past && is_sound script past n s)) (is_passed t.fence past && each_earlier n (lets_pass past s) past) may in
+    let out = and_parts (is_at_device_by n s t.buffer.0 past) (has_shutter n past && is_sound script past n s) both.0 in
+    let good = and_parts (has_shutter n past) (is_sound script past n s) out.1 in
+    let free = and_parts (is_passed t.fence past) (each_earlier n (lets_pass past s) past) both.1 in
+    record { out = out.0; shutter = good.0; sound = good.1; passed = free.0; earlier = free.1 }
 
 -- a filled buffer was at the device
 pub filled-from-device : (script : Script) (past : List Entry) (n : FrameNo) (s : StreamIx) (b : BufferId) (f : Option FenceNo) (d : List ℕ) → filled_due script past n.0 s.0 ≡ Some (Filled n s b f d) → place b.0 past ≡ Device
 filled-from-device script past n s b f d h =
     let is = filled-is script past n s b f d h in
     let t : Sent = is.0 in
-    let may : may_deliver script past n.0 s.0 t ≡ true = is.2 in
     let same : t.buffer ≡ b = is.3 in
-    let by = by_device (is_at_device_by n.0 s.0 t.buffer.0 past) (has_shutter n.0 past) (is_sound script past n.0 s.0) (is_passed t.fence past) (each_earlier n.0 (lets_pass past s.0) past) may in
-    let at : place t.buffer.0 past ≡ Device = at-device n.0 s.0 t.buffer.0 past by in
-    rw (← same) at
+    rw (← same) (at-device n.0 s.0 t.buffer.0 past (delivers script past n.0 s.0 t is.2).out)
 
 -- ---- early returns
 
@@ -63,45 +74,43 @@ where_not : {X : Type 0} (b : Bool) (x y : X) → (if b then None else Some x) �
 where_not true x y h = absurd (cc)
 where_not false x y h = (refl, cc)
 
-early_parts : (script : Script) (past : List Entry) (m u : ℕ) (o : Option Sent) (n : FrameNo) (s : StreamIx) (b : BufferId) (d : FenceNo) → early_of script past m u o ≡ Some (Early n s b d) → (t : Sent) × (o ≡ Some t) × (may_deliver script past m u t ≡ true) × (t.buffer ≡ b) × (d.0 ≡ next_early past)
+early_parts : (script : Script) (past : List Entry) (m u : ℕ) (o : Option Sent) (n : FrameNo) (s : StreamIx) (b : BufferId) (d : DeviceFenceNo) → early_of script past m u o ≡ Some (Early n s b d) → (t : Sent) × (o ≡ Some t) × (may_deliver script past m u t ≡ true) × (t.buffer ≡ b) × (d.0 ≡ next_early past)
 early_parts script past m u None n s b d h = absurd (cc)
 early_parts script past m u (Some t) n s b d h =
     let given = given-where (script.early && may_deliver script past m u t) (Early (record { 0 = m }) (record { 0 = u }) t.buffer (record { 0 = next_early past })) (Early n s b d) h in
     let parts = early_buffer (record { 0 = m }) n (record { 0 = u }) s t.buffer b (record { 0 = next_early past }) d given.1 in
-    (t, refl, (and_parts script.early (may_deliver script past m u t) given.0).1, parts.0, ap (λ (z : FenceNo). z.0) parts.1)
+    (t, refl, (and_parts script.early (may_deliver script past m u t) given.0).1, parts.0, ap (λ (z : DeviceFenceNo). z.0) parts.1)
   where
-    early_buffer : (m n : FrameNo) (u s : StreamIx) (c b : BufferId) (e d : FenceNo) → Early m u c e ≡ Early n s b d → (c ≡ b) × (d ≡ e)
+    early_buffer : (m n : FrameNo) (u s : StreamIx) (c b : BufferId) (e d : DeviceFenceNo) → Early m u c e ≡ Early n s b d → (c ≡ b) × (d ≡ e)
     early_buffer m n u s c b e d h = (cc, cc)
 
-pub early-is : (script : Script) (past : List Entry) (n : FrameNo) (s : StreamIx) (b : BufferId) (d : FenceNo) → early_due script past n.0 s.0 ≡ Some (Early n s b d) → (t : Sent) × (target_of n.0 s.0 past ≡ Some t) × (may_deliver script past n.0 s.0 t ≡ true) × (t.buffer ≡ b) × (d.0 ≡ next_early past)
+pub early-is : (script : Script) (past : List Entry) (n : FrameNo) (s : StreamIx) (b : BufferId) (d : DeviceFenceNo) → early_due script past n.0 s.0 ≡ Some (Early n s b d) → (t : Sent) × (target_of n.0 s.0 past ≡ Some t) × (may_deliver script past n.0 s.0 t ≡ true) × (t.buffer ≡ b) × (d.0 ≡ next_early past)
 early-is script past n s b d h = early_parts script past n.0 s.0 (target_of n.0 s.0 past) n s b d h
 
 -- a buffer that comes back early was at the device by the frame's send
-pub early-at-device : (script : Script) (past : List Entry) (n : FrameNo) (s : StreamIx) (b : BufferId) (d : FenceNo) → early_due script past n.0 s.0 ≡ Some (Early n s b d) → is_at_device_by n.0 s.0 b.0 past ≡ true
+pub early-at-device : (script : Script) (past : List Entry) (n : FrameNo) (s : StreamIx) (b : BufferId) (d : DeviceFenceNo) → early_due script past n.0 s.0 ≡ Some (Early n s b d) → is_at_device_by n.0 s.0 b.0 past ≡ true
 early-at-device script past n s b d h =
     let is = early-is script past n s b d h in
     let t : Sent = is.0 in
-    let may : may_deliver script past n.0 s.0 t ≡ true = is.2 in
     let same : t.buffer ≡ b = is.3 in
-    let by = by_device (is_at_device_by n.0 s.0 t.buffer.0 past) (has_shutter n.0 past) (is_sound script past n.0 s.0) (is_passed t.fence past) (each_earlier n.0 (lets_pass past s.0) past) may in
-    rw (← same) by
+    rw (← same) (delivers script past n.0 s.0 t is.2).out
 
-pub early-from-device : (script : Script) (past : List Entry) (n : FrameNo) (s : StreamIx) (b : BufferId) (d : FenceNo) → early_due script past n.0 s.0 ≡ Some (Early n s b d) → place b.0 past ≡ Device
+pub early-from-device : (script : Script) (past : List Entry) (n : FrameNo) (s : StreamIx) (b : BufferId) (d : DeviceFenceNo) → early_due script past n.0 s.0 ≡ Some (Early n s b d) → place b.0 past ≡ Device
 early-from-device script past n s b d h = at-device n.0 s.0 b.0 past (early-at-device script past n s b d h)
 
-late_parts : (script : Script) (past : List Entry) (d : ℕ) (o : Option Entry) (g : FenceNo) (x : List ℕ) → late_of script past d o ≡ Some (Late g x) → (n : FrameNo) × (s : StreamIx) × (b : BufferId) × (f : FenceNo) × (o ≡ Some (Early n s b f)) × (is_late d past ≡ false) × (x ≡ digest_of script past n.0 s.0)
+late_parts : (script : Script) (past : List Entry) (d : ℕ) (o : Option Entry) (g : DeviceFenceNo) (x : List ℕ) → late_of script past d o ≡ Some (Late g x) → (n : FrameNo) × (s : StreamIx) × (b : BufferId) × (f : DeviceFenceNo) × (o ≡ Some (Early n s b f)) × (is_late d past ≡ false) × (x ≡ digest_of script past n.0 s.0)
 late_parts script past d (Some (Early n s b f)) g x h =
     let given = where_not (is_late d past) (Late (record { 0 = d }) (digest_of script past n.0 s.0)) (Late g x) h in
     let same = late_digest (record { 0 = d }) g (digest_of script past n.0 s.0) x given.1 in
     (n, s, b, f, refl, given.0, same)
   where
-    late_digest : (d g : FenceNo) (e x : List ℕ) → Late d e ≡ Late g x → x ≡ e
+    late_digest : (d g : DeviceFenceNo) (e x : List ℕ) → Late d e ≡ Late g x → x ≡ e
     late_digest d g e x h = cc
 late_parts script past d None g x h = absurd (cc)
 late_parts script past d (Some _) g x h = absurd (cc)
 
 -- what is signalled late was given early
-pub late-is : (script : Script) (past : List Entry) (d : FenceNo) (x : List ℕ) → late_due script past d.0 ≡ Some (Late d x) → (n : FrameNo) × (s : StreamIx) × (b : BufferId) × (f : FenceNo) × (find (is_early_with d.0) past ≡ Some (Early n s b f)) × (is_late d.0 past ≡ false) × (x ≡ digest_of script past n.0 s.0)
+pub late-is : (script : Script) (past : List Entry) (d : DeviceFenceNo) (x : List ℕ) → late_due script past d.0 ≡ Some (Late d x) → (n : FrameNo) × (s : StreamIx) × (b : BufferId) × (f : DeviceFenceNo) × (find (is_early_with d.0) past ≡ Some (Early n s b f)) × (is_late d.0 past ≡ false) × (x ≡ digest_of script past n.0 s.0)
 late-is script past d x h = late_parts script past d.0 (find (is_early_with d.0) past) d x h
 
 -- ---- failed buffers

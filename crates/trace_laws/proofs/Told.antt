@@ -6,7 +6,7 @@ use Rattle.cam_types.specs.declared.script.Script.{Script}
 use Rattle.trace_model.specs.declared.entry.Entry.{Entry}
 use Rattle.trace_model.specs.declared.entry.Entry.TheVariants.{Shutter, Partial, Filled, Failed, ErrorRequest, ErrorResult, ErrorBuffer, Early}
 use Rattle.trace_model.specs.Allowed.{IsAllowed}
-use Rattle.trace_model.specs.Entry.{is_error_buffer, is_error_of, is_error_request, is_error_result, is_part, is_partial, is_stop, returns_target, returns_of_frame, sends}
+use Rattle.trace_model.specs.Entry.{is_error_buffer, is_error_of, is_error_request, is_error_result, is_part, is_partial, is_stop, returns_target, returns_of_frame, sends, is_shutter}
 use Rattle.trace_model.specs.Errors.{is_cut_short, may_fail_buffer, may_fail_in_part, may_fail_request}
 use Rattle.trace_model.specs.Faults.{buffer_fault, request_fault}
 use Rattle.trace_model.specs.Frames.{has_error_request, has_shutter, has_target, is_sent, shutter_time}
@@ -18,7 +18,7 @@ use Rattle.trace_laws.proofs.BufferSends.{out-sent}
 use Rattle.trace_laws.proofs.Metadata.{result-fails}
 use Rattle.trace_laws.proofs.Parts.{part-is}
 use Rattle.trace_laws.proofs.Shutters.{exposed, shutter-sent}
-use Rattle.basic_lemmas.proofs.Lists.{any-behind, any-less}
+use Rattle.basic_lemmas.proofs.Lists.{any-behind, any-less, any-where}
 use Rattle.basic_lemmas.proofs.Tests.{passed-where}
 
 -- the entry says something of frame n
@@ -33,6 +33,13 @@ tells n (ErrorResult m) = m.0 == n
 tells n (ErrorBuffer m _) = m.0 == n
 tells n _ = false
 
+pub buffer_exposed : (script : Script) (past : List Entry) (n s : ℕ) → may_fail_buffer script past n s ≡ true → has_shutter n past ≡ true
+buffer_exposed script past n s may =
+    let first = and_parts (has_target n s past && (may_fail_in_part script past n && not (has_error_request n past))) ((not (has_error_buffer n s past) && not (is_returned n s past)) && (buffer_fault script n s || is_cut_short past n)) may in
+    let second = and_parts (has_target n s past) (may_fail_in_part script past n && not (has_error_request n past)) first.0 in
+    let third = and_parts (may_fail_in_part script past n) (not (has_error_request n past)) second.1 in
+    (and_parts (has_shutter n past) (not (request_fault script n) || is_stopped n past) third.0).0
+
 told-sent : (script : Script) (past : List Entry) (e : Entry) (n : ℕ) → IsLegal script past → IsAllowed script past e → tells n e ≡ true → is_sent n past ≡ true
 told-sent script past (Shutter m time) n legal may h = let sent = (exposed script past m time may).0 in rw (eqb-true m.0 n h) at sent
 told-sent script past (Partial m k part) n legal may h = let sent = shutter-sent script past m.0 legal (part-is script past m k part may).shutter in rw (eqb-true m.0 n h) at sent
@@ -44,13 +51,7 @@ told-sent script past (ErrorRequest m) n legal may h =
     let sent = (and_parts (is_sent m.0 past) _ (and_parts (is_open m.0 past) (not (has_something m.0 past)) first).0).0 in
     rw (eqb-true m.0 n h) at sent
 told-sent script past (ErrorResult m) n legal may h = let sent = shutter-sent script past m.0 legal (result-fails script past m may).shutter in rw (eqb-true m.0 n h) at sent
-told-sent script past (ErrorBuffer m s) n legal may h =
-    let part = may_fail_in_part script past m.0 && not (has_error_request m.0 past) in
-    let first = (and_parts (has_target m.0 s.0 past && part) ((not (has_error_buffer m.0 s.0 past) && not (is_returned m.0 s.0 past)) && (buffer_fault script m.0 s.0 || is_cut_short past m.0)) (passed-where (may_fail_buffer script past m.0 s.0) (ErrorBuffer (record { 0 = m.0 }) (record { 0 = s.0 })) (ErrorBuffer m s) may)).0 in
-    let second = (and_parts (may_fail_in_part script past m.0) (not (has_error_request m.0 past)) (and_parts (has_target m.0 s.0 past) part first).1).0 in
-    let shutter = (and_parts (has_shutter m.0 past) (not (request_fault script m.0) || is_stopped m.0 past) second).0 in
-    let sent = shutter-sent script past m.0 legal shutter in
-    rw (eqb-true m.0 n h) at sent
+told-sent script past (ErrorBuffer m s) n legal may h = let sent = shutter-sent script past m.0 legal (buffer_exposed script past m.0 s.0 (passed-where _ _ _ may)) in rw (eqb-true m.0 n h) at sent
 told-sent script past _ n legal may h = absurd (false≢true h)
 
 any-told-sent : (script : Script) (past : List Entry) (n : ℕ) → IsLegal script past → list_any (tells n) past ≡ true → is_sent n past ≡ true
@@ -67,9 +68,20 @@ untold script past n legal unsent = elim (cases_Bool (list_any (tells n) past)) 
   | inr none ↦ none
 ]
 
+-- what is of the frame comes behind its send
+pub sent-for : (script : Script) (past : List Entry) (n : ℕ) (p : Entry → Bool) → IsLegal script past → ((e : Entry) → p e ≡ true → tells n e ≡ true) → list_any p past ≡ true → is_sent n past ≡ true
+sent-for script past n p legal of h = any-told-sent script past n legal (any-where p (tells n) past of h)
+
 -- so each test that is of the frame passes nothing
 pub none-of : (script : Script) (past : List Entry) (n : ℕ) (p : Entry → Bool) → IsLegal script past → is_sent n past ≡ false → ((e : Entry) → p e ≡ true → tells n e ≡ true) → list_any p past ≡ false
 none-of script past n p legal unsent h = any-less (tells n) p past h (untold script past n legal unsent)
+
+pub unexposed : (script : Script) (past : List Entry) (n : ℕ) → IsLegal script past → is_sent n past ≡ false → has_shutter n past ≡ false
+unexposed script past n legal unsent = none-of script past n (is_shutter n) legal unsent shutter_tells
+  where
+    shutter_tells : (e : Entry) → is_shutter n e ≡ true → tells n e ≡ true
+    shutter_tells (Shutter m time) h = h
+    shutter_tells _ h = absurd (false≢true h)
 
 pub no-time : (n : ℕ) (past : List Entry) → list_any (tells n) past ≡ false → shutter_time n past ≡ None
 no-time n [] none = refl

@@ -2,7 +2,7 @@ use Rattle.std.specs.Prelude.{ℕ, ◌==◌, Option, Some, if◌then◌else◌}
 use Rattle.trace_model.specs.declared.entry.Entry.{Entry}
 use Rattle.trace_model.specs.declared.entry.Entry.TheVariants.{Shutter, Partial}
 
--- What an entry makes of the time of frame n's shutter, and of how many metadata results the frame has (camera3.h,
+-- What an entry makes of the time of frame n's shutter, and of how many partial results the frame has (camera3.h,
 -- camera3_shutter_msg.timestamp and camera3_capture_result.partial_result).
 
 -- the shutter's time is the frame's
@@ -11,6 +11,6 @@ note_time (Shutter m time) n old = if m.0 == n then Some time else old
 note_time _ n old = old
 
 -- the number of a part is how many there are
-abbrev pub note_parts : Entry → ℕ → ℕ → ℕ
-note_parts (Partial m k _) n old = if m.0 == n then k else old
-note_parts _ n old = old
+abbrev pub partials_after : Entry → ℕ → ℕ → ℕ
+partials_after (Partial m k _) n old = if m.0 == n then k else old
+partials_after _ n old = old

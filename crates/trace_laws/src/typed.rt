@@ -24,12 +24,7 @@ pub fn legal_traces_print(script: &Script)
 pub fn every_script_is_typed(script: &Script)
     ensures { is_typed script.now ≡ true }
 {
-    commands_are_typed(script.commands.as_slice())
-}
-
-fn commands_are_typed(commands: &[Command])
-    ensures { list_all command_typed commands.now ≡ true }
-{
+    let commands = script.commands.as_slice();
     for command in commands {
         command_is_typed(command);
     }

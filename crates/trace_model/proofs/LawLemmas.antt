@@ -9,7 +9,7 @@ use Rattle.cam_types.specs.declared.number.BufferId.{BufferId}
 use Rattle.cam_types.specs.declared.number.FenceNo.{FenceNo}
 use Rattle.cam_types.specs.declared.number.FrameNo.{FrameNo}
 use Rattle.cam_types.specs.declared.number.StreamIx.{StreamIx}
-use Rattle.cam_types.specs.declared.part.Part.{Part}
+use Rattle.cam_types.specs.declared.partial_result.PartialResult.{PartialResult}
 use Rattle.cam_types.specs.declared.script.Command.{Command}
 use Rattle.cam_types.specs.declared.script.Command.TheVariants.{Configure, Once, Burst, Repeat, Stop, Wait, Await, Flush, Close, Disconnect}
 use Rattle.cam_types.specs.declared.script.Word.{Word}
@@ -29,7 +29,7 @@ use Rattle.trace_model.specs.Configuration.{buffers_of}
 use Rattle.trace_model.specs.Faults.{request_fault, result_fault}
 use Rattle.trace_model.specs.Filled.{filled_due, filled_of, may_deliver}
 use Rattle.trace_model.specs.Open.{has_error_result, is_metadata_ended}
-use Rattle.trace_model.specs.Partial.{partial_due, part_of, part_count, may_part}
+use Rattle.trace_model.specs.Partial.{partial_due, partial_of, partial_count, may_have_partial}
 use Rattle.trace_model.specs.Fence.{fence_of, is_same_fence}
 use Rattle.trace_model.specs.Numbers.{next_number}
 use Rattle.trace_model.specs.Printable.{is_filled, is_waiting_word}
@@ -170,10 +170,10 @@ begins-waiting past (Some Flush) word h = grind arith
 begins-waiting past (Some Close) word h = grind arith
 begins-waiting past (Some Disconnect) word h = grind arith
 
-part-shape : (script : Script) (past : List Entry) (m j : ℕ) (o : Option ℕ) (n : FrameNo) (k : ℕ) (part : Part) → part_of script past m j o ≡ Some (Partial n k part) → (k ≡ j) × (j ≤ 3)
+part-shape : (script : Script) (past : List Entry) (m j : ℕ) (o : Option ℕ) (n : FrameNo) (k : ℕ) (part : PartialResult) → partial_of script past m j o ≡ Some (Partial n k part) → (k ≡ j) × (j ≤ 3)
 part-shape script past m j None n k part h = absurd (cc)
 part-shape script past m j (Some time) n k part h =
-    elim (cases_Bool (may_part script past m j)) [
+    elim (cases_Bool (may_have_partial script past m j)) [
       | inl may ↦ (
           let h' = rw may at h in
           let same : j ≡ k = cc in
@@ -187,9 +187,9 @@ part-shape script past m j (Some time) n k part h =
       | inr no' ↦ (let h' = rw no' at h in absurd (cc))
     ]
 
-pub parts-shape : (script : Script) (past : List Entry) (n : FrameNo) (k : ℕ) (part : Part) → partial_due script past n.0 ≡ Some (Partial n k part) → (0 < k) × (k ≤ 3)
+pub parts-shape : (script : Script) (past : List Entry) (n : FrameNo) (k : ℕ) (part : PartialResult) → partial_due script past n.0 ≡ Some (Partial n k part) → (0 < k) × (k ≤ 3)
 parts-shape script past n k part h =
-    let shape = part-shape script past n.0 (part_count n.0 past + 1) (shutter_time n.0 past) n k part h in
+    let shape = part-shape script past n.0 (partial_count n.0 past + 1) (shutter_time n.0 past) n k part h in
     (omega (arith, shape.0), omega (arith, shape.0, shape.1))
 
 filled-shape : (script : Script) (past : List Entry) (m t : ℕ) (o : Option Sent) (n : FrameNo) (s : StreamIx) (b : BufferId) (fence : Option FenceNo) (digest : List ℕ) → filled_of script past m t o ≡ Some (Filled n s b fence digest) → fence ≡ None

@@ -1,6 +1,7 @@
 use Rattle.std.specs.Prelude.{ℕ, ◌==◌, Bool, true, false, List, Option, Some, None, find}
 use Rattle.std.specs.List.{list_any}
 use Rattle.cam_types.specs.Four.{four_list}
+use Rattle.cam_types.specs.declared.number.DeviceFenceNo.{DeviceFenceNo}
 use Rattle.cam_types.specs.declared.number.FenceNo.{FenceNo}
 use Rattle.trace_model.specs.declared.entry.Entry.{Entry}
 use Rattle.trace_model.specs.declared.entry.Entry.TheVariants.{Send, Failed, Release, Early}
@@ -31,16 +32,16 @@ is_passed (Some f) past = is_signalled f.0 past
 abbrev pub is_late : ℕ → List Entry → Bool
 is_late d past = list_any (is_late_with d) past
 
-abbrev pub early_fence_after : Option Entry → Option FenceNo
+abbrev pub early_fence_after : Option Entry → Option DeviceFenceNo
 early_fence_after (Some (Early _ _ _ d)) = Some d
 early_fence_after _ = None
 
 -- the device fence of a buffer that went to the client early
-abbrev pub early_fence_of : ℕ → List Entry → Option FenceNo
+abbrev pub early_fence_of : ℕ → List Entry → Option DeviceFenceNo
 early_fence_of b past = early_fence_after (last_naming b past)
 
 -- there is no device fence to wait for, or it is signalled
-abbrev pub is_there : Option FenceNo → List Entry → Bool
+abbrev pub is_there : Option DeviceFenceNo → List Entry → Bool
 is_there None past = true
 is_there (Some d) past = is_late d.0 past
 

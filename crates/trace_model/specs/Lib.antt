@@ -25,3 +25,4 @@ pub mod Complete
 pub mod Printable
 pub mod Laws
 pub mod Summary
+pub mod Worked

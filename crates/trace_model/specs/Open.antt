@@ -56,6 +56,6 @@ open_count past = length (filter (λ n. is_open n past) (frames past))
 abbrev pub is_quiet : List Entry → Bool
 is_quiet past = list_all (λ n. not (is_open n past)) (frames past)
 
--- something of frame n stands: a metadata result, a buffer or an error
+-- something of frame n stands: a partial result, a buffer or an error
 abbrev pub has_something : ℕ → List Entry → Bool
 has_something n past = list_any (is_partial n) past || (list_any (returns_of_frame n) past || has_error n past)

@@ -3,13 +3,13 @@ use Rattle.std.specs.List.{list_all}
 use Rattle.cam_types.specs.Four.{four_list}
 use Rattle.cam_types.specs.declared.four.Four.{Four}
 use Rattle.cam_types.specs.declared.number.FenceNo.{FenceNo}
-use Rattle.cam_types.specs.declared.part.Part.{Part}
-use Rattle.cam_types.specs.declared.part.Part.TheVariants.{Look, Light, Time}
+use Rattle.cam_types.specs.declared.partial_result.PartialResult.{PartialResult}
+use Rattle.cam_types.specs.declared.partial_result.PartialResult.TheVariants.{Look, Light, Time}
 use Rattle.cam_types.specs.declared.reply.Made.{Made}
 use Rattle.cam_types.specs.declared.reply.Reply.{Reply}
 use Rattle.cam_types.specs.declared.reply.Reply.TheVariants.{Ok, Submitted, Configured, Refused}
 use Rattle.cam_types.specs.declared.script.Word.{Word}
-use Rattle.cam_types.specs.declared.script.Word.TheVariants.{Configure, Once, Burst, Repeat, Wait, Await, Flush, Close, Disconnect}
+use Rattle.cam_types.specs.declared.script.Word.TheVariants.{Configure, Once, Burst, Repeat, Stop}
 use Rattle.trace_model.specs.declared.entry.Entry.{Entry}
 use Rattle.trace_model.specs.declared.entry.Entry.TheVariants.{Begin, Call, Send, Dropped, Shutter, Partial, Filled, Failed, ErrorRequest, ErrorResult, ErrorBuffer, ErrorDevice, Release, Signal, Early, Late}
 use Rattle.trace_model.specs.declared.entry.Sent.{Sent}
@@ -42,13 +42,11 @@ abbrev pub made_fits : Made → Bool
 made_fits m = is_small m.first.0 && is_small m.count
 
 abbrev pub is_waiting_word : Word → Bool
-is_waiting_word Configure = true
-is_waiting_word Wait = true
-is_waiting_word Await = true
-is_waiting_word Flush = true
-is_waiting_word Close = true
-is_waiting_word Disconnect = true
-is_waiting_word _ = false
+is_waiting_word Once = false
+is_waiting_word Burst = false
+is_waiting_word Repeat = false
+is_waiting_word Stop = false
+is_waiting_word _ = true
 
 abbrev pub is_submitting_word : Word → Bool
 is_submitting_word Once = true
@@ -69,7 +67,7 @@ reply_fits word (Refused code first second) =
     is_byte code && ((number_fits first && number_fits second) && (is_some first || not (is_some second)))
 
 -- the part has a packed form, and is the one with the number
-abbrev pub part_fits : ℕ → Part → Bool
+abbrev pub part_fits : ℕ → PartialResult → Bool
 part_fits k (Look pattern level) = (k == 1) && (is_byte pattern && nat_lt level (2 ^ 31))
 part_fits k (Light exposure iso) = (k == 2) && (nat_lt exposure (2 ^ 63) && nat_lt iso (2 ^ 31))
 part_fits k (Time timestamp) = (k == 3) && nat_lt timestamp (2 ^ 63)

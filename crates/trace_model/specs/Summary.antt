@@ -13,7 +13,7 @@ abbrev pub is_drop : Entry → Bool
 is_drop (Dropped _ _ _) = true
 is_drop _ = false
 
--- the last metadata result of a frame
+-- the last partial result of a frame
 abbrev pub is_last_part : Entry → Bool
 is_last_part (Partial _ k _) = k == 3
 is_last_part _ = false

@@ -1,6 +1,9 @@
 //! The lines of a trace as values.
 
-use cam_types::{BufferId, FenceNo, Four, FrameNo, Part, Reply, RequestId, StreamIx, Word};
+use cam_types::{
+    BufferId, DeviceFenceNo, FenceNo, Four, FrameNo, PartialResult, Reply, RequestId, StreamIx,
+    Word,
+};
 
 /// A buffer that a frame is sent with: for which stream, and with which acquire fence.
 #[derive(Clone, Copy, Debug, PartialEq, Eq)]
@@ -42,11 +45,11 @@ pub enum Entry {
         frame: FrameNo,
         time: u64,
     },
-    /// A metadata result, 1 to 3.
+    /// A partial result, 1 to 3.
     Partial {
         frame: FrameNo,
         number: u8,
-        part: Part,
+        part: PartialResult,
     },
     /// A buffer comes back with its picture, whose SHA-256 is the digest.
     Filled {
@@ -92,11 +95,11 @@ pub enum Entry {
         frame: FrameNo,
         stream: StreamIx,
         buffer: BufferId,
-        fence: FenceNo,
+        fence: DeviceFenceNo,
     },
     /// The device signals a device fence: the buffer has its picture, whose SHA-256 is the digest.
     Late {
-        fence: FenceNo,
+        fence: DeviceFenceNo,
         digest: [u8; 32],
     },
 }

@@ -8,7 +8,7 @@ ghost use Rattle.cam_types.specs.declared.number.FenceNo.{FenceNo as SomeFence};
 ghost use Rattle.cam_types.specs.declared.number.FrameNo.{FrameNo as SomeFrame};
 ghost use Rattle.cam_types.specs.declared.number.RequestId.{RequestId as SomeRequest};
 ghost use Rattle.cam_types.specs.declared.number.StreamIx.{StreamIx as SomeStream};
-ghost use Rattle.cam_types.specs.declared.part.Part.{Part as SomePart};
+ghost use Rattle.cam_types.specs.declared.partial_result.PartialResult.{PartialResult as SomePart};
 ghost use Rattle.cam_types.specs.declared.reply.Reply.{Reply as SomeReply};
 ghost use Rattle.cam_types.specs.declared.script.Script.{Script as SomeScript};
 ghost use Rattle.cam_types.specs.declared.script.Word.{Word as SomeWord};

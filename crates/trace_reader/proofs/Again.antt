@@ -9,7 +9,7 @@ use Rattle.trace_model.specs.Printable.{is_printable}
 use Rattle.cam_types.specs.Profile.{is_profile_number}
 use Rattle.cam_types.specs.declared.profile.Profile.{Profile}
 use Rattle.trace_model.specs.declared.entry.Entry.{Entry}
-use Rattle.trace_model.specs.declared.entry.Entry.TheVariants.{Begin, Call, Send, Dropped, Shutter, Partial, Filled, Failed, ErrorRequest, ErrorResult, ErrorBuffer, ErrorDevice, Release, Signal, Early, Late}
+use Rattle.trace_model.specs.declared.entry.Entry.TheVariants.{Begin}
 use Rattle.text_parts.specs.Lines.{line_text}
 use Rattle.trace_text.specs.Spelling.{entry_words, line_of, first_words, first_line_fits, first_line_of, spelling}
 use Rattle.text_parts.specs.Cuts.{parts_at}
@@ -50,21 +50,7 @@ words-read w ws e h read =
 
 split-words : (e : Entry) → entry_words e ≡ first (entry_words e) ∷ behind (entry_words e)
 split-words (Begin _) = refl
-split-words (Call _ _ _) = refl
-split-words (Send _ _ _ _ _) = refl
-split-words (Dropped _ _ _) = refl
-split-words (Shutter _ _) = refl
-split-words (Partial _ _ _) = refl
-split-words (Filled _ _ _ _ _) = refl
-split-words (Failed _ _ _ _) = refl
-split-words (ErrorRequest _) = refl
-split-words (ErrorResult _) = refl
-split-words (ErrorBuffer _ _) = refl
-split-words ErrorDevice = refl
-split-words (Release _ _) = refl
-split-words (Signal _) = refl
-split-words (Early _ _ _ _) = refl
-split-words (Late _ _) = refl
+split-words _ = refl
 
 plain-words : (e : Entry) → is_printable e ≡ true → list_all is_word (first (entry_words e) ∷ behind (entry_words e)) ≡ true
 plain-words e h = rw (split-words e) at (entry-plain e h)

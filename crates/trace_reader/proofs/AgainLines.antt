@@ -7,13 +7,13 @@ use Rattle.std.proofs.lemmas.List.{length-append}
 use Rattle.std.proofs.lemmas.Fmt.{decimal_digit}
 use Rattle.cam_types.specs.Four.{four_list, four_of}
 use Rattle.cam_types.specs.declared.four.Four.{Four}
-use Rattle.cam_types.specs.declared.part.Part.{Part}
-use Rattle.cam_types.specs.declared.part.Part.TheVariants.{Look, Light, Time}
+use Rattle.cam_types.specs.declared.partial_result.PartialResult.{PartialResult}
+use Rattle.cam_types.specs.declared.partial_result.PartialResult.TheVariants.{Look, Light, Time}
 use Rattle.cam_types.specs.declared.reply.Made.{Made}
 use Rattle.cam_types.specs.declared.reply.Reply.{Reply}
 use Rattle.cam_types.specs.declared.reply.Reply.TheVariants as reply
 use Rattle.cam_types.specs.declared.script.Word.{Word}
-use Rattle.cam_types.specs.declared.script.Word.TheVariants.{Configure, Once, Burst, Repeat, Stop, Wait, Await, Flush, Close, Disconnect}
+use Rattle.cam_types.specs.declared.script.Word.TheVariants.{Configure, Once, Burst, Repeat, Wait, Await, Flush, Close, Disconnect}
 use Rattle.hex.specs.Hex.{IsBytes}
 use Rattle.metadata.specs.Reading.{list_of}
 use Rattle.metadata.specs.Spelling.{bytes_of}
@@ -126,25 +126,14 @@ ok-again Configure h = absurd (false≢true h)
 ok-again Once h = absurd (false≢true h)
 ok-again Burst h = absurd (false≢true h)
 ok-again Repeat h = absurd (false≢true h)
-ok-again Stop h = refl
-ok-again Wait h = refl
-ok-again Await h = refl
-ok-again Flush h = refl
-ok-again Close h = refl
-ok-again Disconnect h = refl
+ok-again _ h = refl
 
 submitted-again : (word : Word) (r : ℕ) → reply_fits word (reply.Submitted (record { 0 = r })) ≡ true → reply_of word (reply_words (reply.Submitted (record { 0 = r }))) ≡ Ok (reply.Submitted (record { 0 = r }))
 unfolding reply_of
 submitted-again Once r h = rw (small-again r h) refl
 submitted-again Burst r h = rw (small-again r h) refl
 submitted-again Repeat r h = rw (small-again r h) refl
-submitted-again Configure r h = absurd (false≢true h)
-submitted-again Stop r h = absurd (false≢true h)
-submitted-again Wait r h = absurd (false≢true h)
-submitted-again Await r h = absurd (false≢true h)
-submitted-again Flush r h = absurd (false≢true h)
-submitted-again Close r h = absurd (false≢true h)
-submitted-again Disconnect r h = absurd (false≢true h)
+submitted-again _ r h = absurd (false≢true h)
 
 configured-again : (word : Word) (made : Four Made) → reply_fits word (reply.Configured made) ≡ true → reply_of word (reply_words (reply.Configured made)) ≡ Ok (reply.Configured made)
 unfolding reply_of
@@ -152,14 +141,7 @@ configured-again Configure made h =
     let p = and_parts (is_filled made) (list_all made_fits (four_list made)) h in
     rw (streams-again made p.0 p.1) refl
 configured-again Once made h = absurd (false≢true h)
-configured-again Burst made h = absurd (false≢true h)
-configured-again Repeat made h = absurd (false≢true h)
-configured-again Stop made h = absurd (false≢true h)
-configured-again Wait made h = absurd (false≢true h)
-configured-again Await made h = absurd (false≢true h)
-configured-again Flush made h = absurd (false≢true h)
-configured-again Close made h = absurd (false≢true h)
-configured-again Disconnect made h = absurd (false≢true h)
+configured-again _ made h = absurd (false≢true h)
 
 pub reply-again : (word : Word) (r : Reply) → reply_fits word r ≡ true → reply_of word (reply_words r) ≡ Ok r
 reply-again word reply.Ok h = ok-again word h
@@ -177,14 +159,11 @@ begin-again Await h = rw (word-again Await) refl
 begin-again Flush h = rw (word-again Flush) refl
 begin-again Close h = rw (word-again Close) refl
 begin-again Disconnect h = rw (word-again Disconnect) refl
-begin-again Once h = absurd (false≢true h)
-begin-again Burst h = absurd (false≢true h)
-begin-again Repeat h = absurd (false≢true h)
-begin-again Stop h = absurd (false≢true h)
+begin-again _ h = absurd (false≢true h)
 
 -- ---- parts
 
-part-number-again : (k : ℕ) (part : Part) → part_fits k part ≡ true → (part_number_word (decimal k) ≡ Ok k) × (part_in k (part_entries part) ≡ Some part)
+part-number-again : (k : ℕ) (part : PartialResult) → part_fits k part ≡ true → (part_number_word (decimal k) ≡ Ok k) × (part_in k (part_entries part) ≡ Some part)
 part-number-again k (Look pattern level) h =
     let p = and_parts (eqb k 1) (is_byte pattern && ltb level (2 ^ 31)) h in
     let e : k ≡ 1 = eqb-true k 1 p.0 in
@@ -198,7 +177,7 @@ part-number-again k (Time timestamp) h =
     let e : k ≡ 3 = eqb-true k 3 p.0 in
     rw e (rw (decimal_digit 3 (omega arith)) refl, part_again (Time timestamp))
 
-part-list : (k : ℕ) (part : Part) → part_fits k part ≡ true → list_of (bytes_of (part_entries part)) ≡ Ok (part_entries part)
+part-list : (k : ℕ) (part : PartialResult) → part_fits k part ≡ true → list_of (bytes_of (part_entries part)) ≡ Ok (part_entries part)
 part-list k (Look pattern level) h =
     let p = and_parts (eqb k 1) (is_byte pattern && ltb level (2 ^ 31)) h in
     let q = and_parts (is_byte pattern) (ltb level (2 ^ 31)) p.1 in
@@ -211,10 +190,10 @@ part-list k (Time timestamp) h =
     let p = and_parts (eqb k 3) (ltb timestamp (2 ^ 63)) h in
     all_again (part_entries (Time timestamp)) (part_packed (Time timestamp)) (part_numbers (Time timestamp) tt (ltb-true timestamp (2 ^ 63) p.1))
 
-pub part-bytes : (k : ℕ) (part : Part) → part_fits k part ≡ true → IsBytes (bytes_of (part_entries part))
+pub part-bytes : (k : ℕ) (part : PartialResult) → part_fits k part ≡ true → IsBytes (bytes_of (part_entries part))
 part-bytes k part h = all-bytes (bytes_of (part_entries part)) (part-all k part h)
 
-partial-again : (n k : ℕ) (part : Part) → is_small n ≡ true → part_fits k part ≡ true → entry_with (codes "partial") (decimal n ∷ decimal k ∷ part_text part ∷ []) ≡ Ok (Partial (record { 0 = n }) k part)
+partial-again : (n k : ℕ) (part : PartialResult) → is_small n ≡ true → part_fits k part ≡ true → entry_with (codes "partial") (decimal n ∷ decimal k ∷ part_text part ∷ []) ≡ Ok (Partial (record { 0 = n }) k part)
 unfolding kind_of entry_in partial_of
 partial-again n k part h f =
     let e = part-number-again k part f in

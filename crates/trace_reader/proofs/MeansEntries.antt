@@ -7,7 +7,7 @@ use Rattle.cam_types.specs.declared.number.FrameNo.{FrameNo}
 use Rattle.cam_types.specs.declared.reply.Reply.{Reply}
 use Rattle.cam_types.specs.declared.reply.Reply.TheVariants as reply
 use Rattle.cam_types.specs.declared.script.Word.{Word}
-use Rattle.cam_types.specs.declared.script.Word.TheVariants.{Configure, Once, Burst, Repeat, Stop, Wait, Await, Flush, Close, Disconnect}
+use Rattle.cam_types.specs.declared.script.Word.TheVariants.{Configure, Once, Burst, Repeat}
 use Rattle.trace_model.specs.Printable.{is_small, is_byte, reply_fits, is_printable}
 use Rattle.trace_model.specs.declared.entry.Entry.{Entry}
 use Rattle.trace_model.specs.declared.entry.Entry.TheVariants.{Call, Send, Filled, Failed, ErrorRequest, ErrorResult, ErrorBuffer, ErrorDevice, Early}
@@ -26,9 +26,6 @@ use Rattle.trace_reader.proofs.MeansLines.{shape-ok, one-is, two-is, one-ok, two
 
 pub send-is : (ws : List (List ℕ)) (e : Entry) → send_of ws ≡ Ok e → (codes "send" ∷ ws ≡ entry_words e) × (is_printable e ≡ true)
 unfolding send_of
-send-is [] e h = absurd (cc)
-send-is (n ∷ []) e h = absurd (cc)
-send-is (n ∷ i ∷ []) e h = absurd (cc)
 send-is (n ∷ i ∷ m ∷ ws) e h =
     let s = bind-ok (both (small n) (both (item i) (both (mark m) (up_to_four (λ k. sent) ws)))) _ e h in
     let a = both-ok (small n) (both (item i) (both (mark m) (up_to_four (λ k. sent) ws))) s.0.0 s.0.1 s.1 in
@@ -41,6 +38,7 @@ send-is (n ∷ i ∷ m ∷ ws) e h =
     finish (codes "send" ∷ n ∷ i ∷ m ∷ ws) (Send (record { 0 = s.0.0 }) (record { 0 = s.0.1.0.0 }) s.0.1.0.1 s.0.1.1.0 s.0.1.1.1) e (cc)
     (ap (λ (x : List (List ℕ)). codes "send" ∷ x) (same-cons n _ (i ∷ m ∷ ws) _ wn.0 (same-cons i _ (m ∷ ws) _ wi.0 (same-cons m _ ws _ wm wt.0))))
     (and_from _ _ (and_from _ _ wn.1 (and_from _ _ wi.1 wi.2)) (and_from _ _ wt.1 wt.2))
+send-is _ e h = absurd (cc)
 
 -- ---- replies
 
@@ -48,7 +46,6 @@ done : (word : Word) (ws : List (List ℕ)) (d r : Reply) → d ≡ r → ws ≡
 done word ws d r s t p = (t ∙ ap reply_words s, sym (ap (reply_fits word) s) ∙ p)
 
 refusal-is : (word : Word) (ws : List (List ℕ)) (r : Reply) → refusal ws ≡ Ok r → (codes "refused" ∷ ws ≡ reply_words r) × (reply_fits word r ≡ true)
-refusal-is word [] r h = absurd (cc)
 refusal-is word (c ∷ []) r h =
     let s = bind-ok (byte c) _ r h in
     let wc = byte-is c s.0 s.1 in
@@ -70,7 +67,7 @@ refusal-is word (c ∷ f ∷ g ∷ []) r h =
     done word (codes "refused" ∷ c ∷ f ∷ g ∷ []) (reply.Refused s.0.0 (Some s.0.1.0) (Some s.0.1.1)) r (cc)
     (ap (λ (x : List (List ℕ)). codes "refused" ∷ x) (same-cons c _ (f ∷ g ∷ []) _ wc.0 (words-1 f (g ∷ []) g _ refl wg.0 ∙ ap (λ (x : List ℕ). x ∷ decimal s.0.1.1 ∷ []) wf.0)))
     (and_from _ _ wc.1 (and_from _ _ (and_from _ _ wf.1 wg.1) refl))
-refusal-is word (c ∷ f ∷ g ∷ i ∷ ws) r h = absurd (cc)
+refusal-is word _ r h = absurd (cc)
 
 nothing-is : {A : Type 0} (x y : A) (ws : List (List ℕ)) → nothing x ws ≡ Ok y → (ws ≡ []) × (x ≡ y)
 nothing-is x y [] h = (refl, cc)
@@ -91,12 +88,7 @@ acceptance-is Configure ws r h =
 acceptance-is Once ws r h = let s = submission-is ws r h in done Once (codes "ok" ∷ ws) _ r s.3 s.1 s.2
 acceptance-is Burst ws r h = let s = submission-is ws r h in done Burst (codes "ok" ∷ ws) _ r s.3 s.1 s.2
 acceptance-is Repeat ws r h = let s = submission-is ws r h in done Repeat (codes "ok" ∷ ws) _ r s.3 s.1 s.2
-acceptance-is Stop ws r h = let s = nothing-is reply.Ok r ws h in done Stop (codes "ok" ∷ ws) reply.Ok r s.1 (ap (λ (x : List (List ℕ)). codes "ok" ∷ x) s.0) refl
-acceptance-is Wait ws r h = let s = nothing-is reply.Ok r ws h in done Wait (codes "ok" ∷ ws) reply.Ok r s.1 (ap (λ (x : List (List ℕ)). codes "ok" ∷ x) s.0) refl
-acceptance-is Await ws r h = let s = nothing-is reply.Ok r ws h in done Await (codes "ok" ∷ ws) reply.Ok r s.1 (ap (λ (x : List (List ℕ)). codes "ok" ∷ x) s.0) refl
-acceptance-is Flush ws r h = let s = nothing-is reply.Ok r ws h in done Flush (codes "ok" ∷ ws) reply.Ok r s.1 (ap (λ (x : List (List ℕ)). codes "ok" ∷ x) s.0) refl
-acceptance-is Close ws r h = let s = nothing-is reply.Ok r ws h in done Close (codes "ok" ∷ ws) reply.Ok r s.1 (ap (λ (x : List (List ℕ)). codes "ok" ∷ x) s.0) refl
-acceptance-is Disconnect ws r h = let s = nothing-is reply.Ok r ws h in done Disconnect (codes "ok" ∷ ws) reply.Ok r s.1 (ap (λ (x : List (List ℕ)). codes "ok" ∷ x) s.0) refl
+acceptance-is e ws r h = let s = nothing-is reply.Ok r ws h in done e (codes "ok" ∷ ws) reply.Ok r s.1 (ap (λ (x : List (List ℕ)). codes "ok" ∷ x) s.0) refl
 
 first-text : (w v : List ℕ) (ws us : List (List ℕ)) → bytes_eq w v ≡ true → v ∷ ws ≡ us → w ∷ ws ≡ us
 first-text w v ws us h k = ap (λ (x : List ℕ). x ∷ ws) (text-is w v h) ∙ k
@@ -125,13 +117,11 @@ call-more index w (Some word) ws e o h =
 
 pub call-is : (ws : List (List ℕ)) (e : Entry) → call_of ws ≡ Ok e → (codes "call" ∷ ws ≡ entry_words e) × (is_printable e ≡ true)
 unfolding call_of
-call-is [] e h = absurd (cc)
-call-is (i ∷ []) e h = absurd (cc)
-call-is (i ∷ w ∷ []) e h = absurd (cc)
 call-is (i ∷ w ∷ sign ∷ ws) e h =
     let p = if-ok (bytes_eq sign (codes "=")) (call_with i (command_word w) ws) BadLine e h in
     let k = call-more i w (command_word w) ws e refl p.1 in
     (ap (λ (x : List ℕ). codes "call" ∷ i ∷ w ∷ x ∷ ws) (text-is sign (codes "=") p.0) ∙ k.0, k.1)
+call-is _ e h = absurd (cc)
 
 -- ---- buffers
 
@@ -186,10 +176,6 @@ failed-is n s b ws e h =
 
 pub buffer-is : (ws : List (List ℕ)) (e : Entry) → buffer_of ws ≡ Ok e → (codes "buffer" ∷ ws ≡ entry_words e) × (is_printable e ≡ true)
 unfolding buffer_of
-buffer-is [] e h = absurd (cc)
-buffer-is (n ∷ []) e h = absurd (cc)
-buffer-is (n ∷ s ∷ []) e h = absurd (cc)
-buffer-is (n ∷ s ∷ b ∷ []) e h = absurd (cc)
 buffer-is (n ∷ s ∷ b ∷ how ∷ ws) e h = elim (chosen (bytes_eq how (codes "ok")) (filled_behind (returned_buffer n s b) ws) (cond (bytes_eq how (codes "error")) (failed_behind (returned_buffer n s b) ws) (Err BadLine)) (Ok e) h) [
   | inl p ↦ (let k = filled-is n s b ws e p.1 in (ap (λ (x : List ℕ). codes "buffer" ∷ n ∷ s ∷ b ∷ x ∷ ws) (text-is how (codes "ok") p.0) ∙ k.0, k.1))
   | inr p ↦
@@ -197,6 +183,7 @@ buffer-is (n ∷ s ∷ b ∷ how ∷ ws) e h = elim (chosen (bytes_eq how (codes
       let k = failed-is n s b ws e q.1 in
       (ap (λ (x : List ℕ). codes "buffer" ∷ n ∷ s ∷ b ∷ x ∷ ws) (text-is how (codes "error") q.0) ∙ k.0, k.1)
 ]
+buffer-is _ e h = absurd (cc)
 
 early-behind : (n s b : List ℕ) (ws : List (List ℕ)) (e : Entry) → early_behind (returned_buffer n s b) ws ≡ Ok e → (codes "early" ∷ n ∷ s ∷ b ∷ ws ≡ entry_words e) × (is_printable e ≡ true)
 early-behind n s b ws e h =
@@ -212,10 +199,8 @@ early-behind n s b ws e h =
 
 pub early-is : (ws : List (List ℕ)) (e : Entry) → early_of ws ≡ Ok e → (codes "early" ∷ ws ≡ entry_words e) × (is_printable e ≡ true)
 unfolding early_of
-early-is [] e h = absurd (cc)
-early-is (n ∷ []) e h = absurd (cc)
-early-is (n ∷ s ∷ []) e h = absurd (cc)
 early-is (n ∷ s ∷ b ∷ ws) e h = early-behind n s b ws e h
+early-is _ e h = absurd (cc)
 
 -- ---- errors
 

@@ -3,8 +3,8 @@ use Rattle.std.proofs.Common.{◌≡◌, ℕ, ◌^◌, true, cond, eqb, List, []
 use Rattle.std.specs.Prelude.{pos}
 use Rattle.std.proofs.lemmas.Bool.{and_from, eqb-true, lt-ltb}
 use Rattle.cam_types.specs.Metadata.{pattern_tag, level_tag, exposure_tag, sensitivity_tag, timestamp_tag}
-use Rattle.cam_types.specs.declared.part.Part.{Part}
-use Rattle.cam_types.specs.declared.part.Part.TheVariants.{Look, Light, Time}
+use Rattle.cam_types.specs.declared.partial_result.PartialResult.{PartialResult}
+use Rattle.cam_types.specs.declared.partial_result.PartialResult.TheVariants.{Look, Light, Time}
 use Rattle.hex.specs.Hex.{IsBytes}
 use Rattle.metadata.specs.declared.entry.Entry.{Entry}
 use Rattle.metadata.specs.declared.values.Values.TheVariants.{Bytes, Int32, Int64}
@@ -24,13 +24,13 @@ bind-some : {A B : Type 0} (o : Option A) (f : A → Option B) (y : B) → (o >>
 bind-some (Some x) f y h = (x, refl, h)
 bind-some None f y h = absurd (cc)
 
-abbrev IsPart : ℕ → List Entry → Part → Type 0
+abbrev IsPart : ℕ → List Entry → PartialResult → Type 0
 IsPart k es part = (es ≡ part_entries part) × (part_fits k part ≡ true)
 
-moved : (k : ℕ) (es : List Entry) (p part : Part) → p ≡ part → es ≡ part_entries p → part_fits k p ≡ true → IsPart k es part
+moved : (k : ℕ) (es : List Entry) (p part : PartialResult) → p ≡ part → es ≡ part_entries p → part_fits k p ≡ true → IsPart k es part
 moved k es p part s t f = (t ∙ ap part_entries s, sym (ap (part_fits k) s) ∙ f)
 
-look-is : (es : List Entry) (part : Part) → IsPacked es → NumbersFit es → look_in es ≡ Some part → IsPart 1 es part
+look-is : (es : List Entry) (part : PartialResult) → IsPacked es → NumbersFit es → look_in es ≡ Some part → IsPart 1 es part
 look-is es part packed fit h =
     let a = bind-some (one_byte (values_at pattern_tag es)) _ part h in
     let b = bind-some (one_int32 (values_at level_tag es)) _ part a.2 in
@@ -39,7 +39,7 @@ look-is es part packed fit h =
     let n : NumbersFit (part_entries (Look a.0 b.0)) = subst NumbersFit e fit in
     moved 1 es (Look a.0 b.0) part c.1 e (and_from _ _ refl (and_from _ _ (lt-ltb a.0 (2 ^ 8) n.0.0) (lt-ltb b.0 (2 ^ 31) n.1.0.0.sfits)))
 
-light-is : (es : List Entry) (part : Part) → IsPacked es → NumbersFit es → light_in es ≡ Some part → IsPart 2 es part
+light-is : (es : List Entry) (part : PartialResult) → IsPacked es → NumbersFit es → light_in es ≡ Some part → IsPart 2 es part
 light-is es part packed fit h =
     let a = bind-some (one_int64 (values_at exposure_tag es)) _ part h in
     let b = bind-some (one_int32 (values_at sensitivity_tag es)) _ part a.2 in
@@ -48,7 +48,7 @@ light-is es part packed fit h =
     let n : NumbersFit (part_entries (Light a.0 b.0)) = subst NumbersFit e fit in
     moved 2 es (Light a.0 b.0) part c.1 e (and_from _ _ refl (and_from _ _ (lt-ltb a.0 (2 ^ 63) n.0.0.sfits) (lt-ltb b.0 (2 ^ 31) n.1.0.0.sfits)))
 
-time-is : (es : List Entry) (part : Part) → IsPacked es → NumbersFit es → time_in es ≡ Some part → IsPart 3 es part
+time-is : (es : List Entry) (part : PartialResult) → IsPacked es → NumbersFit es → time_in es ≡ Some part → IsPart 3 es part
 time-is es part packed fit h =
     let a = bind-some (one_int64 (values_at timestamp_tag es)) _ part h in
     let c = given-where (eqb (length es) 1) (Time a.0) part a.2 in
@@ -56,7 +56,7 @@ time-is es part packed fit h =
     let n : NumbersFit (part_entries (Time a.0)) = subst NumbersFit e fit in
     moved 3 es (Time a.0) part c.1 e (and_from _ _ refl (lt-ltb a.0 (2 ^ 63) n.0.0.sfits))
 
-part_in-is : (k : ℕ) (es : List Entry) (part : Part) → IsPacked es → NumbersFit es → part_in k es ≡ Some part → IsPart k es part
+part_in-is : (k : ℕ) (es : List Entry) (part : PartialResult) → IsPacked es → NumbersFit es → part_in k es ≡ Some part → IsPart k es part
 unfolding part_in
 part_in-is k es part packed fit h = elim (chosen (eqb k 1) (look_in es) (cond (eqb k 2) (light_in es) (cond (eqb k 3) (time_in es) None)) (Some part) h) [
   | inl p ↦ (let e : 1 ≡ k = sym (eqb-true k 1 p.0) in subst (λ (j : ℕ). IsPart j es part) e (look-is es part packed fit p.1))
@@ -69,16 +69,16 @@ part_in-is k es part packed fit h = elim (chosen (eqb k 1) (look_in es) (cond (e
   ]
 ]
 
-some-is : (o : Option Part) (part : Part) → metadata_is o ≡ Ok part → o ≡ Some part
+some-is : (o : Option PartialResult) (part : PartialResult) → metadata_is o ≡ Ok part → o ≡ Some part
 some-is None part h = absurd (cc)
 some-is (Some p) part h = let e : p ≡ part = cc in ap Some e
 
-from-list : (k : ℕ) (bytes : List ℕ) (r : Result (List Entry) PackedRefused) (part : Part) → IsBytes bytes → list_of bytes ≡ r → part_from k r ≡ Some part → (bytes ≡ bytes_of (part_entries part)) × (part_fits k part ≡ true)
+from-list : (k : ℕ) (bytes : List ℕ) (r : Result (List Entry) PackedRefused) (part : PartialResult) → IsBytes bytes → list_of bytes ≡ r → part_from k r ≡ Some part → (bytes ≡ bytes_of (part_entries part)) × (part_fits k part ≡ true)
 from-list k bytes (Err c) part small e h = absurd (cc)
 from-list k bytes (Ok es) part small e h =
     let t = all_takes bytes es small e in
     let p = part_in-is k es part t.1 t.2 h in
     (t.0 ∙ ap bytes_of p.0, p.1)
 
-pub metadata-means : (k : ℕ) (bytes : List ℕ) (part : Part) → IsBytes bytes → metadata k bytes ≡ Ok part → (bytes ≡ bytes_of (part_entries part)) × (part_fits k part ≡ true)
+pub metadata-means : (k : ℕ) (bytes : List ℕ) (part : PartialResult) → IsBytes bytes → metadata k bytes ≡ Ok part → (bytes ≡ bytes_of (part_entries part)) × (part_fits k part ≡ true)
 metadata-means k bytes part small h = from-list k bytes (list_of bytes) part small refl (some-is (part_from k (list_of bytes)) part h)

@@ -5,11 +5,11 @@ use Rattle.std.specs.Int.{w32, w64, bytes_low_first, byte_at, cast_unsigned}
 use Rattle.std.specs.Prelude.{pos}
 use Rattle.std.proofs.lemmas.Bool.{and_parts, and_from, lt-ltb}
 use Rattle.std.proofs.lemmas.List.Folds.{list_all-append}
-use Rattle.cam_types.specs.declared.part.Part.{Part}
-use Rattle.cam_types.specs.declared.part.Part.TheVariants.{Look, Light, Time}
+use Rattle.cam_types.specs.declared.partial_result.PartialResult.{PartialResult}
+use Rattle.cam_types.specs.declared.partial_result.PartialResult.TheVariants.{Look, Light, Time}
 use Rattle.metadata.specs.declared.entry.Entry.{Entry}
 use Rattle.metadata.specs.declared.values.Values.{Values}
-use Rattle.metadata.specs.declared.values.Values.TheVariants.{Bytes, Int32, Int64, Rational}
+use Rattle.metadata.specs.declared.values.Values.TheVariants.{Bytes, Int32, Int64}
 use Rattle.metadata.specs.Values.{type_number, type_of, count_of, payload, int32_bytes, int64_bytes}
 use Rattle.metadata.specs.Spelling.{u32_bytes, rounded, filled, is_short, data_of, field_of, entry_bytes, entries_bytes, data_area, bytes_of}
 use Rattle.metadata_rules.specs.Parts.{part_entries}
@@ -48,9 +48,7 @@ either false x y h k = k
 
 kind : (v : Values) → is_byte (type_number (type_of v)) ≡ true
 kind (Bytes _) = refl
-kind (Int32 _) = refl
-kind (Int64 _) = refl
-kind (Rational _) = refl
+kind _ = refl
 
 -- payloads that are made of bytes
 abbrev Payloads : List Entry → Type 0
@@ -91,7 +89,7 @@ int32 n = append (int32_bytes (pos n)) [] (low-first 0 4 (cast_unsigned w32 (pos
 int64 : (n : ℕ) → Bytes-alone (payload (Int64 (pos n ∷ [])))
 int64 n = append (int64_bytes (pos n)) [] (low-first 0 8 (cast_unsigned w64 (pos n))) refl
 
-pub part-all : (k : ℕ) (part : Part) → part_fits k part ≡ true → list_all is_byte (bytes_of (part_entries part)) ≡ true
+pub part-all : (k : ℕ) (part : PartialResult) → part_fits k part ≡ true → list_all is_byte (bytes_of (part_entries part)) ≡ true
 part-all k (Look pattern level) h =
     let p = and_parts (eqb k 1) (is_byte pattern && ltb level (2 ^ 31)) h in
     let q = and_parts (is_byte pattern) (ltb level (2 ^ 31)) p.1 in
@@ -99,6 +97,6 @@ part-all k (Look pattern level) h =
 part-all k (Light exposure iso) h = packed (part_entries (Light exposure iso)) (int64 exposure, (int32 iso, tt))
 part-all k (Time timestamp) h = packed (part_entries (Time timestamp)) (int64 timestamp, tt)
 
-pub part-some : (part : Part) → 0 < length (bytes_of (part_entries part))
+pub part-some : (part : PartialResult) → 0 < length (bytes_of (part_entries part))
 unfolding bytes_of
 part-some part = omega arith

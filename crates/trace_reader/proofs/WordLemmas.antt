@@ -11,13 +11,13 @@ use Rattle.cam_types.specs.declared.four.Four.{Four}
 use Rattle.cam_types.specs.declared.number.FenceNo.{FenceNo}
 use Rattle.cam_types.specs.Profile.{is_profile_number}
 use Rattle.cam_types.specs.declared.profile.Profile.{Profile}
-use Rattle.cam_types.specs.declared.part.Part.{Part}
-use Rattle.cam_types.specs.declared.part.Part.TheVariants.{Look, Light, Time}
+use Rattle.cam_types.specs.declared.partial_result.PartialResult.{PartialResult}
+use Rattle.cam_types.specs.declared.partial_result.PartialResult.TheVariants.{Look, Light, Time}
 use Rattle.cam_types.specs.declared.reply.Made.{Made}
 use Rattle.cam_types.specs.declared.reply.Reply.{Reply}
 use Rattle.cam_types.specs.declared.reply.Reply.TheVariants as reply
 use Rattle.cam_types.specs.declared.script.Word.{Word}
-use Rattle.cam_types.specs.declared.script.Word.TheVariants.{Configure, Once, Burst, Repeat, Stop, Wait, Await, Flush, Close, Disconnect}
+use Rattle.cam_types.specs.declared.script.Word.TheVariants.{Configure, Once, Burst, Repeat}
 use Rattle.hex.specs.Hex.{IsBytes, encode_lower, lower_digits}
 use Rattle.hex.proofs.HexLemmas.{length-encode_with}
 use Rattle.metadata.specs.Spelling.{bytes_of}
@@ -98,27 +98,14 @@ configured-words Configure made h =
     let p = and_parts (is_filled made) (list_all made_fits (four_list made)) h in
     mades-are-words 0 (four_list made) (four-few made) p.1
 configured-words Once made h = absurd (false≢true h)
-configured-words Burst made h = absurd (false≢true h)
-configured-words Repeat made h = absurd (false≢true h)
-configured-words Stop made h = absurd (false≢true h)
-configured-words Wait made h = absurd (false≢true h)
-configured-words Await made h = absurd (false≢true h)
-configured-words Flush made h = absurd (false≢true h)
-configured-words Close made h = absurd (false≢true h)
-configured-words Disconnect made h = absurd (false≢true h)
+configured-words _ made h = absurd (false≢true h)
 
 -- only commands that submit have a request
 submitted-small : (word : Word) (r : ℕ) → reply_fits word (reply.Submitted (record { 0 = r })) ≡ true → is_small r ≡ true
 submitted-small Once r h = h
 submitted-small Burst r h = h
 submitted-small Repeat r h = h
-submitted-small Configure r h = absurd (false≢true h)
-submitted-small Stop r h = absurd (false≢true h)
-submitted-small Wait r h = absurd (false≢true h)
-submitted-small Await r h = absurd (false≢true h)
-submitted-small Flush r h = absurd (false≢true h)
-submitted-small Close r h = absurd (false≢true h)
-submitted-small Disconnect r h = absurd (false≢true h)
+submitted-small _ r h = absurd (false≢true h)
 
 reply-are-words : (word : Word) (r : Reply) → reply_fits word r ≡ true → list_all is_word (reply_words r) ≡ true
 reply-are-words word reply.Ok h = refl
@@ -143,7 +130,7 @@ digest-word d h =
     let long = eqb-true (length d) 32 p.0 in
     hex-word d (all-bytes d p.1) (omega arith)
 
-part-number-word : (k : ℕ) (part : Part) → part_fits k part ≡ true → is_word (decimal k) ≡ true
+part-number-word : (k : ℕ) (part : PartialResult) → part_fits k part ≡ true → is_word (decimal k) ≡ true
 part-number-word k (Look pattern level) h = let e = eqb-true k 1 (and_parts (eqb k 1) (is_byte pattern && ltb level (2 ^ 31)) h).0 in number-word k (omega arith)
 part-number-word k (Light exposure iso) h = let e = eqb-true k 2 (and_parts (eqb k 2) (ltb exposure (2 ^ 63) && ltb iso (2 ^ 31)) h).0 in number-word k (omega arith)
 part-number-word k (Time timestamp) h = let e = eqb-true k 3 (and_parts (eqb k 3) (ltb timestamp (2 ^ 63)) h).0 in number-word k (omega arith)

@@ -4,7 +4,7 @@ use Rattle.std.specs.List.{list_all}
 use Rattle.cam_types.specs.declared.four.Four.{Four}
 use Rattle.cam_types.specs.declared.number.FenceNo.{FenceNo}
 use Rattle.cam_types.specs.declared.number.FrameNo.{FrameNo}
-use Rattle.cam_types.specs.declared.part.Part.{Part}
+use Rattle.cam_types.specs.declared.partial_result.PartialResult.{PartialResult}
 use Rattle.cam_types.specs.declared.profile.Profile.{Profile}
 use Rattle.cam_types.specs.declared.reply.Reply.{Reply}
 use Rattle.cam_types.specs.declared.reply.Reply.TheVariants as reply
@@ -120,16 +120,16 @@ abbrev pub shutter_of : List (List ℕ) → Result Entry Cause
 shutter_of words = two small large words >>= λ p. Ok (Shutter (record { 0 = p.0 }) p.1)
 
 -- part k of bytes
-abbrev pub part_from : ℕ → Result (List MetaEntry) PackedRefused → Option Part
+abbrev pub part_from : ℕ → Result (List MetaEntry) PackedRefused → Option PartialResult
 part_from k (Ok entries) = part_in k entries
 part_from k (Err e) = None
 
-abbrev pub metadata_is : Option Part → Result Part Cause
+abbrev pub metadata_is : Option PartialResult → Result PartialResult Cause
 metadata_is None = Err BadMetadata
 metadata_is (Some part) = Ok part
 
 -- the part with the number that bytes are the packed form of
-abbrev pub metadata : ℕ → List ℕ → Result Part Cause
+abbrev pub metadata : ℕ → List ℕ → Result PartialResult Cause
 metadata k bytes = metadata_is (part_from k (list_of bytes))
 
 -- `N K HEX`: each of the three has the cause BadNumber alone

@@ -8,7 +8,7 @@ ghost use Rattle.trace_reader.specs.Lines.{up_to_four, nothing, submission, next
 
 use crate::cause::Cause;
 use crate::number::{byte, small};
-use crate::word::{both, made, request};
+use crate::word::{both, made, numbered};
 use cam_types::{Four, Made, Reply, RequestId, Word};
 use text_parts::{command_word, next_strict_word, one_strict_word};
 use trace_model::Entry;
@@ -111,7 +111,7 @@ fn submitted(rest: &[u8]) -> Result<Reply, Cause>
     ensures { result ≡ submission (strict_words_behind rest.now) }
 {
     let word = one_strict_word(rest).ok_or(Cause::BadLine)?;
-    Ok(Reply::Submitted(RequestId(request(word)?)))
+    Ok(Reply::Submitted(RequestId(numbered(b'r', word)?)))
 }
 
 /// What stands behind the `ok` of a command.

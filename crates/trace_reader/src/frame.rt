@@ -8,8 +8,8 @@ ghost use Rattle.trace_reader.specs.Lines.{up_to_four, nothing, next_value, rest
 use crate::cause::Cause;
 use crate::digest::digest;
 use crate::number::{byte, large, small};
-use crate::word::{both, buffer, device_fence, fence, fence_number, item, mark, sent};
-use cam_types::{BufferId, FenceNo, Four, FrameNo, RequestId, StreamIx};
+use crate::word::{both, fence, item, mark, numbered, sent};
+use cam_types::{BufferId, DeviceFenceNo, FenceNo, Four, FrameNo, RequestId, StreamIx};
 use text_parts::{next_strict_word, one_strict_word, two_strict_words};
 use trace_model::{Entry, Sent};
 
@@ -102,7 +102,7 @@ fn no_fence(word: &[u8]) -> Result<Option<FenceNo>, Cause>
 fn returned_buffer(frame: &[u8], stream: &[u8], name: &[u8]) -> Result<(u32, u8, u32), Cause>
     ensures { result ≡ returned_buffer frame.now stream.now name.now }
 {
-    let (frame, (stream, buffer)) = both(small(frame), both(byte(stream), buffer(name)))?;
+    let (frame, (stream, buffer)) = both(small(frame), both(byte(stream), numbered(b'b', name)))?;
     Ok((frame, stream, buffer))
 }
 
@@ -211,7 +211,7 @@ pub fn release_of(rest: &[u8]) -> Result<Entry, Cause>
     ensures { result ≡ release_of (strict_words_behind rest.now) }
 {
     let (name, fence) = two_strict_words(rest).ok_or(Cause::BadLine)?;
-    let (buffer, fence) = both(buffer(name), fence_number(fence))?;
+    let (buffer, fence) = both(numbered(b'b', name), numbered(b'f', fence))?;
     Ok(Entry::Release {
         buffer: BufferId(buffer),
         fence: FenceNo(fence),
@@ -223,7 +223,7 @@ pub fn signal_of(rest: &[u8]) -> Result<Entry, Cause>
     ensures { result ≡ signal_of (strict_words_behind rest.now) }
 {
     let word = one_strict_word(rest).ok_or(Cause::BadLine)?;
-    let fence = FenceNo(fence_number(word)?);
+    let fence = FenceNo(numbered(b'f', word)?);
     Ok(Entry::Signal { fence })
 }
 
@@ -232,12 +232,12 @@ fn early_behind(place: Result<(u32, u8, u32), Cause>, rest: &[u8]) -> Result<Ent
     ensures { result ≡ early_behind place (strict_words_behind rest.now) }
 {
     let word = one_strict_word(rest).ok_or(Cause::BadLine)?;
-    let ((frame, stream, buffer), fence) = both(place, device_fence(word))?;
+    let ((frame, stream, buffer), fence) = both(place, numbered(b'd', word))?;
     Ok(Entry::Early {
         frame: FrameNo(frame),
         stream: StreamIx(stream),
         buffer: BufferId(buffer),
-        fence: FenceNo(fence),
+        fence: DeviceFenceNo(fence),
     })
 }
 
@@ -257,9 +257,9 @@ pub fn late_of(rest: &[u8]) -> Result<Entry, Cause>
     ensures { result ≡ late_of (strict_words_behind rest.now) }
 {
     let (fence, hex) = two_strict_words(rest).ok_or(Cause::BadLine)?;
-    let (fence, digest) = both(device_fence(fence), digest(hex))?;
+    let (fence, digest) = both(numbered(b'd', fence), digest(hex))?;
     Ok(Entry::Late {
-        fence: FenceNo(fence),
+        fence: DeviceFenceNo(fence),
         digest,
     })
 }

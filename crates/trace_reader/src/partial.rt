@@ -1,4 +1,4 @@
-//! The lines of metadata results.
+//! The lines of partial results.
 
 ghost use Rattle.std.specs.Prelude.{◌≡◌};
 ghost use Rattle.text_parts.specs.Words.{strict_words_behind};
@@ -9,7 +9,7 @@ use crate::cause::{Cause, LineRefused};
 use crate::digest::hex_bytes;
 use crate::number::small;
 use crate::word::part_number;
-use cam_types::{FrameNo, Part};
+use cam_types::{FrameNo, PartialResult};
 use metadata::{Packed, PackedRefused};
 use metadata_rules::part_of;
 use std::alloc::Global;
@@ -17,7 +17,7 @@ use text_parts::three_strict_words;
 use trace_model::Entry;
 
 /// The part with the number that bytes are the packed form of.
-fn metadata(alloc: Global, number: u8, bytes: &[u8]) -> Result<Part, LineRefused>
+fn metadata(alloc: Global, number: u8, bytes: &[u8]) -> Result<PartialResult, LineRefused>
     ensures { Gives result (metadata number bytes.now) }
 {
     match Packed::read(alloc, bytes) {
@@ -27,7 +27,7 @@ fn metadata(alloc: Global, number: u8, bytes: &[u8]) -> Result<Part, LineRefused
     }
 }
 
-/// `N K HEX` of a metadata result.
+/// `N K HEX` of a partial result.
 #[tactic(auto, unfolding(crate::specs::Lines::partial_of))]
 pub fn partial_of(alloc: Global, rest: &[u8]) -> Result<Entry, LineRefused>
     ensures { Gives result (partial_of (strict_words_behind rest.now)) }

@@ -1,7 +1,7 @@
 //! What the words of a line stand for.
 
 ghost use Rattle.std.specs.Prelude.{◌≡◌, ◌<◌};
-ghost use Rattle.trace_reader.specs.Values.{both, numbered, buffer, fence_number, device_fence, request, fence, item, fenced_buffer, sent, stream_number, buffers, made, mark, part_number};
+ghost use Rattle.trace_reader.specs.Values.{both, numbered, fence, item, fenced_buffer, sent, stream_number, buffers, made, mark, part_number};
 
 use crate::cause::Cause;
 use crate::number::{byte, small};
@@ -24,8 +24,8 @@ pub fn both<A: Drop, B: Drop>(
     }
 }
 
-/// A number behind a letter.
-fn numbered(letter: u8, word: &[u8]) -> Result<u32, Cause>
+/// A number behind a letter: `b` of a buffer, `f` of a fence, `d` of one that the device signals, `r` of a request.
+pub fn numbered(letter: u8, word: &[u8]) -> Result<u32, Cause>
     ensures { result ≡ numbered letter word.now }
 {
     match word {
@@ -34,41 +34,13 @@ fn numbered(letter: u8, word: &[u8]) -> Result<u32, Cause>
     }
 }
 
-/// The number of a buffer.
-pub fn buffer(word: &[u8]) -> Result<u32, Cause>
-    ensures { result ≡ buffer word.now }
-{
-    numbered(b'b', word)
-}
-
-/// The number of a fence.
-pub fn fence_number(word: &[u8]) -> Result<u32, Cause>
-    ensures { result ≡ fence_number word.now }
-{
-    numbered(b'f', word)
-}
-
-/// The number of a fence that the device signals.
-pub fn device_fence(word: &[u8]) -> Result<u32, Cause>
-    ensures { result ≡ device_fence word.now }
-{
-    numbered(b'd', word)
-}
-
-/// The number of a request.
-pub fn request(word: &[u8]) -> Result<u32, Cause>
-    ensures { result ≡ request word.now }
-{
-    numbered(b'r', word)
-}
-
 /// A fence, or `-` where there is none.
 pub fn fence(word: &[u8]) -> Result<Option<FenceNo>, Cause>
     ensures { result ≡ fence word.now }
 {
     match word {
         b"-" => Ok(None),
-        _ => Ok(Some(FenceNo(fence_number(word)?))),
+        _ => Ok(Some(FenceNo(numbered(b'f', word)?))),
     }
 }
 
@@ -77,7 +49,7 @@ pub fn item(word: &[u8]) -> Result<(u32, u32), Cause>
     ensures { result ≡ item word.now }
 {
     match split_at_byte(word, b'.') {
-        Some((front, back)) => both(request(front), small(back)),
+        Some((front, back)) => both(numbered(b'r', front), small(back)),
         None => Err(Cause::BadLine),
     }
 }
@@ -87,7 +59,7 @@ fn fenced_buffer(word: &[u8]) -> Result<(u32, Option<FenceNo>), Cause>
     ensures { result ≡ fenced_buffer word.now }
 {
     match split_at_byte(word, b':') {
-        Some((front, back)) => both(buffer(front), fence(back)),
+        Some((front, back)) => both(numbered(b'b', front), fence(back)),
         None => Err(Cause::BadLine),
     }
 }
@@ -128,7 +100,7 @@ fn buffers(word: &[u8]) -> Result<(u32, u32), Cause>
     ensures { result ≡ buffers word.now }
 {
     match split_at_byte(word, b'+') {
-        Some((front, back)) => both(buffer(front), small(back)),
+        Some((front, back)) => both(numbered(b'b', front), small(back)),
         None => Err(Cause::BadLine),
     }
 }

@@ -5,7 +5,7 @@ use Rattle.text_parts.specs.CommandWords.{word_text}
 use Rattle.cam_types.specs.Four.{four_list}
 use Rattle.cam_types.specs.Profile.{is_profile}
 use Rattle.cam_types.specs.declared.number.FenceNo.{FenceNo}
-use Rattle.cam_types.specs.declared.part.Part.{Part}
+use Rattle.cam_types.specs.declared.partial_result.PartialResult.{PartialResult}
 use Rattle.cam_types.specs.declared.profile.Profile.{Profile}
 use Rattle.cam_types.specs.declared.reply.Made.{Made}
 use Rattle.cam_types.specs.declared.reply.Reply.{Reply}
@@ -76,7 +76,7 @@ reply_words (Refused code first second) =
     codes "refused" ∷ decimal code ∷ map decimal (option_to_list first ++ option_to_list second)
 
 -- the packed metadata of a part, two digits for each byte
-abbrev pub part_text : Part → List ℕ
+abbrev pub part_text : PartialResult → List ℕ
 part_text part = encode_lower (bytes_of (part_entries part))
 
 -- ` N S bB`

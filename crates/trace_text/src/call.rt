@@ -6,7 +6,7 @@ ghost use Rattle.trace_model.specs.Printable.{is_filled, reply_fits};
 ghost use Rattle.text_parts.specs.Lines.{line_text};
 ghost use Rattle.trace_text.specs.Spelling.{behind_spaces, made_words, reply_words, entry_words};
 
-use crate::word::{put_buffer, put_request, put_word};
+use crate::word::{put_numbered, put_word};
 use cam_types::{Four, Made, Reply, Word};
 use io_edge::{ROOM, Room};
 use trace_model::Entry;
@@ -21,7 +21,7 @@ fn put_made(room: &mut Room, stream: u8, made: Option<Made>)
         room.put(b" ");
         room.put_small(u32::from(stream));
         room.put(b":");
-        put_buffer(room, made.first);
+        put_numbered(room, b'b', made.first.0);
         room.put(b"+");
         room.put_small(made.count);
     }
@@ -75,7 +75,7 @@ fn put_reply(room: &mut Room, word: Word, reply: Reply)
         Reply::Ok => room.put(b" ok"),
         Reply::Submitted(request) => {
             room.put(b" ok ");
-            put_request(room, request);
+            put_numbered(room, b'r', request.0);
         }
         Reply::Configured(made) => {
             room.put(b" ok");

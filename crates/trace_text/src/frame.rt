@@ -6,8 +6,10 @@ ghost use Rattle.metadata_rules.specs.Parts.{PartFits};
 ghost use Rattle.text_parts.specs.Lines.{line_text};
 ghost use Rattle.trace_text.specs.Spelling.{behind_spaces, sent_text, part_text, mark_text, place_text, entry_words};
 
-use crate::word::{put_buffer, put_device_fence, put_fence, put_fence_number, put_item};
-use cam_types::{BufferId, FenceNo, Four, FrameNo, Part, RequestId, StreamIx};
+use crate::word::{put_fence, put_item, put_numbered};
+use cam_types::{
+    BufferId, DeviceFenceNo, FenceNo, Four, FrameNo, PartialResult, RequestId, StreamIx,
+};
 use io_edge::{ROOM, Room};
 use metadata_rules::part_bytes;
 use trace_model::{Entry, Sent};
@@ -22,7 +24,7 @@ fn put_sent(room: &mut Room, sent: Option<Sent>)
         room.put(b" ");
         room.put_small(u32::from(sent.stream.0));
         room.put(b":");
-        put_buffer(room, sent.buffer);
+        put_numbered(room, b'b', sent.buffer.0);
         room.put(b":");
         put_fence(room, sent.fence);
     }
@@ -99,7 +101,7 @@ pub fn put_shutter(room: &mut Room, frame: FrameNo, time: u64)
 }
 
 /// Writes the packed metadata of a part.
-fn put_part(room: &mut Room, part: Part)
+fn put_part(room: &mut Room, part: PartialResult)
     requires fits { PartFits part }
     requires room { length room.old + 112 ≤ ROOM }
     ensures text { room.new ≡ room.old ++ part_text part }
@@ -109,8 +111,8 @@ fn put_part(room: &mut Room, part: Part)
     room.put_hex(&packed.bytes[..packed.used as usize]);
 }
 
-/// Writes the line of a metadata result.
-pub fn put_partial(room: &mut Room, frame: FrameNo, number: u8, part: Part)
+/// Writes the line of a partial result.
+pub fn put_partial(room: &mut Room, frame: FrameNo, number: u8, part: PartialResult)
     requires fits { PartFits part }
     requires room { length room.old + 200 ≤ ROOM }
     ensures { room.new ≡ room.old ++ line_text (entry_words (Entry.Partial frame number part)) }
@@ -135,7 +137,7 @@ fn put_place(room: &mut Room, frame: FrameNo, stream: StreamIx, buffer: BufferId
     room.put(b" ");
     room.put_small(u32::from(stream.0));
     room.put(b" ");
-    put_buffer(room, buffer);
+    put_numbered(room, b'b', buffer.0);
 }
 
 /// Writes the line of a buffer that comes back with its picture.
@@ -213,9 +215,9 @@ pub fn put_release(room: &mut Room, buffer: BufferId, fence: FenceNo)
     ensures { room.new ≡ room.old ++ line_text (entry_words (Entry.Release buffer fence)) }
 {
     room.put(b"release ");
-    put_buffer(room, buffer);
+    put_numbered(room, b'b', buffer.0);
     room.put(b" ");
-    put_fence_number(room, fence);
+    put_numbered(room, b'f', fence.0);
     room.put(b"\n");
 }
 
@@ -225,7 +227,7 @@ pub fn put_signal(room: &mut Room, fence: FenceNo)
     ensures { room.new ≡ room.old ++ line_text (entry_words (Entry.Signal fence)) }
 {
     room.put(b"signal ");
-    put_fence_number(room, fence);
+    put_numbered(room, b'f', fence.0);
     room.put(b"\n");
 }
 
@@ -235,7 +237,7 @@ pub fn put_early(
     frame: FrameNo,
     stream: StreamIx,
     buffer: BufferId,
-    fence: FenceNo,
+    fence: DeviceFenceNo,
 )
     requires { length room.old + 100 ≤ ROOM }
     ensures { room.new ≡ room.old ++ line_text (entry_words (Entry.Early frame stream buffer fence)) }
@@ -243,17 +245,17 @@ pub fn put_early(
     room.put(b"early");
     put_place(room, frame, stream, buffer);
     room.put(b" ");
-    put_device_fence(room, fence);
+    put_numbered(room, b'd', fence.0);
     room.put(b"\n");
 }
 
 /// Writes the line of a picture that is filled after its buffer came back.
-pub fn put_late(room: &mut Room, fence: FenceNo, digest: [u8; 32])
+pub fn put_late(room: &mut Room, fence: DeviceFenceNo, digest: [u8; 32])
     requires { length room.old + 150 ≤ ROOM }
     ensures { room.new ≡ room.old ++ line_text (entry_words (Entry.Late fence digest)) }
 {
     room.put(b"filled ");
-    put_device_fence(room, fence);
+    put_numbered(room, b'd', fence.0);
     room.put(b" ");
     room.put_hex(&digest);
     room.put(b"\n");

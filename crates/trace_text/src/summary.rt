@@ -8,7 +8,7 @@ ghost use Rattle.trace_text.specs.Summary.{is_of, summary_line};
 use io_edge::{ROOM, Room};
 use trace_model::Entry;
 
-/// The number of the last metadata result of a frame.
+/// The number of the last partial result of a frame.
 const LAST_PART: u8 = 3;
 
 fn is_call(entry: &Entry) -> bool

@@ -1,10 +1,10 @@
 //! Words of a line.
 
-ghost use Rattle.std.specs.Prelude.{◌≡◌, ◌≤◌, ◌+◌, ◌++◌, length};
-ghost use Rattle.trace_text.specs.Spelling.{buffer_text, fence_number, device_fence, fence_text, request_text, item_text};
+ghost use Rattle.std.specs.Prelude.{◌≡◌, ◌≤◌, ◌+◌, ◌++◌, ◌∷◌, length, decimal};
+ghost use Rattle.trace_text.specs.Spelling.{fence_text, item_text};
 ghost use Rattle.text_parts.specs.CommandWords.{word_text};
 
-use cam_types::{BufferId, FenceNo, RequestId, Word};
+use cam_types::{FenceNo, RequestId, Word};
 use io_edge::{ROOM, Room};
 use text_parts::word_text;
 
@@ -17,34 +17,14 @@ pub fn put_word(room: &mut Room, word: Word)
     room.put(word_text(word).as_bytes());
 }
 
-/// Writes a buffer.
-pub fn put_buffer(room: &mut Room, buffer: BufferId)
+/// Writes a number behind a letter: `b` of a buffer, `f` of a fence, `d` of one that the device signals, `r` of a request.
+pub fn put_numbered(room: &mut Room, letter: u8, number: u32)
     requires { length room.old + 11 ≤ ROOM }
-    ensures text { room.new ≡ room.old ++ buffer_text buffer.0 }
+    ensures text { room.new ≡ room.old ++ letter ∷ decimal number }
     ensures len { length room.new ≤ length room.old + 11 }
 {
-    room.put(b"b");
-    room.put_small(buffer.0);
-}
-
-/// Writes a fence.
-pub fn put_fence_number(room: &mut Room, fence: FenceNo)
-    requires { length room.old + 11 ≤ ROOM }
-    ensures text { room.new ≡ room.old ++ fence_number fence.0 }
-    ensures len { length room.new ≤ length room.old + 11 }
-{
-    room.put(b"f");
-    room.put_small(fence.0);
-}
-
-/// Writes a fence that the device signals.
-pub fn put_device_fence(room: &mut Room, fence: FenceNo)
-    requires { length room.old + 11 ≤ ROOM }
-    ensures text { room.new ≡ room.old ++ device_fence fence.0 }
-    ensures len { length room.new ≤ length room.old + 11 }
-{
-    room.put(b"d");
-    room.put_small(fence.0);
+    room.put(&[letter]);
+    room.put_small(number);
 }
 
 /// Writes a fence, or `-` where there is none.
@@ -55,18 +35,8 @@ pub fn put_fence(room: &mut Room, fence: Option<FenceNo>)
 {
     match fence {
         None => room.put(b"-"),
-        Some(fence) => put_fence_number(room, fence),
+        Some(fence) => put_numbered(room, b'f', fence.0),
     }
-}
-
-/// Writes a request.
-pub fn put_request(room: &mut Room, request: RequestId)
-    requires { length room.old + 11 ≤ ROOM }
-    ensures text { room.new ≡ room.old ++ request_text request.0 }
-    ensures len { length room.new ≤ length room.old + 11 }
-{
-    room.put(b"r");
-    room.put_small(request.0);
 }
 
 /// Writes an item of a request.
@@ -75,7 +45,7 @@ pub fn put_item(room: &mut Room, request: RequestId, item: u32)
     ensures text { room.new ≡ room.old ++ item_text request.0 item }
     ensures len { length room.new ≤ length room.old + 22 }
 {
-    put_request(room, request);
+    put_numbered(room, b'r', request.0);
     room.put(b".");
     room.put_small(item);
 }

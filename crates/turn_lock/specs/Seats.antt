@@ -1,5 +1,5 @@
 -- What a clause reads of a turnstile and of a seat.
-use Rattle.std.specs.Prelude.{◌≡◌, ℕ, Bool, List, [], ◌∷◌, Option, Some, None, if◌then◌else◌}
+use Rattle.std.specs.Prelude.{◌≡◌, ℕ, Bool, List, [], ◌∷◌, Option, Some, None, MatchBool, if◌then◌else◌}
 use Rattle.turn_lock.specs.declared.seat.Seat.{Seat}
 use Rattle.turn_lock.specs.declared.turnstile.Turnstile.{Turnstile}
 use Rattle.turn_lock.specs.declared.view.View.{View}
@@ -39,3 +39,7 @@ module _ {S F E J : Type 0} where
     abbrev pub HasTurn : Turnstile S F E J → View F E J → Seat S F E J → Type 0
     HasTurn turnstile v seat =
         (value : S) × Carries seat value × Enters fixed entries jobs (fixed_of fixed turnstile) v value (view seat)
+
+    -- where the turn was free the seat, has taken it, and else nothing of the seat changed
+    abbrev pub TakesIfFree : Turnstile S F E J → Bool → Seat S F E J → Seat S F E J → Type 0
+    TakesIfFree turnstile free old new = MatchBool free (HasTurn turnstile (view old) new) (new.place.me ≡ old.place.me)

@@ -2,7 +2,7 @@
 use Rattle.std.specs.Prelude.{◌≡◌, ℕ, ◌+◌, true, false, List, [], ◌∷◌, ◌++◌, length, IsPermutation, Contains}
 use mathlib.Core.List.{IsPrefix}
 use Rattle.turn_lock.specs.declared.view.View.{View}
-use Rattle.turn_lock.specs.Views.{without, longer}
+use Rattle.turn_lock.specs.Views.{idle_view, without, longer}
 use Rattle.turn_lock.specs.Rule.{NoneTwice}
 
 module _ {F E J : Type 0} where
@@ -12,18 +12,7 @@ module _ {F E J : Type 0} where
 
   -- and the view of the new seat
   abbrev pub split_off : View F E J → View F E J
-  split_off v =
-      record {
-        fixed = v.fixed;
-        number = v.made;
-        seen = v.seen;
-        jobs = [];
-        holds = false;
-        rest = [];
-        others = [];
-        made = 0;
-        told = [];
-      }
+  split_off v = idle_view v.fixed v.made v.seen 0
 
   -- the root has taken in the seat with the view u, and has then seen all that both had
   pub record Joins (v u w : View F E J) : Type 0 where

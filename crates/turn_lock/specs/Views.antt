@@ -1,38 +1,31 @@
 -- What the views of a turnstile's seats say together.
-use Rattle.std.specs.Prelude.{ℕ, zero, suc, ◌<◌, ◌==◌, Bool, false, List, [], ◌∷◌, ◌++◌, length, if◌then◌else◌, Some, None, is_some, nat_lt, count_by}
+use Rattle.std.specs.Prelude.{ℕ, zero, suc, ◌<◌, ◌==◌, Bool, false, List, [], ◌∷◌, ◌++◌, length, Option, if◌then◌else◌, Some, None, is_some, nat_lt, count_by}
 use Rattle.std.specs.List.{list_any, flat_map}
 use Rattle.turn_lock.specs.declared.view.View.{View}
 
 module _ {F E J : Type 0} where
-  -- the view of the first seat, at a value with this fixed part and these entries
-  abbrev pub root_view : F → List E → View F E J
-  root_view start seen =
+  -- the view of a seat with this number that has seen this history, made so many seats, and has no turn and no job
+  abbrev pub idle_view : Option F → ℕ → List E → ℕ → View F E J
+  idle_view fixed number seen made =
       record {
-        fixed = Some start;
-        number = 0;
+        fixed = fixed;
+        number = number;
         seen = seen;
         jobs = [];
         holds = false;
         rest = [];
         others = [];
-        made = 1;
+        made = made;
         told = [];
       }
 
+  -- the view of the first seat, at a value with this fixed part and these entries
+  abbrev pub root_view : F → List E → View F E J
+  root_view start seen = idle_view (Some start) 0 seen 1
+
   -- the view that a join leaves to the seat that it takes in
   abbrev pub spent : View F E J
-  spent =
-      record {
-        fixed = None;
-        number = 0;
-        seen = [];
-        jobs = [];
-        holds = false;
-        rest = [];
-        others = [];
-        made = 0;
-        told = [];
-      }
+  spent = idle_view None 0 [] 0
 
   abbrev pub is_live : View F E J → Bool
   is_live v = is_some v.fixed

@@ -68,7 +68,7 @@ const NO_FAULT: RowFaults = RowFaults {
     device: false,
 };
 
-/// When the frame had its shutter, its metadata results, and its two targets: whether it is announced that the buffer
+/// When the frame had its shutter, its partial results, and its two targets: whether it is announced that the buffer
 /// failed, and how far it is. Then what the flush makes of the frame.
 type Stage = (
     Option<u64>,

@@ -3,13 +3,6 @@ use cam_types::{Format, FrameNo, Settings, StreamSpec};
 use digest_memory::{PictureDigests, REMEMBERED_LIMIT};
 use std::test::Fail;
 
-const RAW: StreamSpec = StreamSpec {
-    input: false,
-    format: Format::Raw16,
-    width: 160,
-    height: 120,
-};
-
 const YUV: StreamSpec = StreamSpec {
     input: false,
     format: Format::Yuv,
@@ -18,10 +11,14 @@ const YUV: StreamSpec = StreamSpec {
 };
 
 const LARGE_YUV: StreamSpec = StreamSpec {
-    input: false,
-    format: Format::Yuv,
     width: 160,
     height: 120,
+    ..YUV
+};
+
+const RAW: StreamSpec = StreamSpec {
+    format: Format::Raw16,
+    ..LARGE_YUV
 };
 
 const BARS: Settings = Settings {

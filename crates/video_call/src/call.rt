@@ -1,15 +1,13 @@
 //! `video` and `picture`: a script is read and played, and what is wanted of its run is written.
-ghost use Rattle.std.specs.Prelude.{◌≡◌, ◌≢◌, ◌≤◌, IfSome, IsTrue};
-ghost use Rattle.std.specs.Io.KnownBytes.{IsAtEnd};
-ghost use Rattle.cam_types.specs.Script.{is_valid};
-ghost use Rattle.call_parts.specs.Answers.{Tells, TellsBy};
-ghost use Rattle.call_parts.specs.Ends.{CountsSink, CountsSource, ReadsBy};
-ghost use Rattle.video_call.specs.Shows.{IsShown, Shows, ShowsRun};
+ghost use Rattle.call_parts.specs.Answers.{OnDone, Tells};
+ghost use Rattle.call_parts.specs.Ends.{KeepsEnds};
+ghost use Rattle.video_call.specs.Shows.{IsShown, Shows};
+ghost use Rattle.call_parts.specs.Status.{status_number};
 
 use crate::chosen::played;
 use crate::wanted::Wanted;
 use crate::write::write_chosen;
-use call_parts::{ScriptWork, Status, answer_script};
+use call_parts::{ScriptInput, ScriptWork, Status, answer_input};
 use cam_types::{FrameNo, SCRIPT_BYTES, Script, StreamIx};
 use io_edge::{Sink, Source};
 use run_model::a_complete_run_keeps_the_laws;
@@ -26,22 +24,17 @@ pub fn video_call<S: Source, K: Sink>(
 ) -> Status
     // The headline: at status 0 the source was read to its end, its bytes spell a script, and what was written is the
     // whole film of the stream in the script's played run, which is complete and keeps the laws, and nothing else.
-    ensures whole { result.number ≡ 0 → IsAtEnd (S.left source.new)
-        × IfSome (S.left source.old)
-        (λ input. IsShown (Wanted.Film stream) input (K.state sink.old) (K.state sink.new)) }
-    // Each status and each text has its cause in the input's meaning: where no end failed and memory was there, the
-    // status and the text are those that belong to it. At status 4 a front of that text is written.
-    ensures tells { Tells (Shows (Wanted.Film stream)) (S.left source.old) result.number
+    ensures whole { OnDone (IsShown (Wanted.Film stream)) (status_number result) (S.left source.old) (S.left source.new)
         (K.state sink.old) (K.state sink.new) }
-    // The source's count of faults rose at 3 alone, and the sink's at 4 alone; at 3 and 5 nothing was written. At 0 the
-    // source was read to its end; where there is another answer, too, or it has more than the limit.
-    ensures source { CountsSource result.number (S.faults source.old) (S.faults source.new) }
-    ensures sink { CountsSink result.number (K.state sink.old) (K.state sink.new) }
-    ensures read { ReadsBy SCRIPT_BYTES result.number (S.left source.old) (S.left source.new) }
-    ensures known { result.number ≤ 5 }
-    ensures no_usage { result.number ≢ 2 }
+    // Each status and each text has its cause in the input's meaning.
+    ensures tells { Tells (Shows (Wanted.Film stream)) (S.left source.old) (status_number result)
+        (K.state sink.old) (K.state sink.new) }
+    ensures ends { KeepsEnds SCRIPT_BYTES (status_number result) (S.faults source.old) (S.faults source.new) (S.left source.old)
+        (S.left source.new) (K.state sink.old) (K.state sink.new) }
 {
-    show_call(alloc, Wanted::Film { stream }, source, sink)
+    a_complete_run_keeps_the_laws();
+    let wanted = Wanted::Film { stream };
+    answer_input(alloc, source, sink, SCRIPT_BYTES, &ScriptInput(wanted))
 }
 
 /// Reads a script, plays it and writes the picture that a good buffer of the frame brought for the stream: of a RAW16
@@ -55,22 +48,17 @@ pub fn picture_call<S: Source, K: Sink>(
 ) -> Status
     // At status 0 the source was read to its end, its bytes spell a script, and what was written is the whole picture of
     // the frame for the stream in the script's played run, which is complete and keeps the laws, and nothing else.
-    ensures whole { result.number ≡ 0 → IsAtEnd (S.left source.new)
-        × IfSome (S.left source.old)
-        (λ input. IsShown (Wanted.Picture frame stream) input (K.state sink.old) (K.state sink.new)) }
-    // Each status and each text has its cause in the input's meaning: where no end failed and memory was there, the
-    // status and the text are those that belong to it. At status 4 a front of that text is written.
-    ensures tells { Tells (Shows (Wanted.Picture frame stream)) (S.left source.old) result.number
+    ensures whole { OnDone (IsShown (Wanted.Picture frame stream)) (status_number result) (S.left source.old)
+        (S.left source.new) (K.state sink.old) (K.state sink.new) }
+    // Each status and each text has its cause in the input's meaning.
+    ensures tells { Tells (Shows (Wanted.Picture frame stream)) (S.left source.old) (status_number result)
         (K.state sink.old) (K.state sink.new) }
-    // The source's count of faults rose at 3 alone, and the sink's at 4 alone; at 3 and 5 nothing was written. At 0 the
-    // source was read to its end; where there is another answer, too, or it has more than the limit.
-    ensures source { CountsSource result.number (S.faults source.old) (S.faults source.new) }
-    ensures sink { CountsSink result.number (K.state sink.old) (K.state sink.new) }
-    ensures read { ReadsBy SCRIPT_BYTES result.number (S.left source.old) (S.left source.new) }
-    ensures known { result.number ≤ 5 }
-    ensures no_usage { result.number ≢ 2 }
+    ensures ends { KeepsEnds SCRIPT_BYTES (status_number result) (S.faults source.old) (S.faults source.new) (S.left source.old)
+        (S.left source.new) (K.state sink.old) (K.state sink.new) }
 {
-    show_call(alloc, Wanted::Picture { frame, stream }, source, sink)
+    a_complete_run_keeps_the_laws();
+    let wanted = Wanted::Picture { frame, stream };
+    answer_input(alloc, source, sink, SCRIPT_BYTES, &ScriptInput(wanted))
 }
 
 impl ScriptWork for Wanted {
@@ -79,40 +67,12 @@ impl ScriptWork for Wanted {
     ghost belongs = { ShowsRun };
 
     fn answer_script<K: Sink>(&self, alloc: Global, script: Script, sink: &mut K) -> Status {
-        show_script(alloc, *self, script, sink)
+        match played(alloc, *self, script) {
+            Ok(chosen) => write_chosen(alloc, *self, chosen, sink),
+            Err(_) => Status::NoMemory,
+        }
     }
 
     #[tactic(auto, using(crate::proofs::Telling::are_shown))]
     fn keeps_the_law(&self) {}
-}
-
-/// Reads a script, plays it and writes what is wanted of its run.
-fn show_call<S: Source, K: Sink>(
-    alloc: Global,
-    wanted: Wanted,
-    source: &mut S,
-    sink: &mut K,
-) -> Status
-    ensures whole { result.number ≡ 0 → IsAtEnd (S.left source.new)
-        × IfSome (S.left source.old) (λ input. IsShown wanted input (K.state sink.old) (K.state sink.new)) }
-    ensures tells { Tells (Shows wanted) (S.left source.old) result.number (K.state sink.old) (K.state sink.new) }
-    ensures source { CountsSource result.number (S.faults source.old) (S.faults source.new) }
-    ensures sink { CountsSink result.number (K.state sink.old) (K.state sink.new) }
-    ensures read { ReadsBy SCRIPT_BYTES result.number (S.left source.old) (S.left source.new) }
-    ensures known { result.number ≤ 5 }
-    ensures no_usage { result.number ≢ 2 }
-{
-    a_complete_run_keeps_the_laws();
-    answer_script(alloc, source, sink, &wanted)
-}
-
-/// Plays a script and writes what is wanted of its run.
-fn show_script<K: Sink>(alloc: Global, wanted: Wanted, script: Script, sink: &mut K) -> Status
-    requires { IsTrue (is_valid script) }
-    ensures { TellsBy (ShowsRun wanted script) result.number (K.state sink.old) (K.state sink.new) }
-{
-    match played(alloc, wanted, script) {
-        Ok(chosen) => write_chosen(alloc, wanted, chosen, sink),
-        Err(_) => Status::NO_MEMORY,
-    }
 }

@@ -2,9 +2,10 @@
 ghost use Rattle.std.specs.Prelude.{◌≡◌, IfOk};
 ghost use Rattle.call_parts.specs.Answers.{AnswersWithMemory};
 ghost use Rattle.video_call.specs.Shows.{refusal_of};
+ghost use Rattle.call_parts.specs.Status.{status_number};
 
 use crate::wanted::Wanted;
-use call_parts::{Status, answer};
+use call_parts::{Status, answer_made};
 use cam_types::NoMemory;
 use io_edge::Sink;
 use std::alloc::Global;
@@ -37,10 +38,7 @@ pub(crate) fn refuse_wanted<K: Sink>(
     cause: NoFilm,
     sink: &mut K,
 ) -> Status
-    ensures { AnswersWithMemory 1 (refusal_of wanted cause) result.number (K.state sink.old) (K.state sink.new) }
+    ensures { AnswersWithMemory 1 (refusal_of wanted cause) (status_number result) (K.state sink.old) (K.state sink.new) }
 {
-    match refusal_text(alloc, wanted, cause) {
-        Ok(text) => answer(sink, text.as_slice(), Status::REFUSED),
-        Err(_) => Status::NO_MEMORY,
-    }
+    answer_made(refusal_text(alloc, wanted, cause), Status::Refused, sink)
 }

@@ -8,6 +8,7 @@ ghost use Rattle.stream_film.specs.Files.{film_file, film_head, frame_head};
 ghost use Rattle.video_call.specs.Chosen.{can_draw, chosen_file};
 ghost use Rattle.video_call.specs.Drawing.{are_drawable, is_drawable};
 ghost use Rattle.video_call.specs.Shows.{ShowsFile, bytes_of, film_text, frame_of, picture_text};
+ghost use Rattle.call_parts.specs.Status.{status_number};
 
 use crate::chosen::Chosen;
 use crate::easel::Easel;
@@ -122,26 +123,26 @@ fn write_reel<K: Sink>(
 /// Writes the film of pictures that all have this format and size.
 fn write_film_of<K: Sink>(alloc: Global, spec: StreamSpec, shots: &[Shot], sink: &mut K) -> Status
     requires { IsTrue (are_drawable shots.now) }
-    ensures { AnswersWithMemory 0 (film_file spec (map bytes_of shots.now)) result.number
+    ensures { AnswersWithMemory 0 (film_file spec (map bytes_of shots.now)) (status_number result)
         (K.state sink.old) (K.state sink.new) }
 {
     let reel = match make_reel(alloc, spec) {
         Ok(reel) => reel,
-        Err(_) => return Status::NO_MEMORY,
+        Err(_) => return Status::NoMemory,
     };
     match write_reel(reel, spec.format, shots, sink) {
-        Ok(()) => Status::DONE,
-        Err(_) => Status::SINK_FAILED,
+        Ok(()) => Status::Done,
+        Err(_) => Status::SinkFailed,
     }
 }
 
 /// Writes the film of pictures, whose format and size are those of the first.
 fn write_film<K: Sink>(alloc: Global, shots: &[Shot], sink: &mut K) -> Status
     requires { IsTrue (are_drawable shots.now) }
-    ensures { AnswersWithMemory 0 (film_text shots.now) result.number (K.state sink.old) (K.state sink.new) }
+    ensures { AnswersWithMemory 0 (film_text shots.now) (status_number result) (K.state sink.old) (K.state sink.new) }
 {
     match shots {
-        [] => Status::DONE,
+        [] => Status::Done,
         [first, ..] => write_film_of(alloc, first.spec, shots, sink),
     }
 }
@@ -161,11 +162,11 @@ fn picture_text(alloc: Global, shot: Shot) -> Result<Vec<u8>, NoMemory>
 /// Writes a picture.
 fn write_picture<K: Sink>(alloc: Global, shot: Shot, sink: &mut K) -> Status
     requires { IsTrue (is_drawable shot) }
-    ensures { AnswersWithMemory 0 (picture_text shot) result.number (K.state sink.old) (K.state sink.new) }
+    ensures { AnswersWithMemory 0 (picture_text shot) (status_number result) (K.state sink.old) (K.state sink.new) }
 {
     match picture_text(alloc, shot) {
-        Ok(text) => answer(sink, text.as_slice(), Status::DONE),
-        Err(_) => Status::NO_MEMORY,
+        Ok(text) => answer(sink, text.as_slice(), Status::Done),
+        Err(_) => Status::NoMemory,
     }
 }
 
@@ -177,7 +178,7 @@ pub(crate) fn write_chosen<K: Sink>(
     sink: &mut K,
 ) -> Status
     requires { IsTrue (can_draw chosen) }
-    ensures { TellsBy (ShowsFile wanted (chosen_file chosen)) result.number (K.state sink.old) (K.state sink.new) }
+    ensures { TellsBy (ShowsFile wanted (chosen_file chosen)) (status_number result) (K.state sink.old) (K.state sink.new) }
 {
     match chosen {
         Chosen::Film(shots) => write_film(alloc, shots.as_slice(), sink),

@@ -9,7 +9,7 @@ use Rattle.cam_types.specs.declared.script.Word.TheVariants.{Wait as WWait, Flus
 use Rattle.trace_model.specs.declared.entry.Entry.{Entry}
 use Rattle.trace_model.specs.declared.entry.Entry.TheVariants.{Begin, Call, Dropped, ErrorDevice}
 use Rattle.worked_runs.specs.Pieces.{burst_sent, burst_submitted, close_begun, closed, configured, failed, item_of, plain, requests_failed, shutters, small_yuv, usual}
-use Rattle.worked_runs.specs.Words.{frame, made, one, request}
+use Rattle.trace_model.specs.Worked.{frame, made, one, request}
 
 abbrev pub device_failure_script : Script
 device_failure_script =

@@ -7,7 +7,8 @@ use Rattle.cam_types.specs.declared.script.Word.TheVariants.{Repeat as WRepeat, 
 use Rattle.trace_model.specs.declared.entry.Entry.{Entry}
 use Rattle.trace_model.specs.declared.entry.Entry.TheVariants.{Begin, Call}
 use Rattle.worked_runs.specs.Pieces.{configured, failed, item_of, repeat_sent, requests_failed, small_yuv, usual}
-use Rattle.worked_runs.specs.Words.{made, one, preview, request}
+use Rattle.trace_model.specs.Worked.{made, one, request}
+use Rattle.worked_runs.specs.Words.{preview}
 
 abbrev pub disconnect_cancels_all_script : Script
 disconnect_cancels_all_script =

@@ -6,7 +6,7 @@ use Rattle.trace_model.specs.Picture.{digest}
 use Rattle.trace_model.specs.declared.entry.Entry.{Entry}
 use Rattle.trace_model.specs.declared.entry.Entry.TheVariants.{Early, Late}
 use Rattle.worked_runs.specs.Pieces.{burst_sent, close_begun, closed, configured, item_of, once_submitted, partials, plain, raw, released, shutter, usual}
-use Rattle.worked_runs.specs.Words.{buffer, fence, frame, made, one, stream}
+use Rattle.trace_model.specs.Worked.{buffer, device_fence, frame, made, one, stream}
 
 abbrev pub early_return_script : Script
 early_return_script =
@@ -20,7 +20,7 @@ early_return_trace =
     ++ once_submitted 1 0 ∷ burst_sent 1
     ++ close_begun
     ∷ shutter 0
-    ∷ Early (frame 0) (stream 0) (buffer 0) (fence 0)
+    ∷ Early (frame 0) (stream 0) (buffer 0) (device_fence 0)
     ∷ partials plain 0 1
-    ++ Late (fence 0) (digest raw plain 0) ∷ released 0 0
+    ++ Late (device_fence 0) (digest raw plain 0) ∷ released 0 0
     ++ closed 2 ∷ []

@@ -8,7 +8,7 @@ use Rattle.cam_types.specs.declared.script.Word.TheVariants.{Flush as WFlush}
 use Rattle.trace_model.specs.declared.entry.Entry.{Entry}
 use Rattle.trace_model.specs.declared.entry.Entry.TheVariants.{Begin, Call, Send, Shutter, Failed, ErrorRequest, Release, Signal}
 use Rattle.worked_runs.specs.Pieces.{close_begun, closed, configured, filled, fills, item_of, once_submitted, partials_at, plain, raw, shown, usual}
-use Rattle.worked_runs.specs.Words.{buffer, fence, frame, made, one, request, stream, with}
+use Rattle.trace_model.specs.Worked.{buffer, fence, frame, made, one, request, stream, with}
 
 abbrev pub failed_buffer_keeps_its_fence_script : Script
 failed_buffer_keeps_its_fence_script =

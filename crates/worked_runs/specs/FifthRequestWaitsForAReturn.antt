@@ -1,11 +1,11 @@
 -- Ten requests for a stream of which four buffers may be at the device. The worked row
 -- `fifth_request_waits_for_a_return` of tests/rows.
-use Rattle.std.specs.Prelude.{List, [], ◌∷◌, ◌++◌, Some, None, replicate}
+use Rattle.std.specs.Prelude.{List, [], ◌∷◌, ◌++◌, Some, replicate}
 use Rattle.cam_types.specs.declared.script.Command.TheVariants.{Configure, Burst, Close}
 use Rattle.cam_types.specs.declared.script.Script.{Script}
 use Rattle.trace_model.specs.declared.entry.Entry.{Entry}
-use Rattle.worked_runs.specs.Pieces.{burst_sent, burst_submitted, close_begun, closed, configured, filled, item_of, next_sent, partials, plain, shutters, small_yuv, usual, waited}
-use Rattle.worked_runs.specs.Words.{fence, made, one}
+use Rattle.worked_runs.specs.Pieces.{closed, item_of, next_sent, plain, small_yuv, usual, waited, all_filled, burst_until_back}
+use Rattle.trace_model.specs.Worked.{fence}
 
 abbrev pub fifth_request_waits_for_a_return_script : Script
 fifth_request_waits_for_a_return_script =
@@ -13,18 +13,11 @@ fifth_request_waits_for_a_return_script =
 
 abbrev pub fifth_request_waits_for_a_return_trace : List Entry
 fifth_request_waits_for_a_return_trace =
-    configured 0 (one (made 0 6))
-    ++ burst_submitted 1 0 ∷ burst_sent 4
-    ++ close_begun ∷ shutters 0 4
-    ++ partials plain 0 4
-    ++ waited small_yuv plain 0 0 0 (next_sent 4 4 4 None) 4
+    burst_until_back 6 4
     ++ waited small_yuv plain 1 0 1 (next_sent 5 5 0 (Some (fence 0))) 5
     ++ waited small_yuv plain 2 0 2 (next_sent 6 6 1 (Some (fence 1))) 6
     ++ waited small_yuv plain 3 0 3 (next_sent 7 7 2 (Some (fence 2))) 7
     ++ waited small_yuv plain 4 0 4 (next_sent 8 8 3 (Some (fence 3))) 8
     ++ waited small_yuv plain 5 0 0 (next_sent 9 9 4 (Some (fence 4))) 9
-    ++ filled small_yuv plain 6 0 1 6
-    ++ filled small_yuv plain 7 0 2 7
-    ++ filled small_yuv plain 8 0 3 8
-    ++ filled small_yuv plain 9 0 4 9
+    ++ all_filled small_yuv plain 6 1 4
     ++ closed 2 ∷ []

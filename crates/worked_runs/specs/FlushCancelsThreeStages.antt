@@ -8,7 +8,7 @@ use Rattle.cam_types.specs.declared.script.Word.TheVariants.{Flush as WFlush}
 use Rattle.trace_model.specs.declared.entry.Entry.{Entry}
 use Rattle.trace_model.specs.declared.entry.Entry.TheVariants.{Begin, Call, Dropped, ErrorRequest, ErrorResult, ErrorBuffer}
 use Rattle.worked_runs.specs.Pieces.{burst_sent, burst_submitted, close_begun, closed, configured, failed, item_of, partials, plain, raw, shutter, usual}
-use Rattle.worked_runs.specs.Words.{frame, made, one, request, stream}
+use Rattle.trace_model.specs.Worked.{frame, made, one, request, stream}
 
 abbrev pub flush_cancels_three_stages_script : Script
 flush_cancels_three_stages_script =

@@ -6,7 +6,7 @@ use Rattle.run_model.specs.Jobs.{IsJobOut}
 use Rattle.worked_runs.specs.OneFrame.{one_frame_script}
 use Rattle.worked_runs.specs.Pieces.{plain, raw}
 use Rattle.worked_runs.specs.Runs.{play}
-use Rattle.worked_runs.specs.Words.{buffer, frame, stream}
+use Rattle.trace_model.specs.Worked.{buffer, frame, stream}
 
 -- a job on frame 0
 abbrev pub job_of : Option FillTarget → JobView

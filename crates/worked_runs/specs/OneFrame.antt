@@ -4,7 +4,7 @@ use Rattle.cam_types.specs.declared.script.Command.TheVariants.{Configure, Once,
 use Rattle.cam_types.specs.declared.script.Script.{Script}
 use Rattle.trace_model.specs.declared.entry.Entry.{Entry}
 use Rattle.worked_runs.specs.Pieces.{burst_sent, close_begun, closed, configured, filled, item_of, once_submitted, plain, raw, shown, usual}
-use Rattle.worked_runs.specs.Words.{made, one}
+use Rattle.trace_model.specs.Worked.{made, one}
 
 abbrev pub one_frame_script : Script
 one_frame_script = usual [] [] (Configure (raw ∷ []) ∷ Once (item_of plain 0) ∷ Close ∷ [])

@@ -6,7 +6,7 @@ use Rattle.cam_types.specs.declared.four.Four.{Four}
 use Rattle.cam_types.specs.declared.item.Item.{Item}
 use Rattle.cam_types.specs.declared.item.Settings.{Settings}
 use Rattle.cam_types.specs.declared.number.FenceNo.{FenceNo}
-use Rattle.cam_types.specs.declared.part.Part.TheVariants.{Look, Light, Time}
+use Rattle.cam_types.specs.declared.partial_result.PartialResult.TheVariants.{Look, Light, Time}
 use Rattle.cam_types.specs.declared.reply.Made.{Made}
 use Rattle.cam_types.specs.declared.reply.Reply.TheVariants.{Ok as Accepted, Submitted, Configured}
 use Rattle.cam_types.specs.declared.script.Command.{Command}
@@ -18,7 +18,8 @@ use Rattle.cam_types.specs.declared.stream.StreamSpec.{StreamSpec}
 use Rattle.trace_model.specs.Picture.{digest}
 use Rattle.trace_model.specs.declared.entry.Entry.{Entry}
 use Rattle.trace_model.specs.declared.entry.Entry.TheVariants.{Begin, Call, Send, Shutter, Partial, Filled, Failed, ErrorRequest, Release, Signal}
-use Rattle.worked_runs.specs.Words.{frame, buffer, fence, stream, request, item, output, with, one}
+use Rattle.trace_model.specs.Worked.{frame, buffer, fence, stream, request, with, one, made, two}
+use Rattle.worked_runs.specs.Words.{item, output}
 
 -- ---- scripts
 
@@ -141,6 +142,28 @@ filled_then spec settings n s b f sent = fills spec settings n s b ∷ sent ∷ 
 -- and is exposed: buffer b of stream s comes back for frame n, its fence is n too, and frame m is the one that waited
 abbrev pub waited : StreamSpec → Settings → ℕ → ℕ → ℕ → Entry → ℕ → List Entry
 waited spec settings n s b sent m = filled_then spec settings n s b n sent ++ shown settings m
+
+-- the device is configured for two streams with so many buffers each, and goes to close once it has an item for both
+abbrev pub both_sent : ℕ → ℕ → List Entry
+both_sent first second =
+    configured 0 (two (made 0 first) (made first second))
+    ++ once_submitted 1 0
+    ∷ Send (frame 0) (request 0) 0 false (two (with 0 0 None) (with 1 first None))
+    ∷ close_begun ∷ []
+
+-- so many frames, from frame n on, come back from stream 0 with the buffers from buffer b on
+abbrev pub all_filled : StreamSpec → Settings → ℕ → ℕ → ℕ → List Entry
+all_filled spec settings n b count =
+    flat_map (λ k. filled spec settings (n + k) 0 (b + k) (n + k)) (range_with_len 0 count)
+
+-- a burst for a small stream with so many buffers: so many frames go at once, and the next when the first comes back
+abbrev pub burst_until_back : ℕ → ℕ → List Entry
+burst_until_back buffers depth =
+    configured 0 (one (made 0 buffers))
+    ++ burst_submitted 1 0 ∷ burst_sent depth
+    ++ close_begun ∷ shutters 0 depth
+    ++ partials plain 0 depth
+    ++ waited small_yuv plain 0 0 0 (next_sent depth depth depth None) depth
 
 -- so many frames, from frame 0 on, fail whole
 abbrev pub requests_failed : ℕ → List Entry

@@ -6,7 +6,7 @@ use Rattle.cam_types.specs.declared.script.Script.{Script}
 use Rattle.trace_model.specs.declared.entry.Entry.{Entry}
 use Rattle.trace_model.specs.declared.entry.Entry.TheVariants.{Send}
 use Rattle.worked_runs.specs.Pieces.{burst_submitted, close_begun, closed, configured, filled, item_of, middle_yuv, next_sent, partials, plain, shutters, small_yuv, usual, waited}
-use Rattle.worked_runs.specs.Words.{frame, made, one, request, two, with}
+use Rattle.trace_model.specs.Worked.{frame, made, one, request, two, with}
 
 abbrev pub pipeline_depth_of_six_script : Script
 pipeline_depth_of_six_script =

@@ -11,7 +11,8 @@ use Rattle.cam_types.specs.declared.stream.StreamSpec.{StreamSpec}
 use Rattle.trace_model.specs.declared.entry.Entry.{Entry}
 use Rattle.trace_model.specs.declared.entry.Entry.TheVariants.{Begin, Call, Send, Shutter}
 use Rattle.worked_runs.specs.Pieces.{burst_submitted, close_begun, closed, configured, filled, filled_then, item_of, item_of_two, middle_yuv, next_sent, partials, partials_at, raw, repeat_sent, shutters, usual, waited}
-use Rattle.worked_runs.specs.Words.{fence, frame, made, output, preview, request, three, two, with}
+use Rattle.trace_model.specs.Worked.{fence, frame, made, request, three, two, with}
+use Rattle.worked_runs.specs.Words.{output, preview}
 
 abbrev pub full_yuv : StreamSpec
 full_yuv = output Yuv 160 120

@@ -1,13 +1,11 @@
 -- One request with a picture of each of two streams. The worked row `raw_and_yuv_of_one_request` of tests/rows.
-use Rattle.std.specs.Prelude.{false, List, [], ◌∷◌, ◌++◌, None}
+use Rattle.std.specs.Prelude.{List, [], ◌∷◌, ◌++◌}
 use Rattle.cam_types.specs.Worked.{shot}
 use Rattle.cam_types.specs.declared.script.Command.TheVariants.{Configure, Once, Close}
 use Rattle.cam_types.specs.declared.item.Settings.{Settings}
 use Rattle.cam_types.specs.declared.script.Script.{Script}
 use Rattle.trace_model.specs.declared.entry.Entry.{Entry}
-use Rattle.trace_model.specs.declared.entry.Entry.TheVariants.{Send}
-use Rattle.worked_runs.specs.Pieces.{close_begun, closed, configured, filled, item_of_two, once_submitted, raw, shown, small_yuv, usual}
-use Rattle.worked_runs.specs.Words.{frame, made, request, two, with}
+use Rattle.worked_runs.specs.Pieces.{closed, filled, item_of_two, raw, shown, small_yuv, usual, both_sent}
 
 abbrev pub bars : Settings
 bars = shot 1 200 10000000 100
@@ -18,11 +16,8 @@ raw_and_yuv_of_one_request_script =
 
 abbrev pub raw_and_yuv_of_one_request_trace : List Entry
 raw_and_yuv_of_one_request_trace =
-    configured 0 (two (made 0 6) (made 6 5))
-    ++ once_submitted 1 0
-    ∷ Send (frame 0) (request 0) 0 false (two (with 0 0 None) (with 1 6 None))
-    ∷ close_begun
-    ∷ shown bars 0
+    both_sent 6 5
+    ++ shown bars 0
     ++ filled small_yuv bars 0 0 0 0
     ++ filled raw bars 0 1 6 1
     ++ closed 2 ∷ []

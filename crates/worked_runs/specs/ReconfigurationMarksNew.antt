@@ -8,7 +8,7 @@ use Rattle.cam_types.specs.declared.script.Word.TheVariants.{Configure as WConfi
 use Rattle.trace_model.specs.declared.entry.Entry.{Entry}
 use Rattle.trace_model.specs.declared.entry.Entry.TheVariants.{Begin, Call, Send}
 use Rattle.worked_runs.specs.Pieces.{burst_sent, close_begun, closed, configured, filled, item_of, once_submitted, partials, plain, raw, shown, shutters, usual}
-use Rattle.worked_runs.specs.Words.{frame, made, one, request, with}
+use Rattle.trace_model.specs.Worked.{frame, made, one, request, with}
 
 abbrev pub reconfiguration_marks_new_script : Script
 reconfiguration_marks_new_script =

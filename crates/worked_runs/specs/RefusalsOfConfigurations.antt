@@ -8,7 +8,8 @@ use Rattle.cam_types.specs.declared.stream.Format.TheVariants.{Yuv, Other}
 use Rattle.trace_model.specs.declared.entry.Entry.{Entry}
 use Rattle.trace_model.specs.declared.entry.Entry.TheVariants.{Begin, Call}
 use Rattle.worked_runs.specs.Pieces.{burst_sent, close_begun, closed, configured, filled, item_of, once_submitted, raw, shown, small_yuv, usual}
-use Rattle.worked_runs.specs.Words.{input, made, one, output, preview}
+use Rattle.trace_model.specs.Worked.{made, one}
+use Rattle.worked_runs.specs.Words.{input, output, preview}
 
 abbrev pub refusals_of_configurations_script : Script
 refusals_of_configurations_script =

@@ -8,7 +8,8 @@ use Rattle.cam_types.specs.declared.script.Word.TheVariants.{Once as WOnce, Burs
 use Rattle.trace_model.specs.declared.entry.Entry.{Entry}
 use Rattle.trace_model.specs.declared.entry.Entry.TheVariants.{Call}
 use Rattle.worked_runs.specs.Pieces.{close_begun, closed, configured, item_of, item_of_two, raw, small_yuv, usual}
-use Rattle.worked_runs.specs.Words.{item, made, preview, two}
+use Rattle.trace_model.specs.Worked.{made, two}
+use Rattle.worked_runs.specs.Words.{item, preview}
 
 abbrev pub refusals_of_requests_script : Script
 refusals_of_requests_script =

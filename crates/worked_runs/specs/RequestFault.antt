@@ -6,7 +6,7 @@ use Rattle.cam_types.specs.declared.script.Script.{Script}
 use Rattle.trace_model.specs.declared.entry.Entry.{Entry}
 use Rattle.trace_model.specs.declared.entry.Entry.TheVariants.{ErrorRequest, Send}
 use Rattle.worked_runs.specs.Pieces.{burst_submitted, close_begun, closed, configured, failed, filled, item_of_two, partials, plain, raw, shutter, shutters, small_yuv, usual}
-use Rattle.worked_runs.specs.Words.{frame, made, request, two, with}
+use Rattle.trace_model.specs.Worked.{frame, made, request, two, with}
 
 abbrev pub request_fault_script : Script
 request_fault_script =

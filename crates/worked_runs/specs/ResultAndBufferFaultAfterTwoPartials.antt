@@ -1,13 +1,13 @@
 -- A capture that lacks its last metadata and one of two buffers. The worked row
 -- `result_and_buffer_fault_after_two_partials` of tests/rows.
-use Rattle.std.specs.Prelude.{false, List, [], ◌∷◌, ◌++◌, None, take}
+use Rattle.std.specs.Prelude.{List, [], ◌∷◌, ◌++◌, take}
 use Rattle.cam_types.specs.declared.script.Command.TheVariants.{Configure, Once, Close}
 use Rattle.cam_types.specs.declared.script.Fault.TheVariants.{Result, Buffer}
 use Rattle.cam_types.specs.declared.script.Script.{Script}
 use Rattle.trace_model.specs.declared.entry.Entry.{Entry}
-use Rattle.trace_model.specs.declared.entry.Entry.TheVariants.{Send, ErrorResult, ErrorBuffer}
-use Rattle.worked_runs.specs.Pieces.{close_begun, closed, configured, failed, filled, item_of_two, once_submitted, partials, plain, raw, shutter, small_yuv, usual}
-use Rattle.worked_runs.specs.Words.{frame, made, request, stream, two, with}
+use Rattle.trace_model.specs.declared.entry.Entry.TheVariants.{ErrorResult, ErrorBuffer}
+use Rattle.worked_runs.specs.Pieces.{closed, failed, filled, item_of_two, partials, plain, raw, shutter, small_yuv, usual, both_sent}
+use Rattle.trace_model.specs.Worked.{frame, stream}
 
 abbrev pub result_and_buffer_fault_after_two_partials_script : Script
 result_and_buffer_fault_after_two_partials_script =
@@ -16,11 +16,8 @@ result_and_buffer_fault_after_two_partials_script =
 
 abbrev pub result_and_buffer_fault_after_two_partials_trace : List Entry
 result_and_buffer_fault_after_two_partials_trace =
-    configured 0 (two (made 0 5) (made 5 6))
-    ++ once_submitted 1 0
-    ∷ Send (frame 0) (request 0) 0 false (two (with 0 0 None) (with 1 5 None))
-    ∷ close_begun
-    ∷ shutter 0
+    both_sent 5 6
+    ++ shutter 0
     ∷ take 2 (partials plain 0 1)
     ++ ErrorResult (frame 0)
     ∷ ErrorBuffer (frame 0) (stream 0)

@@ -134,8 +134,8 @@ pub fn try_run<R: Threads + Wait + Clock + Sync>(
     judged.extend_from_slice(trace.bytes())?;
     let (verdict, _) = answer(rt, alloc, &["check"], judged, gate)?;
     Ok(Tried {
-        status: status.number,
-        is_legal: verdict == Status::DONE,
+        status: status.number(),
+        is_legal: verdict == Status::Done,
         is_in_time,
         has_met,
         fills,

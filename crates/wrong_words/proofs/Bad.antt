@@ -83,33 +83,22 @@ any_fits : (w : List ℕ) → fits (script_kind (codes "fault") 1) w ≡ true
 unfolding fits script_kind
 any_fits w = refl
 
-pick_fits : (n : ℕ) (w : List ℕ) → fits (script_kind (codes "pick") n) w ≡ is_some (number w)
-unfolding fits script_kind
-pick_fits n w = refl
+-- behind a word, each place has the kind of words that are read so
+abbrev Reads : {A : Type 0} → List ℕ → (List ℕ → Option A) → Type 0
+Reads first read = (n : ℕ) (w : List ℕ) → fits (script_kind first n) w ≡ is_some (read w)
 
-profile_fits : (n : ℕ) (w : List ℕ) → fits (script_kind (codes "device") n) w ≡ is_some (profile_number w)
-unfolding fits script_kind
-profile_fits n w = refl
+record Kinds : Type 0 where
+  pick : Reads (codes "pick") number
+  profile : Reads (codes "device") profile_number
+  spec : Reads (codes "configure") spec_of
+  once : Reads (codes "once") item_of
+  burst : Reads (codes "burst") item_of
+  repeated : Reads (codes "repeat") item_of
+  count : Reads (codes "await") awaited
 
-spec_fits : (n : ℕ) (w : List ℕ) → fits (script_kind (codes "configure") n) w ≡ is_some (spec_of w)
+kinds : Kinds
 unfolding fits script_kind
-spec_fits n w = refl
-
-once_fits : (n : ℕ) (w : List ℕ) → fits (script_kind (codes "once") n) w ≡ is_some (item_of w)
-unfolding fits script_kind
-once_fits n w = refl
-
-burst_fits : (n : ℕ) (w : List ℕ) → fits (script_kind (codes "burst") n) w ≡ is_some (item_of w)
-unfolding fits script_kind
-burst_fits n w = refl
-
-repeat_fits : (n : ℕ) (w : List ℕ) → fits (script_kind (codes "repeat") n) w ≡ is_some (item_of w)
-unfolding fits script_kind
-repeat_fits n w = refl
-
-count_fits : (n : ℕ) (w : List ℕ) → fits (script_kind (codes "await") n) w ≡ is_some (awaited w)
-unfolding fits script_kind
-count_fits n w = refl
+kinds = record { pick = λ n w. refl; profile = λ n w. refl; spec = λ n w. refl; once = λ n w. refl; burst = λ n w. refl; repeated = λ n w. refl; count = λ n w. refl }
 
 -- ---- faults
 
@@ -157,21 +146,21 @@ fault_wrong (kind ∷ words) h =
 pick_wrong : (words : List (List ℕ)) → picks_of words ≡ Err BadNumber → is_some (first_wrong (script_kind (codes "pick")) 1 words) ≡ true
 unfolding picks_of
 pick_wrong [] h = absurd (cc)
-pick_wrong (w ∷ ws) h = many_wrong number (script_kind (codes "pick")) pick_fits 1 (w ∷ ws) h
+pick_wrong (w ∷ ws) h = many_wrong number (script_kind (codes "pick")) kinds.pick 1 (w ∷ ws) h
 
 raw_wrong : (words : List (List ℕ)) → raw_and_yuv words ≡ Err BadNumber → is_some (first_wrong (script_kind (codes "device")) 2 words) ≡ true
 unfolding raw_and_yuv
 raw_wrong [] h = absurd (cc)
 raw_wrong (w ∷ ws) h =
-    first_step profile_number (script_kind (codes "device")) 2 w ws (λ r. one profile_number ws >>= λ y. Ok (r, y)) (profile_fits 2 w)
-    (λ r b. one_wrong profile_number (script_kind (codes "device")) 3 (profile_fits 3) ws (bad_before (one profile_number ws) (λ y. (r, y)) b))
+    first_step profile_number (script_kind (codes "device")) 2 w ws (λ r. one profile_number ws >>= λ y. Ok (r, y)) (kinds.profile 2 w)
+    (λ r b. one_wrong profile_number (script_kind (codes "device")) 3 (kinds.profile 3) ws (bad_before (one profile_number ws) (λ y. (r, y)) b))
     (profile_number w) refl h
 
 device_wrong : (words : List (List ℕ)) → device_of words ≡ Err BadNumber → is_some (first_wrong (script_kind (codes "device")) 1 words) ≡ true
 unfolding device_of
 device_wrong [] h = absurd (cc)
 device_wrong (w ∷ ws) h =
-    first_step profile_number (script_kind (codes "device")) 1 w ws (λ d. raw_and_yuv ws >>= λ p. Ok (record { depth = d; raw = p.0; yuv = p.1 })) (profile_fits 1 w)
+    first_step profile_number (script_kind (codes "device")) 1 w ws (λ d. raw_and_yuv ws >>= λ p. Ok (record { depth = d; raw = p.0; yuv = p.1 })) (kinds.profile 1 w)
     (λ d b. raw_wrong ws (bad_before (raw_and_yuv ws) (λ p. record { depth = d; raw = p.0; yuv = p.1 }) b))
     (profile_number w) refl h
 
@@ -183,13 +172,13 @@ of_version false words h = absurd (cc)
 
 command_wrong : (word : Word) (words : List (List ℕ)) → command_of word words ≡ Err BadNumber → is_some (first_wrong (script_kind (word_text word)) 1 words) ≡ true
 unfolding command_of
-command_wrong Configure words h = many_wrong spec_of (script_kind (codes "configure")) spec_fits 1 words (bad_before (many spec_of words) command.Configure h)
-command_wrong Once words h = one_wrong item_of (script_kind (codes "once")) 1 (once_fits 1) words (bad_before (one item_of words) command.Once h)
-command_wrong Burst words h = many_wrong item_of (script_kind (codes "burst")) burst_fits 1 words (bad_before (many item_of words) command.Burst h)
-command_wrong Repeat words h = many_wrong item_of (script_kind (codes "repeat")) repeat_fits 1 words (bad_before (many item_of words) command.Repeat h)
+command_wrong Configure words h = many_wrong spec_of (script_kind (codes "configure")) kinds.spec 1 words (bad_before (many spec_of words) command.Configure h)
+command_wrong Once words h = one_wrong item_of (script_kind (codes "once")) 1 (kinds.once 1) words (bad_before (one item_of words) command.Once h)
+command_wrong Burst words h = many_wrong item_of (script_kind (codes "burst")) kinds.burst 1 words (bad_before (many item_of words) command.Burst h)
+command_wrong Repeat words h = many_wrong item_of (script_kind (codes "repeat")) kinds.repeated 1 words (bad_before (many item_of words) command.Repeat h)
 command_wrong Stop words h = absurd (ends_fine command.Stop words h)
 command_wrong Wait words h = absurd (ends_fine command.Wait words h)
-command_wrong Await words h = one_wrong awaited (script_kind (codes "await")) 1 (count_fits 1) words (bad_before (one awaited words) command.Await h)
+command_wrong Await words h = one_wrong awaited (script_kind (codes "await")) 1 (kinds.count 1) words (bad_before (one awaited words) command.Await h)
 command_wrong Flush words h = absurd (ends_fine command.Flush words h)
 command_wrong Close words h = absurd (ends_fine command.Close words h)
 command_wrong Disconnect words h = absurd (ends_fine command.Disconnect words h)

@@ -6,7 +6,7 @@ use Rattle.cam_types.specs.declared.profile.Profile.{Profile}
 use Rattle.cam_types.specs.declared.script.Command.{Command}
 use Rattle.cam_types.specs.declared.script.Fault.{Fault}
 use Rattle.cam_types.specs.declared.script.Word.{Word}
-use Rattle.cam_types.specs.declared.script.Word.TheVariants.{Configure, Once, Burst, Repeat, Stop, Wait, Await, Flush, Close, Disconnect}
+use Rattle.cam_types.specs.declared.script.Word.TheVariants.{Configure}
 use Rattle.text_parts.specs.CommandWords.{command_word, word_text}
 use Rattle.text_parts.proofs.Texts.{word-is}
 use Rattle.text_parts.specs.LineWords.{◌>>=◌, ends, picks_of}
@@ -34,51 +34,43 @@ pub data Shape (word : List ℕ) (words : List (List ℕ)) : Line → Type 0 whe
 ok_same : {A : Type 0} (x y : A) → ◌≡◌ {A = Result A Cause} (Ok x) (Ok y) → x ≡ y
 ok_same x y h = cc
 
-fault_begins : Begins true false false (codes "fault")
-unfolding command_word
-fault_begins = record { fault = refl; command = refl; pick = refl }
+record Lines : Type 0 where
+  fault : Begins true false false (codes "fault")
+  pick : Begins false false true (codes "pick")
+  early : Begins false false false (codes "early")
+  device : Begins false false false (codes "device")
 
-pick_begins : Begins false false true (codes "pick")
+begun : Lines
 unfolding command_word
-pick_begins = record { fault = refl; command = refl; pick = refl }
-
-early_begins : Begins false false false (codes "early")
-unfolding command_word
-early_begins = record { fault = refl; command = refl; pick = refl }
-
-device_begins : Begins false false false (codes "device")
-unfolding command_word
-device_begins = record { fault = refl; command = refl; pick = refl }
+begun =
+    record {
+      fault = record { fault = refl; command = refl; pick = refl };
+      pick = record { fault = refl; command = refl; pick = refl };
+      early = record { fault = refl; command = refl; pick = refl };
+      device = record { fault = refl; command = refl; pick = refl };
+    }
 
 command_begins : (word : Word) → Begins false true false (word_text word)
 unfolding command_word
 command_begins Configure = record { fault = refl; command = refl; pick = refl }
-command_begins Once = record { fault = refl; command = refl; pick = refl }
-command_begins Burst = record { fault = refl; command = refl; pick = refl }
-command_begins Repeat = record { fault = refl; command = refl; pick = refl }
-command_begins Stop = record { fault = refl; command = refl; pick = refl }
-command_begins Wait = record { fault = refl; command = refl; pick = refl }
-command_begins Await = record { fault = refl; command = refl; pick = refl }
-command_begins Flush = record { fault = refl; command = refl; pick = refl }
-command_begins Close = record { fault = refl; command = refl; pick = refl }
-command_begins Disconnect = record { fault = refl; command = refl; pick = refl }
+command_begins _ = record { fault = refl; command = refl; pick = refl }
 
 -- ---- by what the words mean
 
 fault_shape : (words : List (List ℕ)) (line : Line) (o : Result Fault Cause) → (o >>= λ fault. Ok (FaultLine fault)) ≡ Ok line → Shape (codes "fault") words line
-fault_shape words line (Ok fault) h = rw (← ok_same (FaultLine fault) line h) (IsFault fault fault_begins)
+fault_shape words line (Ok fault) h = rw (← ok_same (FaultLine fault) line h) (IsFault fault begun.fault)
 fault_shape words line (Err c) h = absurd (cc)
 
 pick_shape : (words : List (List ℕ)) (line : Line) (o : Result (List ℕ) Cause) → picks_of words ≡ o → (o >>= λ picks. Ok (PickLine picks)) ≡ Ok line → Shape (codes "pick") words line
-pick_shape words line (Ok picks) is h = rw (← ok_same (PickLine picks) line h) (IsPick picks pick_begins is)
+pick_shape words line (Ok picks) is h = rw (← ok_same (PickLine picks) line h) (IsPick picks begun.pick is)
 pick_shape words line (Err c) is h = absurd (cc)
 
 early_shape : (words : List (List ℕ)) (line : Line) → ends EarlyLine words ≡ Ok line → Shape (codes "early") words line
-early_shape [] line h = rw (← ok_same EarlyLine line h) (IsEarly early_begins)
+early_shape [] line h = rw (← ok_same EarlyLine line h) (IsEarly begun.early)
 early_shape (w ∷ words) line h = absurd (cc)
 
 device_shape : (words : List (List ℕ)) (line : Line) (o : Result Profile Cause) → (o >>= λ profile. Ok (DeviceLine profile)) ≡ Ok line → Shape (codes "device") words line
-device_shape words line (Ok profile) h = rw (← ok_same (DeviceLine profile) line h) (IsDevice profile device_begins)
+device_shape words line (Ok profile) h = rw (← ok_same (DeviceLine profile) line h) (IsDevice profile begun.device)
 device_shape words line (Err c) h = absurd (cc)
 
 version_shape : (two : Bool) (words : List (List ℕ)) (line : Line) → cond two (device_of words >>= λ profile. Ok (DeviceLine profile)) (Err UnknownWord) ≡ Ok line → Shape (codes "device") words line

@@ -27,21 +27,19 @@ script_kind first place =
     else (if bytes_eq first (codes "await") then Count
     else Any)))))
 
--- behind the `ok` or `refused` of a call: 4 is the place of that word
+-- of the word at place 4, which says how a call or a buffer ended, and of what stands behind it: one kind where it
+-- isn't the long word, else that of place 5 and that of all behind it
+abbrev pub by_how : List ℕ → List ℕ → WordKind → WordKind → WordKind → ℕ → WordKind
+by_how how long short next rest place =
+    if place == 4 then Any else (if not (bytes_eq how long) then short else (if place == 5 then next else rest))
+
+-- behind the `ok` or `refused` of a call
 abbrev pub call_kind : List ℕ → ℕ → WordKind
-call_kind how place =
-    if place == 4 then Any
-    else (if not (bytes_eq how (codes "refused")) then Reply
-    else (if place == 5 then Byte
-    else Number))
+call_kind how place = by_how how (codes "refused") Reply Byte Number place
 
 -- behind the `ok` or `error` of a buffer
 abbrev pub buffer_kind : List ℕ → ℕ → WordKind
-buffer_kind how place =
-    if place == 4 then Any
-    else (if not (bytes_eq how (codes "ok")) then FenceOrNone
-    else (if place == 5 then Any
-    else Digest))
+buffer_kind how place = by_how how (codes "ok") FenceOrNone Any Digest place
 
 -- the kind at a place behind the first word of a trace's line, from 1 on, by the first word and the one at place 4
 unfoldable pub trace_kind : List ℕ → List ℕ → ℕ → WordKind

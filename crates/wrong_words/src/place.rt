@@ -1,6 +1,6 @@
 //! Which kind the places of a line ask for.
 ghost use Rattle.std.specs.Prelude.{◌≡◌};
-ghost use Rattle.wrong_words.specs.WordPlaces.{buffer_kind, by_place, call_kind, is_item_word, script_kind, trace_kind};
+ghost use Rattle.wrong_words.specs.WordPlaces.{buffer_kind, by_how, by_place, call_kind, is_item_word, script_kind, trace_kind};
 
 use crate::word_kind::WordKind;
 
@@ -57,34 +57,40 @@ pub fn script_kind(first: &[u8], place: usize) -> WordKind
     }
 }
 
+/// The kinds of the word at place 4, which says how a call or a buffer ended, and of what stands behind it: one kind
+/// where it isn't the long word, else that of place 5 and that of all behind it.
+fn by_how(
+    how: &[u8],
+    long: &[u8],
+    short: WordKind,
+    next: WordKind,
+    rest: WordKind,
+    place: usize,
+) -> WordKind
+    ensures { result ≡ by_how how.now long.now short next rest place }
+{
+    match place {
+        4 => WordKind::Any,
+        _ if how != long => short,
+        5 => next,
+        _ => rest,
+    }
+}
+
 /// The kind behind the `ok` or `refused` of a call.
 fn call_kind(how: &[u8], place: usize) -> WordKind
     ensures { result ≡ call_kind how.now place }
 {
-    if place == 4 {
-        WordKind::Any
-    } else if how != b"refused".as_slice() {
-        WordKind::Reply
-    } else if place == 5 {
-        WordKind::Byte
-    } else {
-        WordKind::Number
-    }
+    use WordKind::{Byte, Number, Reply};
+    by_how(how, b"refused", Reply, Byte, Number, place)
 }
 
 /// The kind behind the `ok` or `error` of a buffer.
 fn buffer_kind(how: &[u8], place: usize) -> WordKind
     ensures { result ≡ buffer_kind how.now place }
 {
-    if place == 4 {
-        WordKind::Any
-    } else if how != b"ok".as_slice() {
-        WordKind::FenceOrNone
-    } else if place == 5 {
-        WordKind::Any
-    } else {
-        WordKind::Digest
-    }
+    use WordKind::{Any, Digest, FenceOrNone};
+    by_how(how, b"ok", FenceOrNone, Any, Digest, place)
 }
 
 /// The kind at a place behind the first word of a trace's line, from 1 on, by the first word and the one at place 4.

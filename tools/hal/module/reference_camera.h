@@ -165,7 +165,7 @@ void reference_tell(struct reference_camera *camera, const struct reference_even
 /* The settings in the framework's pack; what it lacks stands in `settings` before. */
 void reference_read_settings(const camera_metadata_t *pack, struct pauvigre_settings *settings);
 
-/* The pack of settings, and of a metadata result, in the memory. NULL: it has no room. */
+/* The pack of settings, and of a partial result, in the memory. NULL: it has no room. */
 const camera_metadata_t *reference_pack_settings(struct reference_pack *pack, const struct pauvigre_settings *settings);
 const camera_metadata_t *reference_pack_part(struct reference_pack *pack, const struct pauvigre_part *part);
 

@@ -1,6 +1,6 @@
 //! Taking turns.
-ghost use Rattle.std.specs.Prelude.{◌≡◌, true, false, MatchBool, length};
-ghost use Rattle.turn_lock.specs.Seats.{view, fixed_of, Carries, HasTurn, IsOf, IsSeatOf};
+ghost use Rattle.std.specs.Prelude.{◌≡◌, true, false, length};
+ghost use Rattle.turn_lock.specs.Seats.{view, fixed_of, Carries, HasTurn, IsOf, IsSeatOf, TakesIfFree};
 ghost use Rattle.turn_lock.specs.Turns.{Enters, MayLeave, Leaves};
 
 use super::Turnstile;
@@ -55,8 +55,7 @@ impl<S: Kept> Turnstile<S> {
         requires seat { IsSeatOf S.fixed self.now seat.old }
         requires free { (view seat.old).holds ≡ false }
         ensures seat { IsOf S.fixed self.now seat.new }
-        ensures turn { MatchBool result (HasTurn S.fixed S.entries S.jobs self.now (view seat.old) seat.new)
-            (seat.new.place.me ≡ seat.old.place.me) }
+        ensures turn { TakesIfFree S.fixed S.entries S.jobs self.now result seat.old seat.new }
     {
         for _ in 0..LOOKS {
             if self.table.shared.peek(0) == 0 && self.claim(seat) {
@@ -101,8 +100,7 @@ impl<S: Kept> Turnstile<S> {
         requires seat { IsSeatOf S.fixed self.now seat.old }
         requires free { (view seat.old).holds ≡ false }
         ensures seat { IsOf S.fixed self.now seat.new }
-        ensures turn { MatchBool result (HasTurn S.fixed S.entries S.jobs self.now (view seat.old) seat.new)
-            (seat.new.place.me ≡ seat.old.place.me) }
+        ensures turn { TakesIfFree S.fixed S.entries S.jobs self.now result seat.old seat.new }
     {
         self.table
             .shared

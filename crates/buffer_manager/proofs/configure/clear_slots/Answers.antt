@@ -2,7 +2,7 @@ use Rattle.std.proofs.Common.{refl, ◌∙◌}
 use Rattle.trace_model.specs.Place.{Pool, is_at}
 use Rattle.buffer_manager.specs.declared.slot.Slot.{Slot}
 use Rattle.buffer_manager.specs.Slots.{place_of}
-use Rattle.buffer_manager.proofs.Ends.{all-last}
+use Rattle.buffer_manager.proofs.Spent.{all-last}
 use Rattle.buffer_manager.proofs.configure.clear_slots.Goals as goal
 
 pub loop-slot-init : goal.loop-slot-init

@@ -6,6 +6,7 @@ use Rattle.candidates_call.specs.Told.{IsTold}
 use Rattle.candidates_call.proofs.Moves.{told_behind, whole_answered}
 use Rattle.candidates_call.proofs.Pieces.{none_told}
 use Rattle.candidates_call.proofs.opened.tell_run.Goals as goal
+use Rattle.call_parts.specs.Status.{status_number}
 
 pub returns : goal.returns
 returns g c =
@@ -21,5 +22,5 @@ returns g c =
     record {
       history = now.history;
       run = subst (λ (s : Script). IsPlayedRun s now.history) c.tell_moves.ensures.script c.tell_moves.ensures.played;
-      answers = whole_answered past.script now c.finish-status.result.number first (g.K.Sink.state c.finish-status.new.sink) c.tell_moves.ensures.script end;
+      answers = whole_answered past.script now (status_number c.finish-status.result) first (g.K.Sink.state c.finish-status.new.sink) c.tell_moves.ensures.script end;
     }

@@ -1,5 +1,6 @@
 use Rattle.std.proofs.Common.{◌∙◌, ap, filter, map}
-use Rattle.hal_judge.specs.Meant.{frame_of, is_meant}
+use Rattle.hal_calls.specs.Meant.{is_meant}
+use Rattle.hal_judge.specs.Meant.{frame_of}
 use Rattle.hal_judge.proofs.Faults.{frames_told}
 use Rattle.hal_judge.proofs.fault.frames_meant.Goals as goal
 

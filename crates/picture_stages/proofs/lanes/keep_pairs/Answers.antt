@@ -6,8 +6,12 @@ pub above_dark-requires-clause-values : goal.above_dark-requires-clause-values
 above_dark-requires-clause-values c =
     all-eight (λ v. (64 ≤ v) × (v ≤ 1023)) (λ j. get_or (take 8 (take 8 c.args.values.now) ++ take 8 (drop 8 c.args.values.now)) (j / 2 * 4 + j % 2) 0) (λ j. j / 2 * 4 + j % 2) c.args.values.now c.requires.values (λ k h. omega (arith, c.requires.len)) (λ k h. in-halves c.args.values.now (k / 2 * 4 + k % 2) c.requires.len)
 
-pub returns-clause-pairs : goal.returns-clause-pairs
-returns-clause-pairs c = λ k h.
-    c.above_dark.ensures.each k h
-    ∙ (eight (λ j. get_or (take 8 (take 8 c.args.values.now) ++ take 8 (drop 8 c.args.values.now)) (j / 2 * 4 + j % 2) 0) k h
-    ∙ in-halves c.args.values.now (k / 2 * 4 + k % 2) c.requires.len)
+pub returns : goal.returns
+returns c = record {
+  each = λ k h.
+      c.above_dark.ensures.each k h
+      ∙ (eight (λ j. get_or (take 8 (take 8 c.args.values.now) ++ take 8 (drop 8 c.args.values.now)) (j / 2 * 4 + j % 2) 0) k h
+      ∙ in-halves c.args.values.now (k / 2 * 4 + k % 2) c.requires.len);
+  len = c.above_dark.ensures.len;
+  range = c.above_dark.ensures.range;
+}

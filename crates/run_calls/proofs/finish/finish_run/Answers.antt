@@ -5,6 +5,7 @@ use Rattle.turn_lock.specs.Seats.{fixed_of, view}
 use Rattle.shared_camera.specs.Cameras.{script_of}
 use Rattle.run_calls.proofs.Finishing.{ends-seen}
 use Rattle.run_calls.proofs.finish.finish_run.Goals as goal
+use Rattle.call_parts.specs.Status.{status_number}
 
 pub settle_and_write-requires : goal.settle_and_write-requires
 settle_and_write-requires g c =
@@ -14,4 +15,4 @@ settle_and_write-requires g c =
 pub returns : goal.returns
 returns g c =
     let service = c.close-service.result in
-    ends-seen c.args.writer.now (fixed_of script_of c.args.shared.turnstile) service.script (view c.args.root).seen (view c.run_workers.new.root).seen service.history c.settle_and_write.result.number (g.K.Sink.state c.args.sink.now) (g.K.Sink.state c.settle_and_write.new.sink) c.close-service.ensures.script c.close-service.ensures.history c.run_workers.ensures.root.3 c.settle_and_write.ensures
+    ends-seen c.args.writer.now (fixed_of script_of c.args.shared.turnstile) service.script (view c.args.root).seen (view c.run_workers.new.root).seen service.history (status_number c.settle_and_write.result) (g.K.Sink.state c.args.sink.now) (g.K.Sink.state c.settle_and_write.new.sink) c.close-service.ensures.script c.close-service.ensures.history c.run_workers.ensures.root.3 c.settle_and_write.ensures

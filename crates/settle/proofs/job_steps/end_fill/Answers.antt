@@ -12,8 +12,7 @@ unreachable-requires c =
     let old = c.args.service.now in
     let ready = ready_move old.script old.history (FillDone c.args.frame c.args.stream) c.requires.ready in
     let ends = c.jobs_that_end_are_out.ensures.fill old.script ready.0 old.history c.args.hands.now c.args.frame c.args.stream c.is_a_run.ensures.run c.requires.jobs ready.1 in
-    let none = sym c.take_fill.ensures.value ∙ c.in-None.is in
-    let both = sym ends.1 ∙ none in
+    let both = sym ends.1 ∙ (sym c.take_fill.ensures.value ∙ c.in-None.is) in
     absurd (cc)
 
 pub returns-clause-made : goal.returns-clause-made

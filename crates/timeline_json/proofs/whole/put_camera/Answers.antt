@@ -10,6 +10,7 @@ unfolding camera_text
 returns c =
     let opening : List ℕ = codes ",\"traceEvents\":[" in
     let name : List ℕ = compact_text camera_data in
-    on_ok_weaker c.put_naming.result
-    (λ (e : c.put_naming.new.out.items ≡ c.put.new.out.items ++ name). e ∙ (ap (λ (l : List ℕ). l ++ name) c.in_ok-put.ensures ∙ append_assoc c.args.out.now.items opening name))
-    c.put_naming.ensures
+    let written = rw c.in_ok-event.ensures at c.put_value.ensures in
+    on_ok_weaker c.put_value.result
+    (λ (e : c.put_value.new.out.items ≡ c.put.new.out.items ++ name). e ∙ (ap (λ (l : List ℕ). l ++ name) c.in_ok-put.ensures ∙ append_assoc c.args.out.now.items opening name))
+    written

@@ -1,6 +1,7 @@
-use Rattle.std.proofs.Common.{◌≡◌, ◌-◌, ℕ, Some, true, refl, sym, ap, subst, ◌∙◌, Option}
+use Rattle.std.proofs.Common.{◌≡◌, ◌-◌, ℕ, List, Some, true, refl, sym, ap, subst, ◌∙◌, Option}
 use Rattle.std.specs.Prelude.{is_some, slice_get, slice_set}
 use Rattle.std.proofs.lemmas.List.{length-set, map-set, set-set}
+use Rattle.cam_types.specs.Shown.{Shown}
 use Rattle.trace_model.specs.Place.{Pool, is_at}
 use Rattle.buffer_manager.specs.declared.slot.Slot.{Slot}
 use Rattle.buffer_manager.specs.declared.slot.Slot.TheVariants.{Away, Early, Late}
@@ -19,6 +20,11 @@ first-is h = cc
 
 second-is : {a b c d : ℕ} → Early a b ≡ Early c d → b ≡ d
 second-is h = cc
+
+-- the slot is empty, then the buffer is there, late
+late-slots : (slots empty new : List Slot) (i s w d : ℕ) (pixels : Shown) → Early s w ≡ Early d d → empty ≡ slice_set slots i Away → new ≡ slice_set empty i (Late pixels w) → new ≡ slice_set slots i (Late pixels d)
+late-slots slots empty new i s w d pixels early taken put =
+    put ∙ rw (taken, second-is early) (set-set slots i Away (Late pixels d))
 
 pub take_early-signaller-requires : goal.take_early-signaller-requires
 take_early-signaller-requires c =
@@ -48,11 +54,8 @@ invariant_of-self c =
     let early = early-at m.first m.slots.items m.late.signalled c.args.pixels.id.0 c.swap_slot.result c.self.invariant.1 (rw (← c.self.view_is) at c.requires.client) (rw (← c.self.view_is) at c.requires.awaited) (rw c.id.ensures at c.swap_slot.ensures.old) in
     let found = owner m.streams.items c.args.stream.0 b (rw (← c.self.view_is) at c.requires.own) in
     let whole = whole-at m.streams.items c.args.stream.0 found.stream c.args.pixels found.at (rw (← c.self.view_is) at c.requires.whole) in
-    let items : c.swap_slot.new.slots.items ≡ slice_set m.slots.items (c.args.pixels.id.0 - m.first) Away = rw c.id.ensures at c.swap_slot.ensures.new in
-    let waiter = second-is (sym c.take_early-signaller.ensures ∙ early.got) in
     let signaller = first-is (sym c.take_early-signaller.ensures ∙ early.got) in
-    let items' : c.swap_slot-2.new.slots.items ≡ slice_set (slice_set m.slots.items (c.args.pixels.id.0 - m.first) Away) (c.args.pixels.id.0 - m.first) (Late c.args.pixels early.device.0) = rw (c.id.ensures, items, waiter) at c.swap_slot-2.ensures.new in
-    let is = items' ∙ set-set m.slots.items (c.args.pixels.id.0 - m.first) Away (Late c.args.pixels early.device.0) in
+    let is = late-slots m.slots.items c.swap_slot.new.slots.items c.swap_slot-2.new.slots.items (c.args.pixels.id.0 - m.first) c.take_early-signaller.result.0 c.take_early-signaller.result.1 early.device.0 c.args.pixels (sym c.take_early-signaller.ensures ∙ early.got) (rw c.id.ensures at c.swap_slot.ensures.new) (rw c.id.ensures at c.swap_slot-2.ensures.new) in
     let late : c.signal.new.self ≡ with_signal early.device.0 m.late = rw signaller at c.signal.ensures.signalled in
     let v : Slot = Late c.args.pixels early.device.0 in
     let kept = c.self.invariant.0.stocked c.args.stream.0 found.stream found.at in
@@ -77,11 +80,8 @@ returns-clause-picture c =
     let m = c.self.inside in
     let b = c.args.pixels.id.0 in
     let early = early-at m.first m.slots.items m.late.signalled c.args.pixels.id.0 c.swap_slot.result c.self.invariant.1 (rw (← c.self.view_is) at c.requires.client) (rw (← c.self.view_is) at c.requires.awaited) (rw c.id.ensures at c.swap_slot.ensures.old) in
-    let items : c.swap_slot.new.slots.items ≡ slice_set m.slots.items (c.args.pixels.id.0 - m.first) Away = rw c.id.ensures at c.swap_slot.ensures.new in
-    let waiter = second-is (sym c.take_early-signaller.ensures ∙ early.got) in
     let signaller = first-is (sym c.take_early-signaller.ensures ∙ early.got) in
-    let items' : c.swap_slot-2.new.slots.items ≡ slice_set (slice_set m.slots.items (c.args.pixels.id.0 - m.first) Away) (c.args.pixels.id.0 - m.first) (Late c.args.pixels early.device.0) = rw (c.id.ensures, items, waiter) at c.swap_slot-2.ensures.new in
-    let is = items' ∙ set-set m.slots.items (c.args.pixels.id.0 - m.first) Away (Late c.args.pixels early.device.0) in
+    let is = late-slots m.slots.items c.swap_slot.new.slots.items c.swap_slot-2.new.slots.items (c.args.pixels.id.0 - m.first) c.take_early-signaller.result.0 c.take_early-signaller.result.1 early.device.0 c.args.pixels (sym c.take_early-signaller.ensures ∙ early.got) (rw c.id.ensures at c.swap_slot.ensures.new) (rw c.id.ensures at c.swap_slot-2.ensures.new) in
     let late : c.signal.new.self ≡ with_signal early.device.0 m.late = rw signaller at c.signal.ensures.signalled in
     let number = c.signal.ensures.number ∙ signaller in
     let old : slice_get m.slots.items (b - m.first) ≡ Some (Early early.device.0 early.device.0) = rw c.id.ensures at c.swap_slot.ensures.old ∙ ap Some early.got in

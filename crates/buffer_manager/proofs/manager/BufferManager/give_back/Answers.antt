@@ -1,27 +1,33 @@
-use Rattle.std.proofs.Common.{◌≡◌, ◌-◌, refl, ap}
-use Rattle.std.specs.Prelude.{slice_set}
+use Rattle.std.proofs.Common.{◌≡◌, ℕ, ◌-◌, true, refl, ap}
+use Rattle.std.specs.Prelude.{slice_get, slice_set}
 use Rattle.std.proofs.lemmas.List.{length-set, map-set}
-use Rattle.trace_model.specs.Place.{Pool, is_at}
+use Rattle.trace_model.specs.Place.{Device, Pool, is_at}
+use Rattle.buffer_pool.specs.declared.parked.Parked.{Parked}
+use Rattle.buffer_manager.specs.Kept.{AreKept}
+use Rattle.buffer_manager.specs.declared.manager.BufferManager.TheInside.{Inside}
 use Rattle.buffer_manager.specs.declared.slot.Slot.{Slot}
 use Rattle.buffer_manager.specs.declared.slot.Slot.TheVariants.{Home}
 use Rattle.buffer_manager.specs.declared.stream.Stream.{Stream}
 use Rattle.buffer_manager.specs.Managed.{fence_from}
 use Rattle.buffer_manager.specs.Slots.{fence_of, held_of, picture_of, place_of}
-use Rattle.buffer_manager.specs.Streams.{with_given}
+use Rattle.buffer_manager.specs.Streams.{MayGive, with_given}
 use Rattle.buffer_manager.proofs.Lists.{map-set-same}
-use Rattle.buffer_manager.proofs.Moves.{kept-moved, lent-set, owner, whole-at}
+use Rattle.buffer_manager.proofs.Moves.{Found, kept-moved, lent-set, owner, whole-at}
 use Rattle.buffer_manager.proofs.Pools.{may-give, stocked-given}
-use Rattle.buffer_manager.proofs.Spots.{away-at, timely-plain}
+use Rattle.buffer_manager.proofs.Spots.{away-at, place_at, timely-plain}
 use Rattle.buffer_manager.proofs.manager.BufferManager.give_back.Goals as goal
+
+-- the pool of a buffer that is at the device takes it
+may-come : (m : Inside) (k : ℕ) (parked : Parked) → AreKept m.first m.streams.items m.slots.items → Found m.streams.items k parked.pixels.id.0 → is_at (place_at m.first m.slots.items parked.pixels.id.0) Device ≡ true → MayGive parked (slice_get m.streams.items k)
+may-come m k parked kept found device =
+    let away = away-at m.first m.slots.items parked.pixels.id.0 device in
+    rw found.at (may-give m.first m.slots.items found.stream parked (kept.stocked k found.stream found.at) found.owns (ap (λ x. is_at (place_of x) Pool) away.at))
 
 pub give_to-requires : goal.give_to-requires
 give_to-requires c =
     let m = c.self.inside in
-    let b = c.args.parked.pixels.id.0 in
-    let found = owner m.streams.items c.args.stream.0 b (rw (← c.self.view_is) at c.requires.own) in
-    let away = away-at m.first m.slots.items b (rw (← c.self.view_is) at c.requires.device) in
-    let kept = c.self.invariant.0.stocked c.args.stream.0 found.stream found.at in
-    rw found.at (may-give m.first m.slots.items found.stream c.args.parked kept found.owns (ap (λ x. is_at (place_of x) Pool) away.at))
+    let found = owner m.streams.items c.args.stream.0 c.args.parked.pixels.id.0 (rw (← c.self.view_is) at c.requires.own) in
+    may-come m c.args.stream.0 c.args.parked c.self.invariant.0 found (rw (← c.self.view_is) at c.requires.device)
 
 pub invariant_of-self : goal.invariant_of-self
 invariant_of-self c =

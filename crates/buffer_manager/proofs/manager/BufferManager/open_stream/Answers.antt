@@ -1,5 +1,6 @@
 use Rattle.std.proofs.Common.{◌≡◌, ◌+◌, ◌<◌, ◌++◌, [], ℕ, List, Option, None, refl, ap, ◌∙◌, arith, length, map}
 use Rattle.std.proofs.lemmas.List.{length-append, length-map, length-replicate, map-append, map_push}
+use Rattle.cam_types.specs.declared.number.DeviceFenceNo.{DeviceFenceNo}
 use Rattle.cam_types.specs.declared.number.FenceNo.{FenceNo}
 use Rattle.trace_model.specs.Place.{Place}
 use Rattle.buffer_manager.specs.declared.slot.Slot.TheVariants.{Home}
@@ -60,6 +61,6 @@ returns c =
     let specs = map_push (λ (s : Stream). s.spec) m.streams.items (record { spec = c.args.spec; made = record { first = record { 0 = c.next_buffer.result }; count = c.pool_size-count.result }; pool = c.open_in-pool.result }) in
     let places = map-append place_of m.slots.items (fresh c.pool_size-count.result) ∙ ap (λ (x : List Place). map place_of m.slots.items ++ x) (map-replicate place_of c.pool_size-count.result (Home None)) in
     let fences = map-append fence_of m.slots.items (fresh c.pool_size-count.result) ∙ ap (λ (x : List (Option FenceNo)). map fence_of m.slots.items ++ x) (map-replicate fence_of c.pool_size-count.result (Home None)) in
-    let held = map-append held_of m.slots.items (fresh c.pool_size-count.result) ∙ ap (λ (x : List (Option FenceNo)). map held_of m.slots.items ++ x) (map-replicate held_of c.pool_size-count.result (Home None)) in
+    let held = map-append held_of m.slots.items (fresh c.pool_size-count.result) ∙ ap (λ (x : List (Option DeviceFenceNo)). map held_of m.slots.items ++ x) (map-replicate held_of c.pool_size-count.result (Home None)) in
     let pictures = map-append picture_of m.slots.items (fresh c.pool_size-count.result) ∙ ap (λ (x : List (Option (List ℕ))). map picture_of m.slots.items ++ x) (map-replicate picture_of c.pool_size-count.result (Home None)) in
     rw (c.push_reserved.ensures.items, c.add_homes.ensures.slots, made, specs, places, fences, held, pictures, c.next_buffer.ensures, c.pool_size-count.ensures, ← c.self.view_is) refl

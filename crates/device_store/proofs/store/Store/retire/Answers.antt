@@ -24,27 +24,22 @@ pub unreachable-requires-in-Away : goal.unreachable-requires-in-Away
 unreachable-requires-in-Away c =
     let (row, d) = done-row (row_at c.args.frame.0 (views c.self.inside.table.rows)) (rw (← c.self.view_is) at c.requires) in
     let same = some-same row c.in-Some._row _ d.at (find-views c.args.frame.0 c.self.inside.table.rows ∙ c.in-Some.ensures.found) in
-    let placed = c.in-Some.ensures.placed ∙ ap (λ (z : RowView). Some z) (sym same) in
-    slot-here c.self.inside.plan c.self.inside.table.rows c.self.inside.table.capacity c.self.inside.slots.items (length c.self.inside.spares.items) (vec_capacity c.self.inside.slots) (vec_capacity c.self.inside.spares) c.args.frame.0 c.in-Some.place row c.remove.result c.self.invariant d.at d.settled placed c.remove.ensures.value c.in-Away.is
+    slot-here c.self.inside.plan c.self.inside.table.rows c.self.inside.table.capacity c.self.inside.slots.items (length c.self.inside.spares.items) (vec_capacity c.self.inside.slots) (vec_capacity c.self.inside.spares) c.args.frame.0 c.in-Some.place row c.remove.result c.self.invariant d.at d.settled (c.in-Some.ensures.placed ∙ ap (λ (z : RowView). Some z) (sym same)) c.remove.ensures.value c.in-Away.is
 
 pub invariant_of-self : goal.invariant_of-self
 invariant_of-self c =
     let (row, d) = done-row (row_at c.args.frame.0 (views c.self.inside.table.rows)) (rw (← c.self.view_is) at c.requires) in
     let same = some-same row c.in-Some._row _ d.at (find-views c.args.frame.0 c.self.inside.table.rows ∙ c.in-Some.ensures.found) in
-    let placed = c.in-Some.ensures.placed ∙ ap (λ (z : RowView). Some z) (sym same) in
-    let own = ap (λ (z : RowView). z.frame.0) same ∙ c.in-Some.ensures.own in
     let cleared = cleared-row c.self.inside.plan c.self.inside.table.rows c.args.frame.0 row c.self.invariant.filled d.at d.settled in
     let more : length c.push_reserved.new.self.items ≡ length c.self.inside.spares.items + 1 = grind (arith, common_steps) in
     let fewer = c.retire.ensures.fewer (c.retire.ensures.value ∙ cleared) in
-    (retired c.self.inside.plan c.self.inside.table c.retire.new.self c.self.inside.slots.items c.remove.new.self.items (length c.self.inside.spares.items) (length c.push_reserved.new.self.items) (vec_capacity c.self.inside.slots) (vec_capacity c.remove.new.self) (vec_capacity c.self.inside.spares) (vec_capacity c.push_reserved.new.self) c.args.frame.0 c.in-Some.place row c.self.invariant d.at d.settled placed own c.remove.ensures.items more c.remove.ensures.capacity c.push_reserved.ensures.capacity c.retire.ensures.left fewer).kept
+    (retired c.self.inside.plan c.self.inside.table c.retire.new.self c.self.inside.slots.items c.remove.new.self.items (length c.self.inside.spares.items) (length c.push_reserved.new.self.items) (vec_capacity c.self.inside.slots) (vec_capacity c.remove.new.self) (vec_capacity c.self.inside.spares) (vec_capacity c.push_reserved.new.self) c.args.frame.0 c.in-Some.place row c.self.invariant d.at d.settled (c.in-Some.ensures.placed ∙ ap (λ (z : RowView). Some z) (sym same)) (ap (λ (z : RowView). z.frame.0) same ∙ c.in-Some.ensures.own) c.remove.ensures.items more c.remove.ensures.capacity c.push_reserved.ensures.capacity c.retire.ensures.left fewer).kept
 
 pub returns : goal.returns
 returns c =
     let (row, d) = done-row (row_at c.args.frame.0 (views c.self.inside.table.rows)) (rw (← c.self.view_is) at c.requires) in
     let same = some-same row c.in-Some._row _ d.at (find-views c.args.frame.0 c.self.inside.table.rows ∙ c.in-Some.ensures.found) in
-    let placed = c.in-Some.ensures.placed ∙ ap (λ (z : RowView). Some z) (sym same) in
-    let own = ap (λ (z : RowView). z.frame.0) same ∙ c.in-Some.ensures.own in
     let cleared = cleared-row c.self.inside.plan c.self.inside.table.rows c.args.frame.0 row c.self.invariant.filled d.at d.settled in
     let more : length c.push_reserved.new.self.items ≡ length c.self.inside.spares.items + 1 = grind (arith, common_steps) in
     let fewer = c.retire.ensures.fewer (c.retire.ensures.value ∙ cleared) in
-    rw (← c.self.view_is) (retired c.self.inside.plan c.self.inside.table c.retire.new.self c.self.inside.slots.items c.remove.new.self.items (length c.self.inside.spares.items) (length c.push_reserved.new.self.items) (vec_capacity c.self.inside.slots) (vec_capacity c.remove.new.self) (vec_capacity c.self.inside.spares) (vec_capacity c.push_reserved.new.self) c.args.frame.0 c.in-Some.place row c.self.invariant d.at d.settled placed own c.remove.ensures.items more c.remove.ensures.capacity c.push_reserved.ensures.capacity c.retire.ensures.left fewer).is
+    rw (← c.self.view_is) (retired c.self.inside.plan c.self.inside.table c.retire.new.self c.self.inside.slots.items c.remove.new.self.items (length c.self.inside.spares.items) (length c.push_reserved.new.self.items) (vec_capacity c.self.inside.slots) (vec_capacity c.remove.new.self) (vec_capacity c.self.inside.spares) (vec_capacity c.push_reserved.new.self) c.args.frame.0 c.in-Some.place row c.self.invariant d.at d.settled (c.in-Some.ensures.placed ∙ ap (λ (z : RowView). Some z) (sym same)) (ap (λ (z : RowView). z.frame.0) same ∙ c.in-Some.ensures.own) c.remove.ensures.items more c.remove.ensures.capacity c.push_reserved.ensures.capacity c.retire.ensures.left fewer).is

@@ -7,10 +7,10 @@ use Rattle.fill_jobs.proofs.job.FillJob.fill_with.Goals as goal
 pub digest_with-digest-requires-clause-shown : goal.digest_with-digest-requires-clause-shown
 digest_with-digest-requires-clause-shown c =
     ap (λ (shown : Shown). shown.bytes) c.draw_alone.ensures
-    ∙ drawn-is c.self.inside.target.spec c.self.inside.settings c.self.inside.frame.0 c.self.inside.readout c.self.invariant.exposed
+    ∙ drawn-is c.self.inside.fill.target.spec c.self.inside.fill.settings c.self.inside.fill.frame.0 c.self.inside.fill.readout c.self.invariant.exposed
 
 pub invariant_of-result : goal.invariant_of-result
 invariant_of-result c =
-    filled-of c.self.inside.settings c.self.inside.frame.0 c.self.inside.target c.self.inside.readout c.self.inside.pixels c.draw_alone.new.pixels c.digest_with-digest.result c.self.invariant c.draw_alone.ensures
+    filled-of c.self.inside.fill.settings c.self.inside.fill.frame.0 c.self.inside.fill.target c.self.inside.fill.readout c.self.inside.fill.pixels c.draw_alone.new.pixels c.digest_with-digest.result c.self.invariant c.draw_alone.ensures
     (c.digest_with-digest.ensures
-    ∙ ap (λ (shown : List ℕ). sha256 shown) (sym (drawn-is c.self.inside.target.spec c.self.inside.settings c.self.inside.frame.0 c.self.inside.readout c.self.invariant.exposed)))
+    ∙ ap (λ (shown : List ℕ). sha256 shown) (sym (drawn-is c.self.inside.fill.target.spec c.self.inside.fill.settings c.self.inside.fill.frame.0 c.self.inside.fill.readout c.self.invariant.exposed)))

@@ -7,5 +7,5 @@ returns-clause-step c =
     let f = c.self.inside.first in
     let s = c.self.inside.second in
     let choice = rw c.from.ensures at c.step-entry.ensures.made in
-    let made = step-second f s c.step-entry.new.self c.args.number c.step-entry.result c.pair_by_second-paired.result (take (length c.trace-seen.result.now) c.trace-second.result.now) c.trace.result.now c.trace-second.result.now c.self.invariant.0 choice (rw (c.trace-seen.ensures, c.trace-second.ensures) refl) c.trace.ensures c.trace-second.ensures c.pair_by_second-paired.ensures in
+    let made = step-second f s c.step-entry.new.self c.args.number c.step-entry.result c.pair_after-paired.result (take (length c.trace-seen.result.now) c.trace-second.result.now) c.trace-first.result.now c.trace-second.result.now c.self.invariant.0 choice (rw (c.trace-seen.ensures, c.trace-second.ensures) refl) c.trace-first.ensures c.trace-second.ensures c.pair_after-paired.ensures in
     (refl, rw (← c.self.view_is) made)

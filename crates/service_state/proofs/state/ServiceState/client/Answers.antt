@@ -8,7 +8,7 @@ use Rattle.trace_model.specs.declared.entry.Entry.{Entry}
 use Rattle.trace_model.specs.declared.entry.Entry.TheVariants.{Begin, Call}
 use Rattle.service_state.specs.Configuring.{due_in}
 use Rattle.service_state.proofs.Calls.{IsClientEntry, buffers_have_room, due_kind}
-use Rattle.service_state.proofs.Made.{shown}
+use Rattle.service_state.proofs.Made.{held}
 use Rattle.service_state.proofs.state.ServiceState.client.Goals as goal
 
 pub due-requires-clause-numbered : goal.due-requires-clause-numbered
@@ -19,7 +19,7 @@ due-requires-clause-numbered c =
 pub unreachable-requires : goal.unreachable-requires
 unreachable-requires c =
     let i = c.self.inside in
-    let s = shown i.script i.client i.captures i.buffers i.fences i.device i.last i.clock in
+    let s = held i in
     let around : IsAround c.around.result s.parts.queue s.parts.buffers = subst (λ x. IsAround c.around.result x.parts.queue x.parts.buffers) (sym c.self.view_is) c.around.ensures.around in
     let quiet : c.around.result.quiet ≡ is_no_row s.parts.rows = subst (λ x. c.around.result.quiet ≡ is_no_row x.parts.rows) (sym c.self.view_is) c.around.ensures.quiet in
     let due : due_in s ≡ Some c.in_ok-entry.entry = sym (c.in_ok-entry.ensures s.parts.queue s.parts.buffers around ∙ ap (λ (b : Bool). or_entry (begin_in i.script i.client) (call_in i.script b i.client s.parts.queue s.parts.buffers)) quiet) in

@@ -1,20 +1,16 @@
-use Rattle.std.proofs.Common.{◌≡◌, sym, ap, ◌∙◌}
+use Rattle.std.proofs.Common.{sym, ap, ◌∙◌}
 use Rattle.capture_queue.specs.Captures.{Captures}
-use Rattle.service_state.proofs.Made.{makes_as, serving_as, shown}
+use Rattle.service_state.proofs.Made.{held, makes_as, serving_as}
 use Rattle.service_state.proofs.Sending.{drop_numbered}
 use Rattle.service_state.proofs.Steps.{dropped}
 use Rattle.service_state.proofs.state.ServiceState.drop_queued.Goals as goal
 
 pub drop_first-requires-clause-numbered : goal.drop_first-requires-clause-numbered
 drop_first-requires-clause-numbered c =
-    let i = c.self.inside in
-    let s = shown i.script i.client i.captures i.buffers i.fences i.device i.last i.clock in
+    let s = held c.self.inside in
     let serving = serving_as s c.args.self.now c.self.view_is c.requires in
-    let at = c.in_ok-first.ensures in
-    let stops = sym c.if-not-is_stopping.ensures in
-    let next : c.next_frame-frame.result.0 ≡ i.captures.turns.numbers = c.next_frame-frame.ensures in
-    let made = dropped s serving c.in_ok-first.first c.next_frame-frame.result stops (sym at) next in
-    drop_numbered s serving c.in_ok-first.first c.next_frame-frame.result next made.ready
+    let made = dropped s serving c.in_ok-first.first c.next_frame-frame.result (sym c.if-not-is_stopping.ensures) (sym c.in_ok-first.ensures) c.next_frame-frame.ensures in
+    drop_numbered s serving c.in_ok-first.first c.next_frame-frame.result c.next_frame-frame.ensures made.ready
 
 pub invariant_of-self : goal.invariant_of-self
 invariant_of-self c =
@@ -36,12 +32,6 @@ invariant_of-self c =
 
 pub returns : goal.returns
 returns c =
-    let i = c.self.inside in
-    let s = shown i.script i.client i.captures i.buffers i.fences i.device i.last i.clock in
-    let serving = serving_as s c.args.self.now c.self.view_is c.requires in
-    let at = c.in_ok-first.ensures in
-    let stops = sym c.if-not-is_stopping.ensures in
-    let next : c.next_frame-frame.result.0 ≡ i.captures.turns.numbers = c.next_frame-frame.ensures in
-    let made = dropped s serving c.in_ok-first.first c.next_frame-frame.result stops (sym at) next in
-    makes_as s c.args.self.now _ _ c.self.view_is c.requires (λ serving'.
-    rw (c.drop_first.ensures i.script c.in_ok-first.first.request c.in_ok-first.first.index c.next_frame-frame.result next) made)
+    let s = held c.self.inside in
+    makes_as s c.args.self.now _ _ c.self.view_is c.requires (λ serving.
+    rw (c.drop_first.ensures c.self.inside.script c.in_ok-first.first.request c.in_ok-first.first.index c.next_frame-frame.result c.next_frame-frame.ensures) (dropped s serving c.in_ok-first.first c.next_frame-frame.result (sym c.if-not-is_stopping.ensures) (sym c.in_ok-first.ensures) c.next_frame-frame.ensures))

@@ -5,7 +5,7 @@ use Rattle.run_model.specs.Ready.{or_entry}
 use Rattle.run_model.specs.declared.step.StepName.TheVariants.{Client}
 use Rattle.run_rows.specs.Kept.{is_no_row}
 use Rattle.service_state.proofs.Calls.{buffers_have_room}
-use Rattle.service_state.proofs.Made.{shown}
+use Rattle.service_state.proofs.Made.{held}
 use Rattle.service_state.proofs.Readiness.{call_is, ready_as}
 use Rattle.service_state.proofs.state.ServiceState.may_call.Goals as goal
 
@@ -17,7 +17,7 @@ due-requires-clause-numbered c =
 pub returns : goal.returns
 returns c =
     let i = c.self.inside in
-    let s = shown i.script i.client i.captures i.buffers i.fences i.device i.last i.clock in
+    let s = held i in
     let around : IsAround c.around.result s.parts.queue s.parts.buffers = subst (λ x. IsAround c.around.result x.parts.queue x.parts.buffers) (sym c.self.view_is) c.around.ensures.around in
     let quiet : c.around.result.quiet ≡ is_no_row s.parts.rows = subst (λ x. c.around.result.quiet ≡ is_no_row x.parts.rows) (sym c.self.view_is) c.around.ensures.quiet in
     let due : c.due.result ≡ or_entry (begin_in i.script i.client) (call_in i.script (is_no_row s.parts.rows) i.client s.parts.queue s.parts.buffers) = c.due.ensures s.parts.queue s.parts.buffers around ∙ ap (λ (b : Bool). or_entry (begin_in i.script i.client) (call_in i.script b i.client s.parts.queue s.parts.buffers)) quiet in

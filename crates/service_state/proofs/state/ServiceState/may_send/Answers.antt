@@ -5,14 +5,14 @@ use Rattle.trace_model.specs.Send.{targets_in_order}
 use Rattle.buffer_manager.specs.Taking.{least_targets_in}
 use Rattle.service_parts.specs.Moves.{may_go_by}
 use Rattle.service_state.specs.Serving.{Serving}
-use Rattle.service_state.proofs.Made.{shown}
+use Rattle.service_state.proofs.Made.{held}
 use Rattle.service_state.proofs.Readiness.{next_sent, ready_as, then_second}
 use Rattle.service_state.proofs.state.ServiceState.may_send.Goals as goal
 
 pub returns-then-may_go : goal.returns-then-may_go
 returns-then-may_go c =
     let i = c.self.inside in
-    let s = shown i.script i.client i.captures i.buffers i.fences i.device i.last i.clock in
+    let s = held i in
     let next = c.in-Some.next in
     let at : next_of i.captures.turns ≡ Some next = sym c.peek.ensures ∙ c.in-Some.is in
     let may : may_go_by i.script s.parts next ≡ true = subst (λ (x : Serving). may_go_by x.script x.parts next ≡ true) (sym c.self.view_is) (sym c.may_go.ensures ∙ c.if-may_go.true) in

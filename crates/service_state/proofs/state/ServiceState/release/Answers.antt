@@ -1,20 +1,26 @@
-use Rattle.std.proofs.Common.{◌≡◌, true, refl, sym, ◌∙◌, length}
+use Rattle.std.proofs.Common.{◌≡◌, ◌<◌, true, refl, sym, ◌∙◌, length}
 use Rattle.std.proofs.Common.{arith}
+use Rattle.cam_types.specs.declared.number.BufferId.{BufferId}
+use Rattle.cam_types.specs.declared.number.FenceNo.{FenceNo}
+use Rattle.trace_laws.specs.Bounds.{fence_bound}
 use Rattle.buffer_manager.specs.Managed.{may_be_released}
-use Rattle.service_state.proofs.Made.{makes_as, serving_as, shown}
+use Rattle.service_state.specs.Serving.{IsServing, Serving}
+use Rattle.service_state.specs.declared.state.ServiceState.TheInside.{Inside}
+use Rattle.service_state.proofs.Made.{held, makes_as, serving_as}
 use Rattle.service_state.proofs.Room.{release_has_room}
 use Rattle.service_state.proofs.Signallers.{below_first, no_more, with_first}
 use Rattle.service_state.proofs.Steps.{released}
 use Rattle.service_state.proofs.state.ServiceState.release.Goals as goal
 
+-- there is room for one more fence
+room-of : (i : Inside) (s : Serving) → held i ≡ s → IsServing s → (b : BufferId) → may_be_released i.buffers b.0 ≡ true → length i.fences.signalled < fence_bound i.script
+room-of i s same serving' b may =
+    let serving = serving_as (held i) s same serving' in
+    let next : FenceNo = record { 0 = length i.fences.signalled } in
+    release_has_room (held i) serving b next (released (held i) serving b may next refl).ready
+
 pub make_in-signaller-requires : goal.make_in-signaller-requires
-make_in-signaller-requires c =
-    let i = c.self.inside in
-    let s = shown i.script i.client i.captures i.buffers i.fences i.device i.last i.clock in
-    let serving = serving_as s c.args.self.now c.self.view_is c.requires in
-    let may : may_be_released i.buffers c.args.buffer.0 ≡ true = sym c.if-not-may_release.ensures in
-    let made = released s serving c.args.buffer may (record { 0 = length i.fences.signalled }) refl in
-    rw c.self.invariant.fence_room (release_has_room s serving c.args.buffer (record { 0 = length i.fences.signalled }) made.ready)
+make_in-signaller-requires c = rw c.self.invariant.fence_room (room-of c.self.inside c.args.self.now c.self.view_is c.requires c.args.buffer (sym c.if-not-may_release.ensures))
 
 pub push-requires-clause-later : goal.push-requires-clause-later
 push-requires-clause-later c =
@@ -23,13 +29,8 @@ push-requires-clause-later c =
 
 pub push-requires-clause-room : goal.push-requires-clause-room
 push-requires-clause-room c =
-    let i = c.self.inside in
-    let s = shown i.script i.client i.captures i.buffers i.fences i.device i.last i.clock in
-    let serving = serving_as s c.args.self.now c.self.view_is c.requires in
-    let may : may_be_released i.buffers c.args.buffer.0 ≡ true = sym c.if-not-may_release.ensures in
-    let made = released s serving c.args.buffer may (record { 0 = length i.fences.signalled }) refl in
-    let room = release_has_room s serving c.args.buffer (record { 0 = length i.fences.signalled }) made.ready in
-    let few = no_more 0 i.fences.signalled in
+    let room = room-of c.self.inside c.args.self.now c.self.view_is c.requires c.args.buffer (sym c.if-not-may_release.ensures) in
+    let few = no_more 0 c.self.inside.fences.signalled in
     rw (c.self.invariant.signal_room, c.self.invariant.signallers) (omega (arith, few, room))
 
 pub invariant_of-self : goal.invariant_of-self
@@ -51,9 +52,7 @@ invariant_of-self c =
 
 pub returns : goal.returns
 returns c =
-    let i = c.self.inside in
-    let s = shown i.script i.client i.captures i.buffers i.fences i.device i.last i.clock in
-    let serving = serving_as s c.args.self.now c.self.view_is c.requires in
-    let may : may_be_released i.buffers c.args.buffer.0 ≡ true = sym c.if-not-may_release.ensures in
-    makes_as s c.args.self.now _ _ c.self.view_is c.requires (λ serving'.
+    let s = held c.self.inside in
+    let may : may_be_released c.self.inside.buffers c.args.buffer.0 ≡ true = sym c.if-not-may_release.ensures in
+    makes_as s c.args.self.now _ _ c.self.view_is c.requires (λ serving.
     rw (c.release.ensures, c.make_in-signaller.ensures.made, sym c.number.ensures) (released s serving c.args.buffer may (record { 0 = c.number.result }) (c.number.ensures ∙ c.make_in-signaller.ensures.waiter)))

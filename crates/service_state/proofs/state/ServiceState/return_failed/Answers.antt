@@ -1,77 +1,43 @@
-use Rattle.std.proofs.Common.{◌≡◌, Bool, true, false, refl, sym, ap, ◌∙◌, slice_get, subst}
-use Rattle.device_store.specs.Steps.{IsBackAt}
+use Rattle.std.proofs.Common.{refl, sym, ◌∙◌}
 use Rattle.device_rows.specs.Ready.{is_failed_return_ready}
+use Rattle.service_state.proofs.Back.{failed_back}
 use Rattle.service_state.proofs.FrameSteps.{not_failed, returns_failed}
-use Rattle.service_state.proofs.Made.{makes_as, serving_as, shown, stays_as}
-use Rattle.service_state.proofs.Outs.{failed_place, own_in, whole_at}
-use Rattle.service_state.proofs.Room.{placed, rows_given}
-use Rattle.service_state.proofs.Shown.{back_for}
+use Rattle.service_state.proofs.Made.{held, makes_as, not_true, serving_as, stays_as}
+use Rattle.service_state.proofs.Outs.{failed_place}
+use Rattle.service_state.proofs.Room.{rows_given}
 use Rattle.service_state.proofs.state.ServiceState.return_failed.Goals as goal
 
 pub return_failed-requires : goal.return_failed-requires
 return_failed-requires c =
-    let i = c.self.inside in
-    let s = shown i.script i.client i.captures i.buffers i.fences i.device i.last i.clock in
+    let s = held c.self.inside in
     rows_given s (serving_as s c.args.self.now c.self.view_is c.requires)
 
 pub returns-in_err-parked : goal.returns-in_err-parked
 returns-in_err-parked c =
     let i = c.self.inside in
-    let s = shown i.script i.client i.captures i.buffers i.fences i.device i.last i.clock in
     let told = c.in_err-parked.ensures in
-    rw c.from_residual.ensures (stays_as s c.args.self.now _ _ c.self.view_is (rw (told.fences, told.unchanged refl) refl) (not_failed s c.args.frame c.args.stream (by (is_failed_return_ready i.device.rows c.args.frame.0 c.args.stream.0) told.ready.1)))
-  where
-    by : (b : Bool) → (b ≡ true → false ≡ true) → b ≡ false
-    by true h = sym (h refl)
-    by false h = refl
+    rw c.from_residual.ensures (stays_as (held i) c.args.self.now _ _ c.self.view_is (rw (told.fences, told.unchanged refl) refl) (not_failed (held i) c.args.frame c.args.stream (not_true (is_failed_return_ready i.device.rows c.args.frame.0 c.args.stream.0) told.ready.1)))
 
-pub give_back-requires-clause-own : goal.give_back-requires-clause-own
-give_back-requires-clause-own c =
-    let i = c.self.inside in
-    let s = shown i.script i.client i.captures i.buffers i.fences i.device i.last i.clock in
-    let serving = serving_as s c.args.self.now c.self.view_is c.requires in
-    let told = c.in_ok-parked.ensures in
-    let back : IsBackAt i.fences i.client.streams c.args.frame.0 c.args.stream.0 i.device.rows c.in_ok-parked.parked = subst (λ x. IsBackAt i.fences x c.args.frame.0 c.args.stream.0 i.device.rows c.in_ok-parked.parked) c.self.invariant.plan told.parked in
-    let it = back_for i.fences i.client.streams c.args.frame.0 c.args.stream.0 i.device.rows c.in_ok-parked.parked back in
-    own_in (slice_get i.buffers.made c.args.stream.0) it.target.buffer.0 c.in_ok-parked.parked.pixels.id.0 (ap (λ b. b.0) it.whole.id) (placed s serving c.args.frame.0 c.args.stream.0 it.target it.found).own
+pub give_back-requires : goal.give_back-requires
+give_back-requires c =
+    let h = failed_back c.self.inside c.self.invariant c.args.self.now c.self.view_is c.requires c.args.frame c.args.stream c.in_ok-parked.parked c.in_ok-parked.ensures.parked in
+    record {
+      own = h.own;
+      whole = h.whole;
+      device = rw h.it.whole.id (failed_place (held c.self.inside) h.serving c.args.frame.0 c.args.stream.0 h.it.target (c.in_ok-parked.ensures.ready.0 refl) h.it.found);
+    }
 
-pub give_back-requires-clause-whole : goal.give_back-requires-clause-whole
-give_back-requires-clause-whole c =
-    let i = c.self.inside in
-    let s = shown i.script i.client i.captures i.buffers i.fences i.device i.last i.clock in
-    let serving = serving_as s c.args.self.now c.self.view_is c.requires in
+pub note_entry-requires : goal.note_entry-requires
+note_entry-requires c =
     let told = c.in_ok-parked.ensures in
-    let back : IsBackAt i.fences i.client.streams c.args.frame.0 c.args.stream.0 i.device.rows c.in_ok-parked.parked = subst (λ x. IsBackAt i.fences x c.args.frame.0 c.args.stream.0 i.device.rows c.in_ok-parked.parked) c.self.invariant.plan told.parked in
-    let it = back_for i.fences i.client.streams c.args.frame.0 c.args.stream.0 i.device.rows c.in_ok-parked.parked back in
-    whole_at (slice_get i.buffers.specs c.args.stream.0) it.spec it.target.buffer c.in_ok-parked.parked.pixels (ap (λ x. slice_get x c.args.stream.0) c.self.invariant.specs ∙ it.stream) it.whole
-
-pub give_back-requires-clause-device : goal.give_back-requires-clause-device
-give_back-requires-clause-device c =
-    let i = c.self.inside in
-    let s = shown i.script i.client i.captures i.buffers i.fences i.device i.last i.clock in
-    let serving = serving_as s c.args.self.now c.self.view_is c.requires in
-    let told = c.in_ok-parked.ensures in
-    let back : IsBackAt i.fences i.client.streams c.args.frame.0 c.args.stream.0 i.device.rows c.in_ok-parked.parked = subst (λ x. IsBackAt i.fences x c.args.frame.0 c.args.stream.0 i.device.rows c.in_ok-parked.parked) c.self.invariant.plan told.parked in
-    let it = back_for i.fences i.client.streams c.args.frame.0 c.args.stream.0 i.device.rows c.in_ok-parked.parked back in
-    rw it.whole.id (failed_place s serving c.args.frame.0 c.args.stream.0 it.target (told.ready.0 refl) it.found)
-
-pub note_end-requires : goal.note_end-requires
-note_end-requires c =
-    let i = c.self.inside in
-    let s = shown i.script i.client i.captures i.buffers i.fences i.device i.last i.clock in
-    let serving = serving_as s c.args.self.now c.self.view_is c.requires in
-    let told = c.in_ok-parked.ensures in
-    let back : IsBackAt i.fences i.client.streams c.args.frame.0 c.args.stream.0 i.device.rows c.in_ok-parked.parked = subst (λ x. IsBackAt i.fences x c.args.frame.0 c.args.stream.0 i.device.rows c.in_ok-parked.parked) c.self.invariant.plan told.parked in
-    let it = back_for i.fences i.client.streams c.args.frame.0 c.args.stream.0 i.device.rows c.in_ok-parked.parked back in
-    rw (c.repeats-repeats.ensures, told.rows) (returns_failed s serving c.args.frame c.args.stream it.target c.fence_of-fence.result (told.ready.0 refl) it.found (c.fence_of-fence.ensures ∙ it.fence)).fits
+    let h = failed_back c.self.inside c.self.invariant c.args.self.now c.self.view_is c.requires c.args.frame c.args.stream c.in_ok-parked.parked c.in_ok-parked.ensures.parked in
+    let step = returns_failed (held c.self.inside) h.serving c.args.frame c.args.stream h.it.target c.fence_of-fence.result (told.ready.0 refl) h.it.found (c.fence_of-fence.ensures ∙ h.it.fence) in
+    rw (c.of-ending.ensures, told.rows) step.fits
 
 pub returns : goal.returns
 returns c =
-    let i = c.self.inside in
-    let s = shown i.script i.client i.captures i.buffers i.fences i.device i.last i.clock in
-    let serving = serving_as s c.args.self.now c.self.view_is c.requires in
     let told = c.in_ok-parked.ensures in
-    let back : IsBackAt i.fences i.client.streams c.args.frame.0 c.args.stream.0 i.device.rows c.in_ok-parked.parked = subst (λ x. IsBackAt i.fences x c.args.frame.0 c.args.stream.0 i.device.rows c.in_ok-parked.parked) c.self.invariant.plan told.parked in
-    let it = back_for i.fences i.client.streams c.args.frame.0 c.args.stream.0 i.device.rows c.in_ok-parked.parked back in
-    makes_as s c.args.self.now _ _ c.self.view_is c.requires (λ serving'.
-    rw (c.note_end.ensures.client, c.note_end.ensures.device, c.give_back.ensures, sym c.fence_of-fence.ensures, c.repeats-repeats.ensures, told.rows, told.fences, c.id-buffer.ensures, it.whole.id) (returns_failed s serving c.args.frame c.args.stream it.target c.fence_of-fence.result (told.ready.0 refl) it.found (c.fence_of-fence.ensures ∙ it.fence)).made)
+    let h = failed_back c.self.inside c.self.invariant c.args.self.now c.self.view_is c.requires c.args.frame c.args.stream c.in_ok-parked.parked c.in_ok-parked.ensures.parked in
+    let step = returns_failed (held c.self.inside) h.serving c.args.frame c.args.stream h.it.target c.fence_of-fence.result (told.ready.0 refl) h.it.found (c.fence_of-fence.ensures ∙ h.it.fence) in
+    makes_as (held c.self.inside) c.args.self.now _ _ c.self.view_is c.requires (λ serving'.
+    rw (c.note_entry.ensures.client, c.note_entry.ensures.device, c.give_back.ensures, sym c.fence_of-fence.ensures, c.of-ending.ensures, told.rows, told.fences, c.id-buffer.ensures, h.it.whole.id) step.made)

@@ -1,26 +1,21 @@
-use Rattle.std.proofs.Common.{◌≡◌, true, [], Some, None, refl, sym, ap, ◌∙◌, subst}
+use Rattle.std.proofs.Common.{◌≡◌, [], Some, None, refl, sym, ap, ◌∙◌}
 use Rattle.capture_queue.specs.Captures.{Captures}
 use Rattle.buffer_manager.specs.Managed.{homes_with}
 use Rattle.buffer_manager.specs.Taking.{least_targets_in}
 use Rattle.state_facts.specs.Turns.{next_of}
-use Rattle.run_model.specs.declared.step.StepName.TheVariants.{Send}
 use Rattle.run_rows.proofs.Sending.{fresh_is}
 use Rattle.state_facts.specs.States.{targets_in}
 use Rattle.trace_model.specs.Send.{targets_in_order}
-use Rattle.service_parts.specs.Moves.{may_go_by, move_by}
 use Rattle.service_parts.specs.Parts.{base}
-use Rattle.service_state.specs.Answers.{move_with}
-use Rattle.service_state.specs.Serving.{Serving}
-use Rattle.service_state.proofs.Made.{makes_as, serving_as, shown, stays_as}
-use Rattle.service_state.proofs.Sending.{frame_is, no_buffer, none_taken, parked_of, row_above, row_sound, same_targets, send_entry, send_fits, send_numbered, send_ready, sends, taken_targets}
+use Rattle.service_state.proofs.Made.{held, makes_as, stays_as}
+use Rattle.service_state.proofs.Sending.{frame_is, no_buffer, none_taken, parked_of, same_targets, sending}
 use Rattle.service_state.proofs.state.ServiceState.send.Goals as goal
 use Rattle.basic_lemmas.proofs.Options.{is-none}
 
 pub returns-in_err-targets : goal.returns-in_err-targets
 returns-in_err-targets c =
     let i = c.self.inside in
-    let s = shown i.script i.client i.captures i.buffers i.fences i.device i.last i.clock in
-    let serving = serving_as s c.args.self.now c.self.view_is c.requires in
+    let s = held i in
     let next = c.in_ok-next.next in
     let told = c.in_err-targets.ensures in
     let at : next_of i.captures.turns ≡ Some next = sym c.in_ok-next.ensures in
@@ -30,17 +25,8 @@ returns-in_err-targets c =
 pub admit-requires-clause-later : goal.admit-requires-clause-later
 admit-requires-clause-later c =
     let i = c.self.inside in
-    let s = shown i.script i.client i.captures i.buffers i.fences i.device i.last i.clock in
-    let serving = serving_as s c.args.self.now c.self.view_is c.requires in
-    let next = c.in_ok-next.next in
-    let at : next_of i.captures.turns ≡ Some next = sym c.in_ok-next.ensures in
-    let it = taken_targets (least_targets_in (homes_with [] i.buffers) (targets_in_order next.item)) c.in_ok-targets.targets c.in_ok-targets.ensures.targets in
-    let took : targets_in (base s.parts) (targets_in_order next.item) ≡ Some it.0 = same_targets s.parts (targets_in_order next.item) ∙ it.1 in
-    let may : may_go_by i.script s.parts next ≡ true = subst (λ (x : Serving). may_go_by x.script x.parts next ≡ true) (sym c.self.view_is) (sym c.if-not-may_go.ensures) in
-    let ready' = send_ready s next it.0 at may took in
-    let ready : move_by i.script s.parts Send ≡ Some (move_with Send (Some (send_entry s.parts next c.in_ok-targets.targets))) = rw it.2 ready' in
-    let frame : c.next_frame-frame.result ≡ record { 0 = i.captures.turns.numbers } = frame_is c.next_frame-frame.result i.captures.turns.numbers c.next_frame-frame.ensures in
-    rw (c.fresh_row.ensures, frame) (row_above s serving next c.in_ok-targets.targets ready)
+    let h = sending (held i) c.args.self.now c.self.view_is c.requires c.in_ok-next.next c.in_ok-targets.targets c.in_ok-next.ensures c.if-not-may_go.ensures c.in_ok-targets.ensures.targets in
+    rw (c.fresh_row.ensures, frame_is c.next_frame-frame.result i.captures.turns.numbers c.next_frame-frame.ensures) h.above
 
 pub admit-requires-clause-fresh : goal.admit-requires-clause-fresh
 admit-requires-clause-fresh c = rw c.fresh_row.ensures (fresh_is c.in_ok-next.next.item.settings c.next_frame-frame.result c.in_ok-next.next.request c.in_ok-targets.targets)
@@ -48,47 +34,20 @@ admit-requires-clause-fresh c = rw c.fresh_row.ensures (fresh_is c.in_ok-next.ne
 pub admit-requires-clause-range : goal.admit-requires-clause-range
 admit-requires-clause-range c =
     let i = c.self.inside in
-    let s = shown i.script i.client i.captures i.buffers i.fences i.device i.last i.clock in
-    let serving = serving_as s c.args.self.now c.self.view_is c.requires in
-    let next = c.in_ok-next.next in
-    let at : next_of i.captures.turns ≡ Some next = sym c.in_ok-next.ensures in
-    let it = taken_targets (least_targets_in (homes_with [] i.buffers) (targets_in_order next.item)) c.in_ok-targets.targets c.in_ok-targets.ensures.targets in
-    let took : targets_in (base s.parts) (targets_in_order next.item) ≡ Some it.0 = same_targets s.parts (targets_in_order next.item) ∙ it.1 in
-    let may : may_go_by i.script s.parts next ≡ true = subst (λ (x : Serving). may_go_by x.script x.parts next ≡ true) (sym c.self.view_is) (sym c.if-not-may_go.ensures) in
-    let ready' = send_ready s next it.0 at may took in
-    let ready : move_by i.script s.parts Send ≡ Some (move_with Send (Some (send_entry s.parts next c.in_ok-targets.targets))) = rw it.2 ready' in
-    let frame : c.next_frame-frame.result ≡ record { 0 = i.captures.turns.numbers } = frame_is c.next_frame-frame.result i.captures.turns.numbers c.next_frame-frame.ensures in
-    rw c.fresh_row.ensures (is-none _ (row_sound s serving next c.in_ok-targets.targets at ready).range)
+    let h = sending (held i) c.args.self.now c.self.view_is c.requires c.in_ok-next.next c.in_ok-targets.targets c.in_ok-next.ensures c.if-not-may_go.ensures c.in_ok-targets.ensures.targets in
+    rw c.fresh_row.ensures (is-none _ h.sound.range)
 
 pub admit-requires-clause-streams : goal.admit-requires-clause-streams
 admit-requires-clause-streams c =
     let i = c.self.inside in
-    let s = shown i.script i.client i.captures i.buffers i.fences i.device i.last i.clock in
-    let serving = serving_as s c.args.self.now c.self.view_is c.requires in
-    let next = c.in_ok-next.next in
-    let at : next_of i.captures.turns ≡ Some next = sym c.in_ok-next.ensures in
-    let it = taken_targets (least_targets_in (homes_with [] i.buffers) (targets_in_order next.item)) c.in_ok-targets.targets c.in_ok-targets.ensures.targets in
-    let took : targets_in (base s.parts) (targets_in_order next.item) ≡ Some it.0 = same_targets s.parts (targets_in_order next.item) ∙ it.1 in
-    let may : may_go_by i.script s.parts next ≡ true = subst (λ (x : Serving). may_go_by x.script x.parts next ≡ true) (sym c.self.view_is) (sym c.if-not-may_go.ensures) in
-    let ready' = send_ready s next it.0 at may took in
-    let ready : move_by i.script s.parts Send ≡ Some (move_with Send (Some (send_entry s.parts next c.in_ok-targets.targets))) = rw it.2 ready' in
-    let frame : c.next_frame-frame.result ≡ record { 0 = i.captures.turns.numbers } = frame_is c.next_frame-frame.result i.captures.turns.numbers c.next_frame-frame.ensures in
-    rw (c.fresh_row.ensures, c.self.invariant.plan) (row_sound s serving next c.in_ok-targets.targets at ready).streams_rise
+    let h = sending (held i) c.args.self.now c.self.view_is c.requires c.in_ok-next.next c.in_ok-targets.targets c.in_ok-next.ensures c.if-not-may_go.ensures c.in_ok-targets.ensures.targets in
+    rw (c.fresh_row.ensures, c.self.invariant.plan) h.sound.streams_rise
 
 pub admit-requires-clause-some : goal.admit-requires-clause-some
 admit-requires-clause-some c =
     let i = c.self.inside in
-    let s = shown i.script i.client i.captures i.buffers i.fences i.device i.last i.clock in
-    let serving = serving_as s c.args.self.now c.self.view_is c.requires in
-    let next = c.in_ok-next.next in
-    let at : next_of i.captures.turns ≡ Some next = sym c.in_ok-next.ensures in
-    let it = taken_targets (least_targets_in (homes_with [] i.buffers) (targets_in_order next.item)) c.in_ok-targets.targets c.in_ok-targets.ensures.targets in
-    let took : targets_in (base s.parts) (targets_in_order next.item) ≡ Some it.0 = same_targets s.parts (targets_in_order next.item) ∙ it.1 in
-    let may : may_go_by i.script s.parts next ≡ true = subst (λ (x : Serving). may_go_by x.script x.parts next ≡ true) (sym c.self.view_is) (sym c.if-not-may_go.ensures) in
-    let ready' = send_ready s next it.0 at may took in
-    let ready : move_by i.script s.parts Send ≡ Some (move_with Send (Some (send_entry s.parts next c.in_ok-targets.targets))) = rw it.2 ready' in
-    let frame : c.next_frame-frame.result ≡ record { 0 = i.captures.turns.numbers } = frame_is c.next_frame-frame.result i.captures.turns.numbers c.next_frame-frame.ensures in
-    rw c.fresh_row.ensures (row_sound s serving next c.in_ok-targets.targets at ready).targets
+    let h = sending (held i) c.args.self.now c.self.view_is c.requires c.in_ok-next.next c.in_ok-targets.targets c.in_ok-next.ensures c.if-not-may_go.ensures c.in_ok-targets.ensures.targets in
+    rw c.fresh_row.ensures h.sound.targets
 
 pub admit-requires-clause-parked : goal.admit-requires-clause-parked
 admit-requires-clause-parked c =
@@ -98,32 +57,14 @@ admit-requires-clause-parked c =
 pub send-requires-clause-numbered : goal.send-requires-clause-numbered
 send-requires-clause-numbered c =
     let i = c.self.inside in
-    let s = shown i.script i.client i.captures i.buffers i.fences i.device i.last i.clock in
-    let serving = serving_as s c.args.self.now c.self.view_is c.requires in
-    let next = c.in_ok-next.next in
-    let at : next_of i.captures.turns ≡ Some next = sym c.in_ok-next.ensures in
-    let it = taken_targets (least_targets_in (homes_with [] i.buffers) (targets_in_order next.item)) c.in_ok-targets.targets c.in_ok-targets.ensures.targets in
-    let took : targets_in (base s.parts) (targets_in_order next.item) ≡ Some it.0 = same_targets s.parts (targets_in_order next.item) ∙ it.1 in
-    let may : may_go_by i.script s.parts next ≡ true = subst (λ (x : Serving). may_go_by x.script x.parts next ≡ true) (sym c.self.view_is) (sym c.if-not-may_go.ensures) in
-    let ready' = send_ready s next it.0 at may took in
-    let ready : move_by i.script s.parts Send ≡ Some (move_with Send (Some (send_entry s.parts next c.in_ok-targets.targets))) = rw it.2 ready' in
-    let frame : c.next_frame-frame.result ≡ record { 0 = i.captures.turns.numbers } = frame_is c.next_frame-frame.result i.captures.turns.numbers c.next_frame-frame.ensures in
-    send_numbered s serving next c.in_ok-targets.targets ready
+    let h = sending (held i) c.args.self.now c.self.view_is c.requires c.in_ok-next.next c.in_ok-targets.targets c.in_ok-next.ensures c.if-not-may_go.ensures c.in_ok-targets.ensures.targets in
+    h.numbered
 
 pub note-requires : goal.note-requires
 note-requires c =
     let i = c.self.inside in
-    let s = shown i.script i.client i.captures i.buffers i.fences i.device i.last i.clock in
-    let serving = serving_as s c.args.self.now c.self.view_is c.requires in
-    let next = c.in_ok-next.next in
-    let at : next_of i.captures.turns ≡ Some next = sym c.in_ok-next.ensures in
-    let it = taken_targets (least_targets_in (homes_with [] i.buffers) (targets_in_order next.item)) c.in_ok-targets.targets c.in_ok-targets.ensures.targets in
-    let took : targets_in (base s.parts) (targets_in_order next.item) ≡ Some it.0 = same_targets s.parts (targets_in_order next.item) ∙ it.1 in
-    let may : may_go_by i.script s.parts next ≡ true = subst (λ (x : Serving). may_go_by x.script x.parts next ≡ true) (sym c.self.view_is) (sym c.if-not-may_go.ensures) in
-    let ready' = send_ready s next it.0 at may took in
-    let ready : move_by i.script s.parts Send ≡ Some (move_with Send (Some (send_entry s.parts next c.in_ok-targets.targets))) = rw it.2 ready' in
-    let frame : c.next_frame-frame.result ≡ record { 0 = i.captures.turns.numbers } = frame_is c.next_frame-frame.result i.captures.turns.numbers c.next_frame-frame.ensures in
-    send_fits s serving next c.in_ok-targets.targets at ready
+    let h = sending (held i) c.args.self.now c.self.view_is c.requires c.in_ok-next.next c.in_ok-targets.targets c.in_ok-next.ensures c.if-not-may_go.ensures c.in_ok-targets.ensures.targets in
+    h.fits
 
 pub invariant_of-self-2 : goal.invariant_of-self-2
 invariant_of-self-2 c =
@@ -147,17 +88,7 @@ invariant_of-self-2 c =
 pub returns : goal.returns
 returns c =
     let i = c.self.inside in
-    let s = shown i.script i.client i.captures i.buffers i.fences i.device i.last i.clock in
-    let serving = serving_as s c.args.self.now c.self.view_is c.requires in
-    let next = c.in_ok-next.next in
-    let at : next_of i.captures.turns ≡ Some next = sym c.in_ok-next.ensures in
-    let it = taken_targets (least_targets_in (homes_with [] i.buffers) (targets_in_order next.item)) c.in_ok-targets.targets c.in_ok-targets.ensures.targets in
-    let took : targets_in (base s.parts) (targets_in_order next.item) ≡ Some it.0 = same_targets s.parts (targets_in_order next.item) ∙ it.1 in
-    let may : may_go_by i.script s.parts next ≡ true = subst (λ (x : Serving). may_go_by x.script x.parts next ≡ true) (sym c.self.view_is) (sym c.if-not-may_go.ensures) in
-    let ready' = send_ready s next it.0 at may took in
-    let ready : move_by i.script s.parts Send ≡ Some (move_with Send (Some (send_entry s.parts next c.in_ok-targets.targets))) = rw it.2 ready' in
-    let frame : c.next_frame-frame.result ≡ record { 0 = i.captures.turns.numbers } = frame_is c.next_frame-frame.result i.captures.turns.numbers c.next_frame-frame.ensures in
-    let told = c.in_ok-targets.ensures in
-    let noted = c.send.ensures i.script next.request next.index c.is_last.result c.in_ok-targets.targets c.next_frame-frame.result c.next_frame-frame.ensures in
-    makes_as s c.args.self.now _ _ c.self.view_is c.requires (λ serving'.
-    rw (c.note.ensures, noted, told.places, c.admit.ensures, c.fresh_row.ensures, frame, c.is_last.ensures) (sends s serving next c.in_ok-targets.targets at ready))
+    let h = sending (held i) c.args.self.now c.self.view_is c.requires c.in_ok-next.next c.in_ok-targets.targets c.in_ok-next.ensures c.if-not-may_go.ensures c.in_ok-targets.ensures.targets in
+    let noted = c.send.ensures i.script c.in_ok-next.next.request c.in_ok-next.next.index c.is_last.result c.in_ok-targets.targets c.next_frame-frame.result c.next_frame-frame.ensures in
+    makes_as (held i) c.args.self.now _ _ c.self.view_is c.requires (λ serving'.
+    rw (c.note.ensures, noted, c.in_ok-targets.ensures.places, c.admit.ensures, c.fresh_row.ensures, frame_is c.next_frame-frame.result i.captures.turns.numbers c.next_frame-frame.ensures, c.is_last.ensures) h.made)

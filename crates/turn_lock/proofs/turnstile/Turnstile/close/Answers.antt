@@ -8,30 +8,9 @@ unwrap-requires g c =
     let last = ends g.S.Kept.fixed g.S.Kept.entries g.S.Kept.jobs _ _ v _ _ _ asks.seat.same asks.root asks.alone asks.free c.close_with-closed.ensures.values.2 c.take-slot.ensures.value in
     rw last.1 refl
 
-pub returns-clause-fixed : goal.returns-clause-fixed
-returns-clause-fixed g c =
+pub returns : goal.returns
+returns g c =
     let v = c.args.root.place.me.0 in let asks = c.requires in
     let last = ends g.S.Kept.fixed g.S.Kept.entries g.S.Kept.jobs _ _ v _ _ _ asks.seat.same asks.root asks.alone asks.free c.close_with-closed.ensures.values.2 c.take-slot.ensures.value in
     let is : c.unwrap.result ≡ last.0 = cc (c.unwrap.ensures, last.1) in
-    rw is last.2
-
-pub returns-clause-entries : goal.returns-clause-entries
-returns-clause-entries g c =
-    let v = c.args.root.place.me.0 in let asks = c.requires in
-    let last = ends g.S.Kept.fixed g.S.Kept.entries g.S.Kept.jobs _ _ v _ _ _ asks.seat.same asks.root asks.alone asks.free c.close_with-closed.ensures.values.2 c.take-slot.ensures.value in
-    let is : c.unwrap.result ≡ last.0 = cc (c.unwrap.ensures, last.1) in
-    rw is last.3
-
-pub returns-clause-jobs : goal.returns-clause-jobs
-returns-clause-jobs g c =
-    let v = c.args.root.place.me.0 in let asks = c.requires in
-    let last = ends g.S.Kept.fixed g.S.Kept.entries g.S.Kept.jobs _ _ v _ _ _ asks.seat.same asks.root asks.alone asks.free c.close_with-closed.ensures.values.2 c.take-slot.ensures.value in
-    let is : c.unwrap.result ≡ last.0 = cc (c.unwrap.ensures, last.1) in
-    rw is last.4
-
-pub returns-clause-once : goal.returns-clause-once
-returns-clause-once g c =
-    let v = c.args.root.place.me.0 in let asks = c.requires in
-    let last = ends g.S.Kept.fixed g.S.Kept.entries g.S.Kept.jobs _ _ v _ _ _ asks.seat.same asks.root asks.alone asks.free c.close_with-closed.ensures.values.2 c.take-slot.ensures.value in
-    let is : c.unwrap.result ≡ last.0 = cc (c.unwrap.ensures, last.1) in
-    rw is last.5
+    record { fixed = rw is last.2; entries = rw is last.3; jobs = rw is last.4; once = rw is last.5 }

@@ -1,6 +1,0 @@
-use Rattle.std.proofs.Common.{◌≡◌, inr, arith}
-use Rattle.judge_text.specs.Lines.{refused_trace_text}
-use Rattle.call_parts.proofs.refusal.refuse_trace.Goals as goal
-
-pub returns-in-Ok : goal.returns-in-Ok
-returns-in-Ok g c = let e : c.as_slice.result.now ≡ refused_trace_text c.args.line c.args.cause = grind arith in inr (rw e at c.answer.ensures)

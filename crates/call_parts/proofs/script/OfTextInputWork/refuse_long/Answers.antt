@@ -1,4 +1,0 @@
-use Rattle.call_parts.proofs.script.OfTextInputWork.refuse_long.Goals as goal
-
-pub returns : goal.returns
-returns g c = rw c.number.ensures at c.refuse_script.ensures

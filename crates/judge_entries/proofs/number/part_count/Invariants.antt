@@ -1,6 +1,0 @@
-use Rattle.std.proofs.Common.{◌≡◌, reverse, take}
-use Rattle.trace_model.specs.Partial.{part_count}
-use Rattle.judge_entries.proofs.number.part_count.Given as goal
-
-abbrev pub invariant-loop-entry : goal.invariant-loop-entry
-invariant-loop-entry l = l.count ≡ part_count l.frame.0 (reverse (take l.entry-index l.entries))

@@ -1,4 +1,0 @@
-use Rattle.play_calls.proofs.convert.convert_text.Goals as goal
-
-pub write_version_two-requires : goal.write_version_two-requires
-write_version_two-requires g c = (c.read_is_spelled.ensures 1 c.args.text.now c.in-Ok.trace c.in-Ok.ensures).2
