@@ -16,6 +16,3 @@ pub use laws::every_log_keeps_the_laws;
 pub use line::ArbiterLine;
 pub use session::{CAMERA_LIMIT, CameraId, ClientId, LINE_LIMIT, LOG_LINES, Session};
 pub use turns::answer_turn;
-
-#[cfg(test)]
-mod tests;

@@ -1,5 +1,4 @@
-use Rattle.std.specs.Prelude.{List, [], ◌∷◌, map}
-use Rattle.cam_types.specs.Four.{four_list}
+use Rattle.std.specs.Prelude.{List}
 use Rattle.cam_types.specs.declared.number.FrameNo.{FrameNo}
 use Rattle.cam_types.specs.declared.number.StreamIx.{StreamIx}
 use Rattle.cam_types.specs.declared.row.RowView.{RowView}
@@ -29,11 +28,6 @@ target_step target.FillDone n s = step.FillDone n s
 target_step target.Deliver n s = step.Deliver n s
 target_step target.Early n s = step.Early n s
 target_step target.Finish n s = step.Finish n s
-
--- the steps of the kind for a row
-abbrev pub steps_at : OfRow → RowView → List StepName
-steps_at (Frame k) row = frame_step k row.frame ∷ []
-steps_at (Targets k) row = map (λ t. target_step k row.frame t.stream) (four_list row.targets)
 
 -- the steps of the kind for these rows
 abbrev pub steps_of_rows : OfRow → List RowView → List StepName

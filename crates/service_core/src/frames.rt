@@ -1,13 +1,13 @@
 //! Walks over the steps of open frames, the oldest frame first, and in a frame over its targets. They are inlined at each
 //! kind of step, so that of a row just that is read which the kind asks of it.
-ghost use Rattle.std.specs.Prelude.{◌≡◌, ◌<◌, Some, filter, length, map, option_to_list, slice_get};
+ghost use Rattle.std.specs.Prelude.{◌≡◌, ◌<◌, ◌∷◌, [], Some, filter, length, map, option_to_list, slice_get};
 ghost use Rattle.cam_types.specs.Four.{four_list};
 ghost use Rattle.cam_types.specs.declared.row.TargetView.{TargetView as SomeTarget};
 ghost use Rattle.device_rows.specs.Rows.{row_at};
 ghost use Rattle.service_core.specs.Candidates.{is_ready_by};
 ghost use Rattle.service_state.specs.Serving.{IsServing};
 ghost use Rattle.service_core.specs.Finding.{Finds};
-ghost use Rattle.service_core.specs.Walks.{frame_step, steps_at, steps_of_rows, target_step};
+ghost use Rattle.service_core.specs.Walks.{frame_step, steps_of_rows, target_step};
 
 use crate::kinds::seek_step;
 use crate::looks::{may_have, may_have_some};
@@ -52,7 +52,11 @@ pub(crate) fn seek_rows(state: &ServiceState, kind: OfRow, number: u64) -> Resul
     let mut left = number;
     for place in 0..count {
         let row = row_at(state, place);
-        match seek_at(state, kind, row, left) {
+        let sought = match kind {
+            OfRow::Frame(own) => seek_frame(state, own, row, left),
+            OfRow::Targets(each) => seek_row(state, each, row, left),
+        };
+        match sought {
             Ok(step) => return Ok(step),
             Err(rest) => left = rest,
         }
@@ -60,22 +64,23 @@ pub(crate) fn seek_rows(state: &ServiceState, kind: OfRow, number: u64) -> Resul
     Err(left)
 }
 
-/// The steps of the kind of a frame. None is asked for where the row speaks against it.
+/// The frame's step of the kind, which isn't asked for where the row speaks against it.
 #[inline(always)]
-fn seek_at(state: &ServiceState, kind: OfRow, row: RowView, number: u64) -> Result<StepName, u64>
+fn seek_frame(
+    state: &ServiceState,
+    kind: OfFrame,
+    row: RowView,
+    number: u64,
+) -> Result<StepName, u64>
     requires serving { IsServing state.now }
     requires own { row_at row.frame.0 state.now.parts.rows ≡ Some row }
-    ensures { Finds (filter (is_ready_by state.now.script state.now.parts) (steps_at kind row)) number result }
+    ensures { Finds (filter (is_ready_by state.now.script state.now.parts) (frame_step kind row.frame ∷ []))
+        number result }
 {
-    match kind {
-        OfRow::Frame(kind) => {
-            if !may_have(state.script(), kind, row) {
-                return Err(number);
-            }
-            seek_step(state, frame_step(kind, row.frame), number)
-        }
-        OfRow::Targets(kind) => seek_row(state, kind, row, number),
+    if !may_have(state.script(), kind, row) {
+        return Err(number);
     }
+    seek_step(state, frame_step(kind, row.frame), number)
 }
 
 /// The step of the kind for each target of a frame. None is asked for where the row speaks against each.

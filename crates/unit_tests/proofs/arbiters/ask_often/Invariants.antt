@@ -1,7 +1,7 @@
 use Rattle.turn_lock.specs.Lending.{IsDone}
 use Rattle.turn_lock.specs.Seats.{view}
 use Rattle.camera_arbiter.specs.Turns.{cameras_of}
-use Rattle.camera_arbiter.proofs.tests.ask_often.Given as goal
+use Rattle.unit_tests.proofs.arbiters.ask_often.Given as goal
 
 abbrev pub invariant-loop : goal.invariant-loop
 invariant-loop g l = IsDone cameras_of l.turnstile (view l.fn.seat) l.seat

@@ -1,11 +1,13 @@
-//! A camera goes from client to client; an arbiter that two threads share.
+//! Two threads share an arbiter: each client has a camera of its own, and no line of the log is lost.
 ghost use Rattle.std.specs.Prelude.{◌≡◌, IsTrue};
 ghost use Rattle.camera_arbiter.specs.Ranges.{is_session};
 ghost use Rattle.camera_arbiter.specs.Turns.{cameras_of};
 ghost use Rattle.turn_lock.specs.Lending.{IsDone, IsIdle};
 ghost use Rattle.turn_lock.specs.Seats.{fixed_of, view};
 
-use super::*;
+use camera_arbiter::{
+    Answer, Arbiter, ArbiterLine, CameraId, ClientId, LogLine, Session, answer_turn,
+};
 use std::alloc::Global;
 use std::process::Abort;
 use std::sync::Wait;
@@ -13,10 +15,10 @@ use std::test::Fail;
 use std::thread::{Threads, join_mut};
 use turn_lock::{Seat, Turnstile};
 
-/// Clients 0 and 1 at camera 0, the second with more right to it.
+/// A client at camera 1, and another at camera 0.
 const FIRST: Session = Session {
     client: ClientId(0),
-    camera: CameraId(0),
+    camera: CameraId(1),
     priority: 10,
     shots: 1,
 };
@@ -28,61 +30,10 @@ const SECOND: Session = Session {
     shots: 2,
 };
 
-/// Client 0 at camera 1.
-const APART: Session = Session {
-    client: ClientId(0),
-    camera: CameraId(1),
-    priority: 10,
-    shots: 1,
-};
-
-fn a_camera_goes_from_client_to_client(rt: &impl Abort, alloc: Global) -> Result<(), Fail> {
-    let mut arbiter = Arbiter::new(alloc, 2)?;
-    assert_eq!(rt; arbiter.holder(CameraId(0)), None);
-    let first = arbiter.try_answer(ArbiterLine::Connect(FIRST));
-    assert_eq!(rt; first, Some(Answer::Granted));
-    let second = arbiter.try_answer(ArbiterLine::Connect(SECOND));
-    assert_eq!(rt; second, Some(Answer::GrantedAfter(ClientId(0))));
-    let back = arbiter.try_answer(ArbiterLine::Connect(FIRST));
-    assert_eq!(rt; back, Some(Answer::Refused(Refusal::Busy(ClientId(1)))));
-    let again = arbiter.try_answer(ArbiterLine::Connect(SECOND));
-    assert_eq!(rt; again, Some(Answer::Refused(Refusal::Holding)));
-    assert_eq!(rt; arbiter.holder(CameraId(0)), Some(ClientId(1)));
-    let left = arbiter.try_answer(ArbiterLine::Leave(ClientId(1)));
-    assert_eq!(rt; left, Some(Answer::Left(CameraId(0))));
-    let nothing = arbiter.try_answer(ArbiterLine::Leave(ClientId(1)));
-    assert_eq!(rt; nothing, Some(Answer::Refused(Refusal::NotHolding)));
-    assert_eq!(rt; (arbiter.cameras(), arbiter.log().len()), (2, 7));
-    assert_eq!(rt; Refusal::NotHolding.code(), 53);
-    every_log_keeps_the_laws();
-    Ok(())
-}
-
 /// How often each thread asks for its camera and leaves it.
 const ROUNDS: u32 = 60;
 
-fn two_threads_share_an_arbiter(
-    rt: &(impl Abort + Threads + Wait + Sync),
-    alloc: Global,
-) -> Result<(), Fail> {
-    let (arbiter, served) = two_ask(rt, alloc, Arbiter::new(alloc, 2)?);
-    // Each client has a camera of its own, so that all are served; and no line of the log is lost.
-    assert_eq!(rt; served, (2 * ROUNDS, 2 * ROUNDS));
-    assert_eq!(rt; arbiter.log().len() as u32, 4 * ROUNDS);
-    let mut grants = [0u32; 2];
-    for line in arbiter.log() {
-        if let LogLine::Grant(session) = line {
-            let camera = session.camera.0 as usize;
-            if let Some(count) = grants.get_mut(camera) {
-                *count = count.wrapping_add(1);
-            }
-        }
-    }
-    assert_eq!(rt; grants, [ROUNDS, ROUNDS]);
-    Ok(())
-}
-
-// Two threads ask, each for a camera of its own, and how often each was served.
+/// Two threads ask, each for a camera of its own, and how often each was served.
 fn two_ask<R: Threads + Wait + Sync>(
     rt: &R,
     alloc: Global,
@@ -116,14 +67,14 @@ fn side_by_side<R: Threads + Wait + Sync>(
         rt,
         &mut || -> u32
             requires { IsIdle cameras_of turnstile.now first.now × (fixed_of cameras_of turnstile.now ≡ 2) }
-        { ask_often(rt, turnstile, first, APART) },
+        { ask_often(rt, turnstile, first, FIRST) },
         &mut || -> u32
             requires { IsIdle cameras_of turnstile.now second.now × (fixed_of cameras_of turnstile.now ≡ 2) }
         { ask_often(rt, turnstile, second, SECOND) },
     )
 }
 
-// Asks for a camera and leaves it, over and over, and counts the answers.
+/// Asks for a camera and leaves it, over and over, and counts the answers.
 fn ask_often<R: Wait>(
     rt: &R,
     turnstile: &Turnstile<Arbiter>,
@@ -141,7 +92,7 @@ fn ask_often<R: Wait>(
     served
 }
 
-// Asks for a camera and leaves it, and counts the answers that aren't refusals.
+/// Asks for a camera and leaves it, and counts the answers that aren't refusals.
 fn ask_once<R: Wait>(
     rt: &R,
     turnstile: &Turnstile<Arbiter>,
@@ -159,8 +110,19 @@ fn ask_once<R: Wait>(
 }
 
 #[test]
-fn arbiters_are_shared(rt: HostRuntime) -> Result<(), Fail> {
-    a_camera_goes_from_client_to_client(&rt, rt.alloc())?;
-    two_threads_share_an_arbiter(&rt, rt.alloc())?;
+fn two_threads_share_an_arbiter(rt: HostRuntime) -> Result<(), Fail> {
+    let (arbiter, served) = two_ask(&rt, rt.alloc(), Arbiter::new(rt.alloc(), 2)?);
+    assert_eq!(rt; served, (2 * ROUNDS, 2 * ROUNDS));
+    assert_eq!(rt; arbiter.log().len() as u32, 4 * ROUNDS);
+    let mut grants = [0u32; 2];
+    for line in arbiter.log() {
+        if let LogLine::Grant(session) = line {
+            let camera = session.camera.0 as usize;
+            if let Some(count) = grants.get_mut(camera) {
+                *count = count.wrapping_add(1);
+            }
+        }
+    }
+    assert_eq!(rt; grants, [ROUNDS, ROUNDS]);
     Ok(())
 }
