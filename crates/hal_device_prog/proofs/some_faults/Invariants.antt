@@ -1,6 +1,0 @@
--- At most one fault for each frame.
-use Rattle.std.proofs.Common.{◌≤◌, length}
-use Rattle.hal_device_prog.proofs.some_faults.Given as goal
-
-abbrev pub invariant-loop-n : goal.invariant-loop-n
-invariant-loop-n l = length l.faults ≤ l.n
