@@ -15,7 +15,7 @@ use crate::word::mode_of;
 use cam_types::Listing;
 use hal_model::HalEvent;
 use std::alloc::Global;
-use text_parts::{is_end, next_loose_word};
+use text_parts::{has_text, is_end, next_loose_word};
 
 /// How a call ends, behind `end`.
 #[tactic(auto, unfolding(crate::specs::Lines::ending_of))]
@@ -25,12 +25,13 @@ fn ending_of(words: &[u8]) -> Result<Ending, Cause>
 {
     let (how, rest) = next_loose_word(words).ok_or(Cause::BadLine)?;
     let Some((name, rest)) = next_loose_word(rest) else {
-        return match how {
-            b"ok" => Ok(Ending::Ok),
-            _ => Err(Cause::BadLine),
+        return if has_text(how, "ok") {
+            Ok(Ending::Ok)
+        } else {
+            Err(Cause::BadLine)
         };
     };
-    if how == b"error".as_slice() && is_end(rest) {
+    if has_text(how, "error") && is_end(rest) {
         Ok(Ending::Error(error_of(name)?))
     } else {
         Err(Cause::BadLine)
@@ -44,10 +45,12 @@ fn stage_of(words: &[u8]) -> Result<Option<Ending>, Cause>
     ensures valid { IfOk result (λ stage. IfSome stage (λ ending. IsTrue (is_ending_valid ending))) }
 {
     let (stage, rest) = next_loose_word(words).ok_or(Cause::BadLine)?;
-    match stage {
-        b"begin" if is_end(rest) => Ok(None),
-        b"end" => Ok(Some(ending_of(rest)?)),
-        _ => Err(Cause::BadLine),
+    if has_text(stage, "begin") && is_end(rest) {
+        Ok(None)
+    } else if has_text(stage, "end") {
+        Ok(Some(ending_of(rest)?))
+    } else {
+        Err(Cause::BadLine)
     }
 }
 
@@ -93,10 +96,15 @@ pub fn close_of(words: &[u8]) -> Result<HalEvent, Cause>
     ensures value { result ≡ close_of (loose_words words.now) }
     ensures valid { IfOk result (λ event. IsTrue (is_well_made event)) }
 {
-    match next_loose_word(words) {
-        Some((b"begin", rest)) if is_end(rest) => Ok(HalEvent::CloseBegin),
-        Some((b"end", rest)) if is_end(rest) => Ok(HalEvent::CloseEnd),
-        _ => Err(Cause::BadLine),
+    let (stage, rest) = next_loose_word(words).ok_or(Cause::BadLine)?;
+    if !is_end(rest) {
+        Err(Cause::BadLine)
+    } else if has_text(stage, "begin") {
+        Ok(HalEvent::CloseBegin)
+    } else if has_text(stage, "end") {
+        Ok(HalEvent::CloseEnd)
+    } else {
+        Err(Cause::BadLine)
     }
 }
 
@@ -104,10 +112,15 @@ pub fn close_of(words: &[u8]) -> Result<HalEvent, Cause>
 fn template_end(words: &[u8]) -> Result<TemplateStage, Cause>
     ensures { result ≡ template_end (loose_words words.now) }
 {
-    match next_loose_word(words) {
-        Some((b"ok", rest)) if is_end(rest) => Ok(TemplateStage::Ok),
-        Some((b"null", rest)) if is_end(rest) => Ok(TemplateStage::Null),
-        _ => Err(Cause::BadLine),
+    let (how, rest) = next_loose_word(words).ok_or(Cause::BadLine)?;
+    if !is_end(rest) {
+        Err(Cause::BadLine)
+    } else if has_text(how, "ok") {
+        Ok(TemplateStage::Ok)
+    } else if has_text(how, "null") {
+        Ok(TemplateStage::Null)
+    } else {
+        Err(Cause::BadLine)
     }
 }
 
@@ -116,10 +129,12 @@ fn template_end(words: &[u8]) -> Result<TemplateStage, Cause>
 fn template_stage(word: &[u8], words: &[u8]) -> Result<TemplateStage, Cause>
     ensures { result ≡ template_stage word.now (loose_words words.now) }
 {
-    match word {
-        b"begin" if is_end(words) => Ok(TemplateStage::Begin),
-        b"end" => template_end(words),
-        _ => Err(Cause::BadLine),
+    if has_text(word, "begin") && is_end(words) {
+        Ok(TemplateStage::Begin)
+    } else if has_text(word, "end") {
+        template_end(words)
+    } else {
+        Err(Cause::BadLine)
     }
 }
 
@@ -193,7 +208,7 @@ fn configure_end(alloc: Global, words: &[u8]) -> Result<HalEvent, LineRefused>
     ensures valid { IfOk result (λ event. IsTrue (is_well_made event)) }
 {
     let (how, rest) = next_loose_word(words).ok_or(Cause::BadLine)?;
-    if how == b"ok".as_slice() {
+    if has_text(how, "ok") {
         return given_streams(alloc, rest);
     }
     match ending_of(words)? {
@@ -209,10 +224,12 @@ pub fn configure_of(alloc: Global, words: &[u8]) -> Result<HalEvent, LineRefused
     ensures valid { IfOk result (λ event. IsTrue (is_well_made event)) }
 {
     let (stage, rest) = next_loose_word(words).ok_or(Cause::BadLine)?;
-    match stage {
-        b"begin" => asked_streams(alloc, rest),
-        b"end" => configure_end(alloc, rest),
-        _ => Err(LineRefused::Bad(Cause::BadLine)),
+    if has_text(stage, "begin") {
+        asked_streams(alloc, rest)
+    } else if has_text(stage, "end") {
+        configure_end(alloc, rest)
+    } else {
+        Err(LineRefused::Bad(Cause::BadLine))
     }
 }
 
@@ -259,9 +276,11 @@ pub fn request_of(alloc: Global, words: &[u8]) -> Result<HalEvent, LineRefused>
 {
     let (frame, rest) = next_loose_word(words).ok_or(Cause::BadLine)?;
     let (stage, rest) = next_loose_word(rest).ok_or(Cause::BadLine)?;
-    match stage {
-        b"begin" => asked_of(alloc, small(frame), rest),
-        b"end" => Ok(request_end(small(frame), rest)?),
-        _ => Err(LineRefused::Bad(Cause::BadLine)),
+    if has_text(stage, "begin") {
+        asked_of(alloc, small(frame), rest)
+    } else if has_text(stage, "end") {
+        Ok(request_end(small(frame), rest)?)
+    } else {
+        Err(LineRefused::Bad(Cause::BadLine))
     }
 }

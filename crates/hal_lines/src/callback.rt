@@ -12,7 +12,7 @@ use crate::value::{both, large, pack_of, small};
 use crate::word::buffer_of;
 use hal_model::HalEvent;
 use std::alloc::Global;
-use text_parts::{is_end, next_loose_word};
+use text_parts::{has_text, is_end, next_loose_word};
 
 /// The line of a shutter.
 pub fn shutter_of(words: &[u8]) -> Result<HalEvent, Cause>
@@ -33,10 +33,10 @@ fn notice_in(frame: &[u8], what: &[u8]) -> Result<HalEvent, Cause>
     ensures value { result ≡ notice_in frame.now what.now }
     ensures valid { IfOk result (λ event. IsTrue (is_well_made event)) }
 {
-    if what == b"request".as_slice() {
+    if has_text(what, "request") {
         let frame = small(frame)?;
         Ok(HalEvent::ErrorRequest { frame })
-    } else if what == b"result".as_slice() {
+    } else if has_text(what, "result") {
         let frame = small(frame)?;
         Ok(HalEvent::ErrorResult { frame })
     } else {
@@ -53,7 +53,7 @@ pub fn notice_of(words: &[u8]) -> Result<HalEvent, Cause>
 {
     let (frame, rest) = next_loose_word(words).ok_or(Cause::BadLine)?;
     let Some((what, rest)) = next_loose_word(rest) else {
-        return if frame == b"device".as_slice() {
+        return if has_text(frame, "device") {
             Ok(HalEvent::ErrorDevice)
         } else {
             Err(Cause::BadLine)
@@ -100,7 +100,7 @@ pub fn result_of(alloc: Global, words: &[u8]) -> Result<HalEvent, LineRefused>
     let (sign, rest) = next_loose_word(rest).ok_or(Cause::BadLine)?;
     let (partial, rest) = next_loose_word(rest).ok_or(Cause::BadLine)?;
     let (pack, rest) = next_loose_word(rest).ok_or(Cause::BadLine)?;
-    if sign == b"partial".as_slice() {
+    if has_text(sign, "partial") {
         result_with(alloc, both(small(frame), small(partial)), pack, rest)
     } else {
         Err(LineRefused::Bad(Cause::BadLine))

@@ -13,25 +13,35 @@ use crate::kind::Kind;
 use crate::value::count;
 use hal_model::HalEvent;
 use std::alloc::Global;
-use text_parts::{is_end, next_loose_word};
+use text_parts::{has_text, is_end, next_loose_word};
 
 /// The kind of a line, by its first word.
 #[tactic(auto, unfolding(crate::specs::Lines::kind_of))]
 fn kind_of(word: &[u8]) -> Option<Kind>
     ensures { result ≡ kind_of word.now }
 {
-    match word {
-        b"open" => Some(Kind::Open),
-        b"init" => Some(Kind::Init),
-        b"template" => Some(Kind::Template),
-        b"configure" => Some(Kind::Configure),
-        b"request" => Some(Kind::Request),
-        b"shutter" => Some(Kind::Shutter),
-        b"error" => Some(Kind::Error),
-        b"result" => Some(Kind::Result),
-        b"flush" => Some(Kind::Flush),
-        b"close" => Some(Kind::Close),
-        _ => None,
+    if has_text(word, "open") {
+        Some(Kind::Open)
+    } else if has_text(word, "init") {
+        Some(Kind::Init)
+    } else if has_text(word, "template") {
+        Some(Kind::Template)
+    } else if has_text(word, "configure") {
+        Some(Kind::Configure)
+    } else if has_text(word, "request") {
+        Some(Kind::Request)
+    } else if has_text(word, "shutter") {
+        Some(Kind::Shutter)
+    } else if has_text(word, "error") {
+        Some(Kind::Error)
+    } else if has_text(word, "result") {
+        Some(Kind::Result)
+    } else if has_text(word, "flush") {
+        Some(Kind::Flush)
+    } else if has_text(word, "close") {
+        Some(Kind::Close)
+    } else {
+        None
     }
 }
 
@@ -78,7 +88,7 @@ pub fn count_of(word: &[u8], words: &[u8]) -> Result<u32, Cause>
     if !is_end(rest) {
         return Err(Cause::BadLine);
     }
-    if word == b"hal".as_slice() && version == b"1".as_slice() {
+    if has_text(word, "hal") && has_text(version, "1") {
         count(number)
     } else {
         Err(Cause::BadLine)

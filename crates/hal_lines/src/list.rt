@@ -9,7 +9,7 @@ use crate::cause::Cause;
 use crate::word::Word;
 use cam_types::{Listing, NoMemory};
 use std::alloc::Global;
-use text_parts::{is_end, next_loose_word};
+use text_parts::{has_text, is_end, next_loose_word};
 
 /// The most words of a list.
 const WORD_LIMIT: usize = 16;
@@ -18,9 +18,7 @@ const WORD_LIMIT: usize = 16;
 fn is_mark(word: &[u8]) -> bool
     ensures { result ≡ is_mark word.now }
 {
-    word == b"nohandle".as_slice()
-        || word == b"badsettings".as_slice()
-        || word == b"input".as_slice()
+    has_text(word, "nohandle") || has_text(word, "badsettings") || has_text(word, "input")
 }
 
 /// How many words a list has, and what stands from the first mark on.
@@ -116,9 +114,9 @@ pub fn no_marks(words: &[u8]) -> Result<(), Cause>
 fn one_flaw(word: &[u8]) -> Result<(bool, bool), Cause>
     ensures { result ≡ one_flaw word.now }
 {
-    if word == b"nohandle".as_slice() {
+    if has_text(word, "nohandle") {
         Ok((true, false))
-    } else if word == b"badsettings".as_slice() {
+    } else if has_text(word, "badsettings") {
         Ok((false, true))
     } else {
         Err(Cause::BadLine)
@@ -139,7 +137,7 @@ pub fn flaws_of(words: &[u8]) -> Result<(bool, bool), Cause>
     if !is_end(rest) {
         return Err(Cause::BadLine);
     }
-    if first == b"nohandle".as_slice() && second == b"badsettings".as_slice() {
+    if has_text(first, "nohandle") && has_text(second, "badsettings") {
         Ok((true, true))
     } else {
         Err(Cause::BadLine)
@@ -152,7 +150,7 @@ pub fn input_of(words: &[u8]) -> Result<bool, Cause>
 {
     match next_loose_word(words) {
         None => Ok(false),
-        Some((b"input", rest)) if is_end(rest) => Ok(true),
+        Some((word, rest)) if has_text(word, "input") && is_end(rest) => Ok(true),
         Some(_) => Err(Cause::BadLine),
     }
 }

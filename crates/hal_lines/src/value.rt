@@ -9,7 +9,7 @@ ghost use Rattle.hal_lines.specs.Values.{acquire, both, count, error_of, format_
 
 use crate::cause::Cause;
 use hal_model::{ErrorName, HalError, HalFence, HalFormat, Pack, Status};
-use text_parts::{large_number, number_within, small_number};
+use text_parts::{has_text, large_number, number_within, small_number};
 
 /// Two values, or the cause that comes first.
 pub fn both<A: Drop, B: Drop>(
@@ -98,20 +98,20 @@ pub fn hexadecimal(word: &[u8]) -> Result<u32, Cause>
 pub fn known(word: &[u8]) -> Result<Option<u32>, Cause>
     ensures { result ≡ known word.now }
 {
-    match word {
-        b"?" => Ok(None),
-        _ => Ok(Some(small(word)?)),
+    if has_text(word, "?") {
+        return Ok(None);
     }
+    Ok(Some(small(word)?))
 }
 
 /// The acquire fence of a target, or `-` for none.
 pub fn acquire(word: &[u8]) -> Result<Option<u32>, Cause>
     ensures { result ≡ acquire word.now }
 {
-    match word {
-        b"-" => Ok(None),
-        _ => Ok(Some(small(word)?)),
+    if has_text(word, "-") {
+        return Ok(None);
     }
+    Ok(Some(small(word)?))
 }
 
 /// A release fence.
@@ -119,10 +119,12 @@ pub fn acquire(word: &[u8]) -> Result<Option<u32>, Cause>
 pub fn release(word: &[u8]) -> Result<HalFence, Cause>
     ensures { result ≡ release word.now }
 {
-    match word {
-        b"-" => Ok(HalFence::Absent),
-        b"?" => Ok(HalFence::Foreign),
-        _ => Ok(HalFence::Number(small(word)?)),
+    if has_text(word, "-") {
+        Ok(HalFence::Absent)
+    } else if has_text(word, "?") {
+        Ok(HalFence::Foreign)
+    } else {
+        Ok(HalFence::Number(small(word)?))
     }
 }
 
@@ -142,7 +144,7 @@ pub fn error_of(word: &[u8]) -> Result<HalError, Cause>
     if word.is_empty() || word.len() > 15 || !are_letters(word) {
         return Err(Cause::BadLine);
     }
-    if word == b"ENODEV".as_slice() {
+    if has_text(word, "ENODEV") {
         return Ok(HalError::NoDevice);
     }
     let mut letters = [0; 15];
@@ -158,13 +160,18 @@ pub fn error_of(word: &[u8]) -> Result<HalError, Cause>
 pub fn format_of(word: &[u8]) -> Result<HalFormat, Cause>
     ensures { result ≡ format_of word.now }
 {
-    match word {
-        b"YUV" => Ok(HalFormat::Yuv),
-        b"IMPL" => Ok(HalFormat::Implementation),
-        b"BLOB" => Ok(HalFormat::Blob),
-        b"RAW16" => Ok(HalFormat::Raw16),
-        [b'H', digits @ ..] => Ok(HalFormat::Number(hexadecimal(digits)?)),
-        _ => Err(Cause::BadLine),
+    if has_text(word, "YUV") {
+        Ok(HalFormat::Yuv)
+    } else if has_text(word, "IMPL") {
+        Ok(HalFormat::Implementation)
+    } else if has_text(word, "BLOB") {
+        Ok(HalFormat::Blob)
+    } else if has_text(word, "RAW16") {
+        Ok(HalFormat::Raw16)
+    } else if let [b'H', digits @ ..] = word {
+        Ok(HalFormat::Number(hexadecimal(digits)?))
+    } else {
+        Err(Cause::BadLine)
     }
 }
 
@@ -173,11 +180,14 @@ pub fn format_of(word: &[u8]) -> Result<HalFormat, Cause>
 pub fn status_of(word: &[u8]) -> Result<Status, Cause>
     ensures { result ≡ status_of word.now }
 {
-    match word {
-        b"ok" => Ok(Status::Filled),
-        b"error" => Ok(Status::Failed),
-        b"?" => Ok(Status::Unknown),
-        _ => Err(Cause::BadLine),
+    if has_text(word, "ok") {
+        Ok(Status::Filled)
+    } else if has_text(word, "error") {
+        Ok(Status::Failed)
+    } else if has_text(word, "?") {
+        Ok(Status::Unknown)
+    } else {
+        Err(Cause::BadLine)
     }
 }
 
@@ -186,11 +196,11 @@ pub fn status_of(word: &[u8]) -> Result<Status, Cause>
 pub fn pack_of(word: &[u8]) -> Result<Pack, Cause>
     ensures { result ≡ pack_of word.now }
 {
-    if word == b"metadata".as_slice() {
+    if has_text(word, "metadata") {
         Ok(Pack::Entries)
-    } else if word == b"empty".as_slice() {
+    } else if has_text(word, "empty") {
         Ok(Pack::Empty)
-    } else if word == b"none".as_slice() {
+    } else if has_text(word, "none") {
         Ok(Pack::Absent)
     } else {
         Err(Cause::BadLine)
@@ -201,9 +211,9 @@ pub fn pack_of(word: &[u8]) -> Result<Pack, Cause>
 pub fn settings_of(word: &[u8]) -> Result<bool, Cause>
     ensures { result ≡ settings_of word.now }
 {
-    if word == b"settings".as_slice() {
+    if has_text(word, "settings") {
         Ok(false)
-    } else if word == b"same".as_slice() {
+    } else if has_text(word, "same") {
         Ok(true)
     } else {
         Err(Cause::BadLine)

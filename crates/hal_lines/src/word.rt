@@ -11,7 +11,7 @@ use crate::value::{acquire, both, format_of, known, release, rotation, small, st
 use hal_model::{
     Direction, HalFence, HalFormat, HalStream, HalTarget, Returned, Status, StreamMax,
 };
-use text_parts::{split_at_byte, split_in_two};
+use text_parts::{has_text, split_at_byte, split_in_two};
 
 /// A word of a list.
 pub trait Word: Sized + Drop {
@@ -38,8 +38,8 @@ fn direction_of(fields: &[u8]) -> Result<Direction, Cause>
 {
     match split_at_byte(fields, b':') {
         Some(_) => Err(Cause::BadLine),
-        None if fields == b"in".as_slice() => Ok(Direction::Input),
-        None if fields == b"bidi".as_slice() => Ok(Direction::Bidirectional),
+        None if has_text(fields, "in") => Ok(Direction::Input),
+        None if has_text(fields, "bidi") => Ok(Direction::Bidirectional),
         None => Err(Cause::BadLine),
     }
 }
@@ -138,7 +138,7 @@ impl Word for HalTarget {
 fn acquired_of(word: &[u8]) -> Result<bool, Cause>
     ensures { result ≡ acquired_of word.now }
 {
-    if word == b"acquire".as_slice() {
+    if has_text(word, "acquire") {
         Ok(true)
     } else {
         Err(Cause::BadLine)
@@ -196,7 +196,7 @@ pub fn mode_of(word: &[u8]) -> Option<&[u8]>
     ensures { option_map (λ number. number.now) result ≡ mode_of word.now }
 {
     match split_in_two(word, b':') {
-        Some((b"mode", number)) => Some(number),
+        Some((name, number)) if has_text(name, "mode") => Some(number),
         _ => None,
     }
 }
@@ -206,7 +206,7 @@ pub fn buffer_of(word: &[u8]) -> Result<Option<u32>, Cause>
     ensures { result ≡ buffer_of word.now }
 {
     match split_in_two(word, b':') {
-        Some((name, stream)) if name == b"buffer".as_slice() => known(stream),
+        Some((name, stream)) if has_text(name, "buffer") => known(stream),
         _ => Err(Cause::BadLine),
     }
 }

@@ -1,11 +1,14 @@
 -- Planes that are written row by row, and the pictures that they make.
-use Rattle.std.proofs.Common.{◌≡◌, ℕ, ◌+◌, ◌*◌, ◌/◌, ◌%◌, ◌<◌, ◌≤◌, List, ◌++◌, length, take, drop, get_or, refl, ap, sym, ◌∙◌, arith}
+use Rattle.std.proofs.Common.{◌≡◌, ℕ, ◌+◌, ◌-◌, ◌*◌, ◌/◌, ◌%◌, ◌<◌, ◌≤◌, List, ◌++◌, length, take, drop, get_or, slice_index, length-append, refl, ap, sym, ◌∙◌, arith, inl, inr}
 use Rattle.std.proofs.lemmas.Grind.{common_steps}
+use Rattle.std.proofs.lemmas.Bool.{cases_lt}
+use Rattle.std.proofs.lemmas.List.{get_or_append_left, get_or-append-add}
 use Rattle.std.proofs.lemmas.List.FromFn.{fill_by_all, get_or-map-range_with_len}
 use Rattle.std.proofs.lemmas.Nat.{div-mul-add, mod-mul-add}
 use Rattle.std.proofs.Math.Nat.{add-zero, mul_comm}
-use Rattle.cam_types.specs.Picture.{plane, yuv_picture, of_cell, cell_at, luma, chroma_blue, chroma_red}
-use Rattle.picture_stages.specs.Cells.{at_cell, AreWideRows, AreChromaRows}
+use Rattle.cam_types.specs.Picture.{plane, yuv_picture, of_cell, cell_at, red_of, green_of, blue_of, luma, chroma_blue, chroma_red}
+use Rattle.picture_stages.specs.Cells.{at_cell, at_place, AreWideRows, AreChromaRows}
+use Rattle.picture_stages.specs.declared.strip.Colours.{Colours}
 use Rattle.cam_types.proofs.WrittenLemmas.{rows-more}
 use Rattle.cam_types.proofs.PictureLemmas.{plane-same}
 
@@ -15,6 +18,35 @@ plane-more value width y wide xs row w fits len before here k below =
     let each : (x : ℕ) → x < width → get_or row x 0 ≡ value ((y * width + x) % width) ((y * width + x) / width) = λ x h.
     rw (mod-mul-add y width x h, div-mul-add y width x h) (here x h) in
     rw w (rows-more (λ k. value (k % width) (k / width)) xs row (y * width) width fits len before each k (grind (arith, common_steps)))
+
+-- rows that follow one another have the values of f if both have them
+pub rows-both : (f : ℕ → ℕ) (front back : List ℕ) → ((k : ℕ) → k < length front → get_or front k 0 ≡ f k) → ((k : ℕ) → k < length back → get_or back k 0 ≡ f (length front + k)) → (k : ℕ) → k < length (front ++ back) → get_or (front ++ back) k 0 ≡ f k
+rows-both f front back before behind k below =
+    elim (cases_lt k (length front)) [
+      | inl less ↦ get_or_append_left front back 0 k less ∙ before k less
+      | inr more ↦ (let there : length front + (k - length front) ≡ k = omega arith in
+          ap (λ i. get_or (front ++ back) i 0) (sym there) ∙ (get_or-append-add front back (k - length front) 0 ∙ (behind (k - length front) (omega (arith, length-append front back)) ∙ ap f there)))
+    ]
+
+-- bands of pairs of rows that follow one another
+pub wide-both : (values front back : List ℕ) (first n : ℕ) → length front ≡ n * 320 → AreWideRows values first front → AreWideRows values (first + n) back → AreWideRows values first (front ++ back)
+wide-both values front back first n len before behind =
+    rows-both (λ k. at_cell luma values (k % 160 / 2 * 2) ((k / 320 + first) * 2)) front back before (λ k h.
+    let column : k % 160 / 2 * 2 ≡ (length front + k) % 160 / 2 * 2 = omega arith in
+    let row : (k / 320 + (first + n)) * 2 ≡ ((length front + k) / 320 + first) * 2 = omega arith in
+    behind k h ∙ rw (column, row) refl)
+
+pub chroma-both : (part : ℕ → ℕ → ℕ → ℕ) (values front back : List ℕ) (first n : ℕ) → length front ≡ n * 80 → AreChromaRows part values 2 80 first front → AreChromaRows part values 2 80 (first + n) back → AreChromaRows part values 2 80 first (front ++ back)
+chroma-both part values front back first n len before behind =
+    rows-both (λ k. at_cell part values (k % 80 * 2) ((k / 80 + first) * 2)) front back before (λ k h.
+    let column : k % 80 * 2 ≡ (length front + k) % 80 * 2 = omega arith in
+    let row : (k / 80 + (first + n)) * 2 ≡ ((length front + k) / 80 + first) * 2 = omega arith in
+    behind k h ∙ rw (column, row) refl)
+
+-- the colour at a place of a strip is that of the cell that was read there
+pub place-of-cell : (part : ℕ → ℕ → ℕ → ℕ) (values : List ℕ) (colours : Colours) (k x y i j : ℕ) → x ≡ i → y ≡ j → slice_index colours.red k ≡ red_of values x y → slice_index colours.green k ≡ green_of values x y → slice_index colours.blue k ≡ blue_of values x y → at_place part colours k ≡ at_cell part values i j
+unfolding at_cell
+place-of-cell part values colours k x y i j column row r g b = rw (← column, ← row, r, g, b) refl
 
 -- a list that has the values of a plane at each place is the plane
 pub plane-all : (value : ℕ → ℕ → ℕ) (width height : ℕ) (xs : List ℕ) → length xs ≡ width * height → ((k : ℕ) → k < width * height → get_or xs k 0 ≡ value (k % width) (k / width)) → xs ≡ plane value width height

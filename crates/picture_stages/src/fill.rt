@@ -1,16 +1,16 @@
 //! The RAW16 stage: fills a buffer and hashes it.
-ghost use Rattle.std.specs.Prelude.{◌≡◌, ◌*◌, ◌≤◌, length};
+ghost use Rattle.std.specs.Prelude.{◌≡◌, ℕ, ◌+◌, ◌*◌, ◌%◌, ◌<◌, ◌≤◌, length, slice_index};
 ghost use Rattle.std.specs.List.{All};
 ghost use Rattle.cam_types.specs.Picture.{raw_picture};
 ghost use Rattle.sha2.specs.Sha256.{sha256};
-ghost use denote.Param.Send.{IsSync};
 
+use crate::rows::HEIGHT;
 use cam_types::{PixelBuf, Readout};
 use sha2::{Digest, Sha256};
-use std::thread::{Threads, join_mut};
+use std::thread::{Threads, for_each_chunk_mut};
 
-/// The values of a row of the sensor.
-const ROW_VALUES: usize = 160;
+/// The bytes of a row: two for each of its 160 values.
+const ROW_BYTES: usize = 320;
 
 /// Writes each value as two bytes, the low one first.
 fn write_bytes(values: &[u16], bytes: &mut [u8])
@@ -24,30 +24,27 @@ fn write_bytes(values: &[u16], bytes: &mut [u8])
     }
 }
 
-/// Writes each value as two bytes, the low one first, in so many bands of whole rows side by side.
+/// Writes each value as two bytes, the low one first, in so many bands of whole rows side by side. The last band has the
+/// fewest rows.
 fn write_bands<R: Threads + Sync>(rt: &R, bands: u32, values: &[u16], bytes: &mut [u8])
-    requires { length bytes.old ≡ length values.now * 2 }
+    requires least { 1 ≤ bands }
+    requires room { length bytes.old ≡ length values.now * 2 }
     ensures { bytes.new ≡ raw_picture values.now }
 {
-    if bands < 2 {
-        write_bytes(values, bytes);
-        return;
-    }
-    let before = bands / 2;
-    let after = bands - before;
-    let rows = values.len() / ROW_VALUES / bands as usize * before as usize;
-    let (first_values, last_values) = values.split_at(rows * ROW_VALUES);
-    let (first_bytes, last_bytes) = bytes.split_at_mut(rows * ROW_VALUES * 2);
-    join_mut(
+    let size = HEIGHT.div_ceil(bands as usize) * ROW_BYTES;
+    for_each_chunk_mut(
         rt,
-        &mut ||
-            requires { IsSync R.row × (length first_bytes.now ≡ length first_values.now * 2) }
-            ensures { first_bytes.exit.now ≡ raw_picture first_values.entry.now }
-        { write_bands(rt, before, first_values, first_bytes) },
-        &mut ||
-            requires { IsSync R.row × (length last_bytes.now ≡ length last_values.now * 2) }
-            ensures { last_bytes.exit.now ≡ raw_picture last_values.entry.now }
-        { write_bands(rt, after, last_values, last_bytes) },
+        bytes,
+        size,
+        &|start: usize, band: &mut [u8]|
+            requires { (start % 2 ≡ 0) × (length band.old % 2 ≡ 0)
+                × (start + length band.old ≤ length values.now * 2) }
+            ensures { (k : ℕ) → k < length band.old →
+                slice_index band.new k ≡ slice_index (raw_picture values.entry.now) (start + k) }
+        {
+            let first = start / 2;
+            write_bytes(&values[first..first + band.len() / 2], band)
+        },
     );
 }
 

@@ -37,7 +37,6 @@ fn write_second_differences(colours: &Colours, blue: &mut [u8], red: &mut [u8])
 
 /// Writes two rows of the plane Y of a picture of half the sensor's size, and the row of the planes Cb and Cr that has
 /// the cells of the first.
-#[tactic(auto, unfolding(crate::specs::Cells::at_cell))]
 fn write_half_pair(
     values: &[u16],
     y: usize,
@@ -72,7 +71,6 @@ fn write_half_pair(
 
 /// Writes two rows of the plane Y of a picture of a quarter of the sensor's size, and the row of the planes Cb and Cr
 /// that has the cells of the first.
-#[tactic(auto, unfolding(crate::specs::Cells::at_cell))]
 fn write_quarter_pair(
     values: &[u16],
     y: usize,

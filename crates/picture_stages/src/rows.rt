@@ -15,7 +15,7 @@ const LINE_VALUES: u32 = 320;
 const WIDTH: usize = 160;
 
 /// The rows of the sensor.
-const HEIGHT: usize = 120;
+pub const HEIGHT: usize = 120;
 
 /// The column and row of a place of the line.
 fn place_of(settings: Settings, place: u32) -> (u32, u32)

@@ -30,7 +30,6 @@ fn write_both_rows(all: &[u8], rows: &mut [u8])
 }
 
 /// Writes two rows of the plane Y, and the row of the planes Cb and Cr that has their cells.
-#[tactic(auto, unfolding(crate::specs::Cells::at_cell))]
 fn write_wide_pair(
     values: &[u16],
     y: usize,

@@ -1,13 +1,13 @@
 //! The script that stands after some lines.
 
-ghost use Rattle.std.specs.Prelude.{◌≡◌, ◌==◌, IsTrue, IfOk, length, not, sum_by};
+ghost use Rattle.std.specs.Prelude.{◌≡◌, ◌==◌, ◌∷◌, ◌++◌, [], true, false, IsTrue, IfOk, IfSome, MatchOption, length, not, sum_by};
 ghost use Rattle.std.specs.List.{list_any};
 ghost use Rattle.cam_types.specs.Script.{awaited_by, is_closing_command};
 ghost use Rattle.text_parts.specs.Words.{loose_words};
 ghost use Rattle.script_text.specs.Lines.{CommandLine, DeviceLine, EarlyLine, FaultLine, pick_line};
 ghost use Rattle.script_text.specs.Within.{within};
 ghost use Rattle.text_parts.specs.Reader.{GivesBy};
-ghost use Rattle.script_text.specs.Grammar.{added, begun, closed, counts_within, empty, then_added};
+ghost use Rattle.script_text.specs.Grammar.{added, begun, closed, counts_within, empty, then_added, with_line};
 
 use cam_types::{
     AWAITED_LIMIT, COMMAND_LIMIT, Command, CommandList, FAULT_LIMIT, Fault, FaultList, NoMemory,
@@ -134,6 +134,27 @@ impl Draft {
         })
     }
 
+    /// What is awaited with one more command, and whether it is closed then; none where a limit is passed.
+    fn sums_with(&self, command: &Command) -> Option<(u64, bool)>
+        requires { IsTrue (within command.now) }
+        ensures counts { MatchOption result
+            (counts_within (with_line (begun self.now.script self.now.devices) (CommandLine command.now)) ≡ false)
+            (λ _. counts_within (with_line (begun self.now.script self.now.devices) (CommandLine command.now)) ≡ true) }
+        ensures awaited { IfSome result
+            (λ sums. sums.0 ≡ sum_by awaited_by (self.now.script.commands ++ command.now ∷ [])) }
+        ensures closed { IfSome result
+            (λ sums. sums.1 ≡ list_any is_closing_command (self.now.script.commands ++ command.now ∷ [])) }
+    {
+        let is_closed = self.is_closed || command.is_closing();
+        let count = self.script.commands.len() + if is_closed { 1 } else { 2 };
+        let awaited = self.awaited + u64::from(command.awaited());
+        if count > COMMAND_LIMIT || awaited > AWAITED_LIMIT {
+            None
+        } else {
+            Some((awaited, is_closed))
+        }
+    }
+
     /// The draft with a command line.
     #[tactic(auto, unfolding(crate::specs::Grammar::added))]
     pub fn with_command(mut self, command: Command) -> Result<Draft, LineRefused>
@@ -141,15 +162,12 @@ impl Draft {
         ensures { GivesBy (λ d. begun d.script d.devices) result
             (added (begun self.script self.devices) (CommandLine command)) }
     {
-        let is_closed = self.is_closed || command.is_closing();
-        let count = self.script.commands.len() + if is_closed { 1 } else { 2 };
-        let awaited = self.awaited + u64::from(command.awaited());
-        if count > COMMAND_LIMIT || awaited > AWAITED_LIMIT {
+        let Some((awaited, is_closed)) = self.sums_with(&command) else {
             return Err(LineRefused::Bad(Cause::Limit));
-        }
+        };
         self.script.commands.push(command)?;
-        self.is_closed = is_closed;
         self.awaited = awaited;
+        self.is_closed = is_closed;
         Ok(self)
     }
 

@@ -7,7 +7,7 @@ ghost use Rattle.text_parts.specs.LineWords.{good, limited};
 ghost use Rattle.script_text.specs.Within.{targets_within, item_within};
 
 use cam_types::{Item, Settings, TARGET_LIMIT, Targets};
-use text_parts::{Cause, byte_number, four_numbers, split_at_byte, split_in_two};
+use text_parts::{Cause, byte_number, four_numbers, has_text, split_at_byte, split_in_two};
 
 /// The settings of the template for a preview.
 const PREVIEW: Settings = Settings {
@@ -30,10 +30,12 @@ const STILL: Settings = Settings {
 fn settings_of(word: &[u8]) -> Option<Settings>
     ensures { result ≡ settings_of word.now }
 {
-    match word {
-        b"preview" => Some(PREVIEW),
-        b"still" => Some(STILL),
-        _ => four_numbers(word),
+    if has_text(word, "preview") {
+        Some(PREVIEW)
+    } else if has_text(word, "still") {
+        Some(STILL)
+    } else {
+        four_numbers(word)
     }
 }
 
@@ -93,8 +95,12 @@ fn targets_of(word: &[u8]) -> Result<Targets, Cause>
 pub fn item_of(word: &[u8]) -> Result<Item, Cause>
     ensures { result ≡ limited item_within (good (item_of word.now)) }
 {
-    let (settings, targets) = split_in_two(word, b'@').ok_or(Cause::BadNumber)?;
-    let settings = settings_of(settings).ok_or(Cause::BadNumber)?;
+    let Some((settings, targets)) = split_in_two(word, b'@') else {
+        return Err(Cause::BadNumber);
+    };
+    let Some(settings) = settings_of(settings) else {
+        return Err(Cause::BadNumber);
+    };
     let targets = targets_of(targets)?;
     Ok(Item { settings, targets })
 }

@@ -17,7 +17,7 @@ use cam_types::{
 };
 use std::alloc::Global;
 use text_parts::{
-    Cause, LineRefused, byte_number, is_end, next_loose_word, number_within, one_number,
+    Cause, LineRefused, byte_number, has_text, is_end, next_loose_word, number_within, one_number,
     small_number,
 };
 
@@ -25,8 +25,12 @@ use text_parts::{
 fn one_byte(words: &[u8]) -> Result<u8, Cause>
     ensures { result ≡ one stream (loose_words words.now) }
 {
-    let (word, rest) = next_loose_word(words).ok_or(Cause::Missing)?;
-    let number = byte_number(word).ok_or(Cause::BadNumber)?;
+    let Some((word, rest)) = next_loose_word(words) else {
+        return Err(Cause::Missing);
+    };
+    let Some(number) = byte_number(word) else {
+        return Err(Cause::BadNumber);
+    };
     if is_end(rest) {
         Ok(number)
     } else {
@@ -63,8 +67,12 @@ fn one_item(words: &[u8]) -> Result<Item, Cause>
 fn frame_and_stream(words: &[u8]) -> Result<(u32, u8), Cause>
     ensures { result ≡ frame_and_stream (loose_words words.now) }
 {
-    let (word, rest) = next_loose_word(words).ok_or(Cause::Missing)?;
-    let frame = small_number(word).ok_or(Cause::BadNumber)?;
+    let Some((word, rest)) = next_loose_word(words) else {
+        return Err(Cause::Missing);
+    };
+    let Some(frame) = small_number(word) else {
+        return Err(Cause::BadNumber);
+    };
     let stream = one_byte(rest)?;
     Ok((frame, stream))
 }
@@ -74,16 +82,20 @@ fn frame_and_stream(words: &[u8]) -> Result<(u32, u8), Cause>
 pub fn fault_of(words: &[u8]) -> Result<Fault, Cause>
     ensures { result ≡ fault_of (loose_words words.now) }
 {
-    let (kind, rest) = next_loose_word(words).ok_or(Cause::Missing)?;
-    match kind {
-        b"request" => Ok(Fault::Request(FrameNo(one_number(rest)?))),
-        b"result" => Ok(Fault::Result(FrameNo(one_number(rest)?))),
-        b"buffer" => {
-            let (frame, stream) = frame_and_stream(rest)?;
-            Ok(Fault::Buffer(FrameNo(frame), StreamIx(stream)))
-        }
-        b"device" => Ok(Fault::Device(FrameNo(one_number(rest)?))),
-        _ => Err(Cause::UnknownWord),
+    let Some((kind, rest)) = next_loose_word(words) else {
+        return Err(Cause::Missing);
+    };
+    if has_text(kind, "request") {
+        Ok(Fault::Request(FrameNo(one_number(rest)?)))
+    } else if has_text(kind, "result") {
+        Ok(Fault::Result(FrameNo(one_number(rest)?)))
+    } else if has_text(kind, "buffer") {
+        let (frame, stream) = frame_and_stream(rest)?;
+        Ok(Fault::Buffer(FrameNo(frame), StreamIx(stream)))
+    } else if has_text(kind, "device") {
+        Ok(Fault::Device(FrameNo(one_number(rest)?)))
+    } else {
+        Err(Cause::UnknownWord)
     }
 }
 
@@ -113,7 +125,9 @@ fn one_profile_number(words: &[u8]) -> Result<u32, Cause>
 fn raw_and_yuv(words: &[u8]) -> Result<(u32, u32), Cause>
     ensures { result ≡ raw_and_yuv (loose_words words.now) }
 {
-    let (word, rest) = next_loose_word(words).ok_or(Cause::Missing)?;
+    let Some((word, rest)) = next_loose_word(words) else {
+        return Err(Cause::Missing);
+    };
     let raw = profile_number(word)?;
     let yuv = one_profile_number(rest)?;
     Ok((raw, yuv))
@@ -124,7 +138,9 @@ fn raw_and_yuv(words: &[u8]) -> Result<(u32, u32), Cause>
 pub fn device_of(words: &[u8]) -> Result<Profile, Cause>
     ensures { result ≡ device_of (loose_words words.now) }
 {
-    let (word, rest) = next_loose_word(words).ok_or(Cause::Missing)?;
+    let Some((word, rest)) = next_loose_word(words) else {
+        return Err(Cause::Missing);
+    };
     let depth = profile_number(word)?;
     let (raw, yuv) = raw_and_yuv(rest)?;
     Ok(Profile { depth, raw, yuv })

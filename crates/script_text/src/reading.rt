@@ -16,8 +16,8 @@ use crate::line::{command_of, device_of, fault_of};
 use cam_types::{SCRIPT_BYTES, Script};
 use std::alloc::Global;
 use text_parts::{
-    Cause, LineRefused, TextRefused, command_word, is_end, is_printable, next_loose_word, refused,
-    split_line,
+    Cause, LineRefused, TextRefused, command_word, has_text, is_end, is_printable, next_loose_word,
+    refused, split_line,
 };
 
 /// The version that a word names.
@@ -35,7 +35,7 @@ fn version_number(word: &[u8]) -> Option<u8>
 fn version_of(word: &[u8], rest: &[u8]) -> Option<u8>
     ensures { result ≡ version_of (word.now ∷ loose_words rest.now) }
 {
-    if word != b"camera".as_slice() {
+    if !has_text(word, "camera") {
         return None;
     }
     let (number, rest) = next_loose_word(rest)?;
@@ -94,9 +94,9 @@ fn with_other_line(
         (then_added (begun draft.script draft.devices)
         (other_line draft.script.version word.now (loose_words rest.now))) }
 {
-    if word == b"early".as_slice() {
+    if has_text(word, "early") {
         with_early(draft, rest)
-    } else if word == b"device".as_slice() {
+    } else if has_text(word, "device") {
         with_device(draft, rest)
     } else {
         with_command(alloc, draft, word, rest)
@@ -109,13 +109,13 @@ fn with_line(alloc: Global, draft: Draft, word: &[u8], rest: &[u8]) -> Result<Dr
     ensures { GivesBy (λ d. begun d.script d.devices) result
         (then_added (begun draft.script draft.devices) (line_of draft.script.version word.now (loose_words rest.now))) }
 {
-    match word {
-        b"fault" => {
-            let fault = fault_of(rest)?;
-            draft.with_fault(fault)
-        }
-        b"pick" => draft.with_picks(rest),
-        _ => with_other_line(alloc, draft, word, rest),
+    if has_text(word, "fault") {
+        let fault = fault_of(rest)?;
+        draft.with_fault(fault)
+    } else if has_text(word, "pick") {
+        draft.with_picks(rest)
+    } else {
+        with_other_line(alloc, draft, word, rest)
     }
 }
 

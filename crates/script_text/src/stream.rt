@@ -4,7 +4,7 @@ ghost use Rattle.std.specs.Prelude.{◌≡◌};
 ghost use Rattle.script_text.specs.Values.{numbered_format, format_of, side_of, stream_of, spec_of};
 
 use cam_types::{Format, StreamSpec};
-use text_parts::{small_number, small_number_below, split_in_two};
+use text_parts::{has_text, small_number, small_number_below, split_in_two};
 
 /// A format that has no name, by its number.
 fn numbered_format(word: &[u8]) -> Option<Format>
@@ -24,10 +24,12 @@ fn numbered_format(word: &[u8]) -> Option<Format>
 fn format_of(word: &[u8]) -> Option<Format>
     ensures { result ≡ format_of word.now }
 {
-    match word {
-        b"raw16" => Some(Format::Raw16),
-        b"yuv" => Some(Format::Yuv),
-        _ => numbered_format(word),
+    if has_text(word, "raw16") {
+        Some(Format::Raw16)
+    } else if has_text(word, "yuv") {
+        Some(Format::Yuv)
+    } else {
+        numbered_format(word)
     }
 }
 

@@ -3,26 +3,32 @@
 ghost use Rattle.std.specs.Prelude.{◌≡◌, ◌≤◌, length};
 ghost use Rattle.text_parts.specs.CommandWords.{command_word, word_of, word_text};
 
+use crate::word::has_text;
 use cam_types::{Command, Word};
+
+/// Every command's word, in the order of the definition.
+const WORDS: [Word; 10] = [
+    Word::Configure,
+    Word::Once,
+    Word::Burst,
+    Word::Repeat,
+    Word::Stop,
+    Word::Wait,
+    Word::Await,
+    Word::Flush,
+    Word::Close,
+    Word::Disconnect,
+];
 
 /// The command that has this word.
 #[tactic(auto, unfolding(crate::specs::CommandWords::command_word))]
 pub fn command_word(text: &[u8]) -> Option<Word>
     ensures { result ≡ command_word text.now }
 {
-    match text {
-        b"configure" => Some(Word::Configure),
-        b"once" => Some(Word::Once),
-        b"burst" => Some(Word::Burst),
-        b"repeat" => Some(Word::Repeat),
-        b"stop" => Some(Word::Stop),
-        b"wait" => Some(Word::Wait),
-        b"await" => Some(Word::Await),
-        b"flush" => Some(Word::Flush),
-        b"close" => Some(Word::Close),
-        b"disconnect" => Some(Word::Disconnect),
-        _ => None,
-    }
+    WORDS
+        .iter()
+        .copied()
+        .find(|word| has_text(text, word_text(*word)))
 }
 
 /// The text of a command's word, which has at most ten bytes.

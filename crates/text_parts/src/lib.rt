@@ -30,6 +30,6 @@ pub use number::{
 };
 pub use picks::with_picks;
 pub use word::{
-    first_strict_word, next_loose_word, next_strict_word, one_strict_word, three_strict_words,
-    two_strict_words,
+    first_strict_word, has_text, next_loose_word, next_strict_word, one_strict_word,
+    three_strict_words, two_strict_words,
 };

@@ -30,8 +30,12 @@ pub fn is_end(words: &[u8]) -> bool
 pub fn one_number(words: &[u8]) -> Result<u32, Cause>
     ensures { result ≡ one number (loose_words words.now) }
 {
-    let (word, rest) = next_loose_word(words).ok_or(Cause::Missing)?;
-    let number = small_number(word).ok_or(Cause::BadNumber)?;
+    let Some((word, rest)) = next_loose_word(words) else {
+        return Err(Cause::Missing);
+    };
+    let Some(number) = small_number(word) else {
+        return Err(Cause::BadNumber);
+    };
     if is_end(rest) {
         Ok(number)
     } else {

@@ -1,10 +1,17 @@
-//! How a line is cut into words, loose ones and strict ones.
+//! How a line is cut into words, loose ones and strict ones, and whether a word has a text.
 
-ghost use Rattle.std.specs.Prelude.{◌≡◌, ◌<◌, ◌≤◌, [], ◌∷◌, length, MatchOption, IfSome};
+ghost use Rattle.std.specs.Prelude.{◌≡◌, ◌<◌, ◌≤◌, [], ◌∷◌, length, bytes_eq, MatchOption, IfSome};
 ghost use Rattle.std.specs.Option.{option_map};
 ghost use Rattle.text_parts.specs.Words.{loose_words, one_of, strict_words, strict_words_behind, three_of, two_of};
 
 use crate::cut::{place_of, split_at_byte};
+
+/// Whether a word has this text.
+pub fn has_text(word: &[u8], text: &str) -> bool
+    ensures { result ≡ bytes_eq word.now text.now }
+{
+    word == text.as_bytes()
+}
 
 /// The first loose word of a line, and what stands after it.
 pub fn next_loose_word(line: &[u8]) -> Option<(&[u8], &[u8])>

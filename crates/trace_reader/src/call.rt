@@ -10,7 +10,7 @@ use crate::cause::Cause;
 use crate::number::{byte, small};
 use crate::word::{both, made, numbered};
 use cam_types::{Four, Made, Reply, RequestId, Word};
-use text_parts::{command_word, next_strict_word, one_strict_word};
+use text_parts::{command_word, has_text, next_strict_word, one_strict_word};
 use trace_model::Entry;
 
 /// The word of a waiting command.
@@ -137,11 +137,15 @@ fn acceptance(word: Word, rest: &[u8]) -> Result<Reply, Cause>
 fn reply_of(word: Word, rest: &[u8]) -> Result<Reply, Cause>
     ensures { result ≡ reply_of word (strict_words_behind rest.now) }
 {
-    let (how, rest) = next_strict_word(rest).ok_or(Cause::BadLine)?;
-    match how {
-        b"ok" => acceptance(word, rest),
-        b"refused" => refusal(rest),
-        _ => Err(Cause::BadLine),
+    let Some((how, rest)) = next_strict_word(rest) else {
+        return Err(Cause::BadLine);
+    };
+    if has_text(how, "ok") {
+        acceptance(word, rest)
+    } else if has_text(how, "refused") {
+        refusal(rest)
+    } else {
+        Err(Cause::BadLine)
     }
 }
 
@@ -159,9 +163,15 @@ fn call_with(index: &[u8], word: &[u8], rest: &[u8]) -> Result<Entry, Cause>
 pub fn call_of(rest: &[u8]) -> Result<Entry, Cause>
     ensures { result ≡ call_of (strict_words_behind rest.now) }
 {
-    let (index, rest) = next_strict_word(rest).ok_or(Cause::BadLine)?;
-    let (word, rest) = next_strict_word(rest).ok_or(Cause::BadLine)?;
-    let (sign, rest) = next_strict_word(rest).ok_or(Cause::BadLine)?;
+    let Some((index, rest)) = next_strict_word(rest) else {
+        return Err(Cause::BadLine);
+    };
+    let Some((word, rest)) = next_strict_word(rest) else {
+        return Err(Cause::BadLine);
+    };
+    let Some((sign, rest)) = next_strict_word(rest) else {
+        return Err(Cause::BadLine);
+    };
     match sign {
         b"=" => call_with(index, word, rest),
         _ => Err(Cause::BadLine),

@@ -9,7 +9,7 @@ use crate::line::is_plain_line;
 use crate::number::profile_number;
 use crate::word::both;
 use cam_types::Profile;
-use text_parts::{first_strict_word, next_strict_word, three_strict_words};
+use text_parts::{first_strict_word, has_text, next_strict_word, three_strict_words};
 
 /// A first line of the first version has no further words.
 fn no_profile(rest: &[u8]) -> Result<Option<Profile>, Cause>
@@ -25,7 +25,9 @@ fn no_profile(rest: &[u8]) -> Result<Option<Profile>, Cause>
 fn profile_of(rest: &[u8]) -> Result<Option<Profile>, Cause>
     ensures { result ≡ profile_of (strict_words_behind rest.now) }
 {
-    let (depth, raw, yuv) = three_strict_words(rest).ok_or(Cause::BadLine)?;
+    let Some((depth, raw, yuv)) = three_strict_words(rest) else {
+        return Err(Cause::BadLine);
+    };
     let (depth, (raw, yuv)) = both(
         profile_number(depth),
         both(profile_number(raw), profile_number(yuv)),
@@ -55,8 +57,9 @@ pub fn named_profile(line: &[u8]) -> Result<Option<Profile>, Cause>
         return Err(Cause::BadLine);
     }
     let (word, rest) = first_strict_word(line);
-    match word {
-        b"trace" => version_of(rest),
-        _ => Err(Cause::BadLine),
+    if has_text(word, "trace") {
+        version_of(rest)
+    } else {
+        Err(Cause::BadLine)
     }
 }

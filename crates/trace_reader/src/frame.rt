@@ -10,7 +10,7 @@ use crate::digest::digest;
 use crate::number::{byte, large, small};
 use crate::word::{both, fence, item, mark, numbered, sent};
 use cam_types::{BufferId, DeviceFenceNo, FenceNo, Four, FrameNo, RequestId, StreamIx};
-use text_parts::{next_strict_word, one_strict_word, two_strict_words};
+use text_parts::{has_text, next_strict_word, one_strict_word, two_strict_words};
 use trace_model::{Entry, Sent};
 
 /// A target, where there is one more word, and what stands behind it.
@@ -47,9 +47,15 @@ fn targets(rest: &[u8]) -> Result<Four<Sent>, Cause>
 pub fn send_of(rest: &[u8]) -> Result<Entry, Cause>
     ensures { result ≡ send_of (strict_words_behind rest.now) }
 {
-    let (number, rest) = next_strict_word(rest).ok_or(Cause::BadLine)?;
-    let (name, rest) = next_strict_word(rest).ok_or(Cause::BadLine)?;
-    let (sign, rest) = next_strict_word(rest).ok_or(Cause::BadLine)?;
+    let Some((number, rest)) = next_strict_word(rest) else {
+        return Err(Cause::BadLine);
+    };
+    let Some((name, rest)) = next_strict_word(rest) else {
+        return Err(Cause::BadLine);
+    };
+    let Some((sign, rest)) = next_strict_word(rest) else {
+        return Err(Cause::BadLine);
+    };
     let (frame, ((request, item), (same, targets))) = both(
         small(number),
         both(item(name), both(mark(sign), targets(rest))),
@@ -110,7 +116,9 @@ fn returned_buffer(frame: &[u8], stream: &[u8], name: &[u8]) -> Result<(u32, u8,
 fn filled_behind(place: Result<(u32, u8, u32), Cause>, rest: &[u8]) -> Result<Entry, Cause>
     ensures { result ≡ filled_behind place (strict_words_behind rest.now) }
 {
-    let (sign, hex) = two_strict_words(rest).ok_or(Cause::BadLine)?;
+    let Some((sign, hex)) = two_strict_words(rest) else {
+        return Err(Cause::BadLine);
+    };
     let ((frame, stream, buffer), (fence, digest)) = both(
         place,
         both(no_fence(sign), digest(hex)),
@@ -128,7 +136,9 @@ fn filled_behind(place: Result<(u32, u8, u32), Cause>, rest: &[u8]) -> Result<En
 fn failed_behind(place: Result<(u32, u8, u32), Cause>, rest: &[u8]) -> Result<Entry, Cause>
     ensures { result ≡ failed_behind place (strict_words_behind rest.now) }
 {
-    let word = one_strict_word(rest).ok_or(Cause::BadLine)?;
+    let Some(word) = one_strict_word(rest) else {
+        return Err(Cause::BadLine);
+    };
     let ((frame, stream, buffer), fence) = both(place, fence(word))?;
     Ok(Entry::Failed {
         frame: FrameNo(frame),
@@ -143,15 +153,25 @@ fn failed_behind(place: Result<(u32, u8, u32), Cause>, rest: &[u8]) -> Result<En
 pub fn buffer_of(rest: &[u8]) -> Result<Entry, Cause>
     ensures { result ≡ buffer_of (strict_words_behind rest.now) }
 {
-    let (frame, rest) = next_strict_word(rest).ok_or(Cause::BadLine)?;
-    let (stream, rest) = next_strict_word(rest).ok_or(Cause::BadLine)?;
-    let (name, rest) = next_strict_word(rest).ok_or(Cause::BadLine)?;
-    let (how, rest) = next_strict_word(rest).ok_or(Cause::BadLine)?;
+    let Some((frame, rest)) = next_strict_word(rest) else {
+        return Err(Cause::BadLine);
+    };
+    let Some((stream, rest)) = next_strict_word(rest) else {
+        return Err(Cause::BadLine);
+    };
+    let Some((name, rest)) = next_strict_word(rest) else {
+        return Err(Cause::BadLine);
+    };
+    let Some((how, rest)) = next_strict_word(rest) else {
+        return Err(Cause::BadLine);
+    };
     let place = returned_buffer(frame, stream, name);
-    match how {
-        b"ok" => filled_behind(place, rest),
-        b"error" => failed_behind(place, rest),
-        _ => Err(Cause::BadLine),
+    if has_text(how, "ok") {
+        filled_behind(place, rest)
+    } else if has_text(how, "error") {
+        failed_behind(place, rest)
+    } else {
+        Err(Cause::BadLine)
     }
 }
 
@@ -167,7 +187,9 @@ fn one_frame(rest: &[u8]) -> Result<FrameNo, Cause>
 fn error_buffer(rest: &[u8]) -> Result<Entry, Cause>
     ensures { result ≡ error_buffer (strict_words_behind rest.now) }
 {
-    let (frame, stream) = two_strict_words(rest).ok_or(Cause::BadLine)?;
+    let Some((frame, stream)) = two_strict_words(rest) else {
+        return Err(Cause::BadLine);
+    };
     let (frame, stream) = both(small(frame), byte(stream))?;
     Ok(Entry::ErrorBuffer {
         frame: FrameNo(frame),
@@ -190,19 +212,21 @@ fn error_device(rest: &[u8]) -> Result<Entry, Cause>
 pub fn error_of(rest: &[u8]) -> Result<Entry, Cause>
     ensures { result ≡ error_of (strict_words_behind rest.now) }
 {
-    let (kind, rest) = next_strict_word(rest).ok_or(Cause::BadLine)?;
-    match kind {
-        b"request" => {
-            let frame = one_frame(rest)?;
-            Ok(Entry::ErrorRequest { frame })
-        }
-        b"result" => {
-            let frame = one_frame(rest)?;
-            Ok(Entry::ErrorResult { frame })
-        }
-        b"buffer" => error_buffer(rest),
-        b"device" => error_device(rest),
-        _ => Err(Cause::BadLine),
+    let Some((kind, rest)) = next_strict_word(rest) else {
+        return Err(Cause::BadLine);
+    };
+    if has_text(kind, "request") {
+        let frame = one_frame(rest)?;
+        Ok(Entry::ErrorRequest { frame })
+    } else if has_text(kind, "result") {
+        let frame = one_frame(rest)?;
+        Ok(Entry::ErrorResult { frame })
+    } else if has_text(kind, "buffer") {
+        error_buffer(rest)
+    } else if has_text(kind, "device") {
+        error_device(rest)
+    } else {
+        Err(Cause::BadLine)
     }
 }
 
@@ -231,7 +255,9 @@ pub fn signal_of(rest: &[u8]) -> Result<Entry, Cause>
 fn early_behind(place: Result<(u32, u8, u32), Cause>, rest: &[u8]) -> Result<Entry, Cause>
     ensures { result ≡ early_behind place (strict_words_behind rest.now) }
 {
-    let word = one_strict_word(rest).ok_or(Cause::BadLine)?;
+    let Some(word) = one_strict_word(rest) else {
+        return Err(Cause::BadLine);
+    };
     let ((frame, stream, buffer), fence) = both(place, numbered(b'd', word))?;
     Ok(Entry::Early {
         frame: FrameNo(frame),
@@ -246,9 +272,15 @@ fn early_behind(place: Result<(u32, u8, u32), Cause>, rest: &[u8]) -> Result<Ent
 pub fn early_of(rest: &[u8]) -> Result<Entry, Cause>
     ensures { result ≡ early_of (strict_words_behind rest.now) }
 {
-    let (frame, rest) = next_strict_word(rest).ok_or(Cause::BadLine)?;
-    let (stream, rest) = next_strict_word(rest).ok_or(Cause::BadLine)?;
-    let (name, rest) = next_strict_word(rest).ok_or(Cause::BadLine)?;
+    let Some((frame, rest)) = next_strict_word(rest) else {
+        return Err(Cause::BadLine);
+    };
+    let Some((stream, rest)) = next_strict_word(rest) else {
+        return Err(Cause::BadLine);
+    };
+    let Some((name, rest)) = next_strict_word(rest) else {
+        return Err(Cause::BadLine);
+    };
     early_behind(returned_buffer(frame, stream, name), rest)
 }
 

@@ -13,7 +13,7 @@ use crate::frame::{
 };
 use crate::partial::partial_of;
 use std::alloc::Global;
-use text_parts::{first_strict_word, next_strict_word};
+use text_parts::{first_strict_word, has_text, next_strict_word};
 use trace_model::Entry;
 
 /// Whether a line is ASCII.
@@ -69,21 +69,40 @@ pub enum Kind {
 fn kind_of(word: &[u8]) -> Option<Kind>
     ensures { result ≡ kind_of word.now }
 {
-    match word {
-        b"begin" => Some(Kind::Begin),
-        b"call" => Some(Kind::Call),
-        b"send" => Some(Kind::Send),
-        b"drop" => Some(Kind::Drop),
-        b"shutter" => Some(Kind::Shutter),
-        b"partial" => Some(Kind::Partial),
-        b"buffer" => Some(Kind::Buffer),
-        b"error" => Some(Kind::Error),
-        b"release" => Some(Kind::Release),
-        b"signal" => Some(Kind::Signal),
-        b"early" => Some(Kind::Early),
-        b"filled" => Some(Kind::Late),
-        _ => None,
+    if has_text(word, "begin") {
+        Some(Kind::Begin)
+    } else if has_text(word, "call") {
+        Some(Kind::Call)
+    } else if has_text(word, "send") {
+        Some(Kind::Send)
+    } else if has_text(word, "drop") {
+        Some(Kind::Drop)
+    } else if has_text(word, "shutter") {
+        Some(Kind::Shutter)
+    } else if has_text(word, "partial") {
+        Some(Kind::Partial)
+    } else if has_text(word, "buffer") {
+        Some(Kind::Buffer)
+    } else if has_text(word, "error") {
+        Some(Kind::Error)
+    } else if has_text(word, "release") {
+        Some(Kind::Release)
+    } else if has_text(word, "signal") {
+        Some(Kind::Signal)
+    } else if has_text(word, "early") {
+        Some(Kind::Early)
+    } else if has_text(word, "filled") {
+        Some(Kind::Late)
+    } else {
+        None
     }
+}
+
+/// A line's entry, or why there is none.
+fn told(entry: Result<Entry, Cause>) -> Result<Entry, LineRefused>
+    ensures { Gives result entry }
+{
+    Ok(entry?)
 }
 
 /// An entry, by the kind of its line and the words behind the first.
@@ -92,18 +111,18 @@ fn entry_in(alloc: Global, kind: Kind, rest: &[u8]) -> Result<Entry, LineRefused
     ensures { Gives result (entry_in kind (strict_words_behind rest.now)) }
 {
     match kind {
-        Kind::Begin => Ok(begin_of(rest)?),
-        Kind::Call => Ok(call_of(rest)?),
-        Kind::Send => Ok(send_of(rest)?),
-        Kind::Drop => Ok(drop_of(rest)?),
-        Kind::Shutter => Ok(shutter_of(rest)?),
+        Kind::Begin => told(begin_of(rest)),
+        Kind::Call => told(call_of(rest)),
+        Kind::Send => told(send_of(rest)),
+        Kind::Drop => told(drop_of(rest)),
+        Kind::Shutter => told(shutter_of(rest)),
         Kind::Partial => partial_of(alloc, rest),
-        Kind::Buffer => Ok(buffer_of(rest)?),
-        Kind::Error => Ok(error_of(rest)?),
-        Kind::Release => Ok(release_of(rest)?),
-        Kind::Signal => Ok(signal_of(rest)?),
-        Kind::Early => Ok(early_of(rest)?),
-        Kind::Late => Ok(late_of(rest)?),
+        Kind::Buffer => told(buffer_of(rest)),
+        Kind::Error => told(error_of(rest)),
+        Kind::Release => told(release_of(rest)),
+        Kind::Signal => told(signal_of(rest)),
+        Kind::Early => told(early_of(rest)),
+        Kind::Late => told(late_of(rest)),
     }
 }
 

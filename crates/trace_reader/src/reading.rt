@@ -10,7 +10,7 @@ use crate::first::named_profile;
 use crate::line::entry_of;
 use cam_types::Listing;
 use std::alloc::Global;
-use text_parts::split_at_byte;
+use text_parts::{has_text, split_at_byte};
 use trace_model::{Entry, TraceList};
 
 /// The most bytes of a text.
@@ -44,7 +44,7 @@ fn entries_from(alloc: Global, first: u32, text: &[u8]) -> Result<Listing<Entry>
     let mut number = first;
     let mut rest = text;
     while let Some((line, behind)) = split_at_byte(rest, b'\n') {
-        if line == b"end".as_slice() {
+        if has_text(line, "end") {
             if behind.is_empty() {
                 return Ok(entries);
             }

@@ -6,7 +6,7 @@ ghost use Rattle.trace_reader.specs.Values.{both, numbered, fence, item, fenced_
 use crate::cause::Cause;
 use crate::number::{byte, small};
 use cam_types::{BufferId, FenceNo, Made, StreamIx};
-use text_parts::{is_number, split_at_byte};
+use text_parts::{has_text, is_number, split_at_byte};
 use trace_model::Sent;
 
 /// Two values, or the cause that comes first.
@@ -125,10 +125,12 @@ pub fn made(stream: u8, word: &[u8]) -> Result<Made, Cause>
 pub fn mark(word: &[u8]) -> Result<bool, Cause>
     ensures { result ≡ mark word.now }
 {
-    match word {
-        b"same" => Ok(true),
-        b"new" => Ok(false),
-        _ => Err(Cause::BadLine),
+    if has_text(word, "same") {
+        Ok(true)
+    } else if has_text(word, "new") {
+        Ok(false)
+    } else {
+        Err(Cause::BadLine)
     }
 }
 

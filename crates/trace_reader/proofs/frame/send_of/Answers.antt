@@ -1,5 +1,4 @@
-use Rattle.std.proofs.Common.{◌≡◌, ℕ, Bool, List, ◌∷◌, Result, Err, rules, arith, refl, sym}
-use Rattle.std.proofs.lemmas.Grind.{common_steps}
+use Rattle.std.proofs.Common.{◌≡◌, ℕ, Bool, List, ◌∷◌, Result, Err, refl, sym}
 use Rattle.std.proofs.lemmas.Result.{err_from_is_err_and}
 use Rattle.cam_types.specs.declared.four.Four.{Four}
 use Rattle.trace_model.specs.declared.entry.Sent.{Sent}
@@ -20,12 +19,8 @@ send_refused ws n i m more number name same targets last named all cause e en ei
 
 pub returns-in_err-frame : goal.returns-in_err-frame
 returns-in_err-frame c =
-    let p = err_from_is_err_and c.from_residual-in_err-frame.result c.from_residual-in_err-frame.ensures.1 in
-    let was : c.both-3.result ≡ Err c.in_err-frame.field-0.0 = c.in_err-frame.was in
-    let e1 : strict_words_behind c.args.rest.now ≡ c.in_ok-number.number.now ∷ strict_words_behind c.in_ok-number.rest.now = first_of (grind arith, search rules, grind (arith, common_steps)) in
-    let e2 : strict_words_behind c.in_ok-number.rest.now ≡ c.in_ok-name.name.now ∷ strict_words_behind c.in_ok-name.rest.now = first_of (grind arith, search rules, grind (arith, common_steps)) in
-    let e3 : strict_words_behind c.in_ok-name.rest.now ≡ c.in_ok-sign.sign.now ∷ strict_words_behind c.in_ok-sign.rest.now = first_of (grind arith, search rules, grind (arith, common_steps)) in
-    let words : strict_words_behind c.args.rest.now ≡ c.in_ok-number.number.now ∷ c.in_ok-name.name.now ∷ c.in_ok-sign.sign.now ∷ strict_words_behind c.in_ok-sign.rest.now = rw (e1, e2, e3) refl in
-    rw (p.1, p.2) (sym (send_refused (strict_words_behind c.args.rest.now) c.in_ok-number.number.now c.in_ok-name.name.now c.in_ok-sign.sign.now (strict_words_behind c.in_ok-sign.rest.now)
+    let p = err_from_is_err_and c.from_residual.result c.from_residual.ensures.1 in
+    let words : strict_words_behind c.args.rest.now ≡ c.in-Some.number.now ∷ c.in-Some-next_strict_word.name.now ∷ c.in-Some-next_strict_word-2.sign.now ∷ strict_words_behind c.in-Some-next_strict_word-2.rest.now = rw (c.in-Some.ensures.words, c.in-Some-next_strict_word.ensures.words, c.in-Some-next_strict_word-2.ensures.words) refl in
+    rw (p.1, p.2) (sym (send_refused (strict_words_behind c.args.rest.now) c.in-Some.number.now c.in-Some-next_strict_word.name.now c.in-Some-next_strict_word-2.sign.now (strict_words_behind c.in-Some-next_strict_word-2.rest.now)
     c.small.result c.item.result c.mark.result c.targets.result c.both.result c.both-2.result c.both-3.result c.in_err-frame.field-0.0
-    words c.small.ensures c.item.ensures c.mark.ensures c.targets.ensures c.both.ensures c.both-2.ensures c.both-3.ensures was))
+    words c.small.ensures c.item.ensures c.mark.ensures c.targets.ensures c.both.ensures c.both-2.ensures c.both-3.ensures c.in_err-frame.was))

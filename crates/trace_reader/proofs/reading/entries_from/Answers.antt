@@ -1,28 +1,27 @@
-use Rattle.std.proofs.Common.{◌≡◌, ◌<◌, ◌++◌, ◌∷◌, [], true, false, length, ap, rules, arith}
+use Rattle.std.proofs.Common.{◌≡◌, ◌<◌, ◌++◌, ◌∷◌, [], true, false, length, ap, arith}
 use Rattle.std.specs.Prelude.{codes, bytes_eq}
-use Rattle.std.proofs.lemmas.Grind.{common_steps}
 use Rattle.std.proofs.lemmas.List.{length-append}
 use Rattle.text_parts.specs.Cuts.{parts_at}
 use Rattle.trace_reader.specs.Grammar.{entries_from}
 use Rattle.trace_reader.proofs.Fronts.{front_end, front_refused, front_read}
 use Rattle.trace_reader.proofs.reading.entries_from.Goals as goal
 
-pub returns-then-eq : goal.returns-then-eq
-returns-then-eq c =
-    let end : bytes_eq c.in-Some.line.now (codes "end") ≡ true = first_of (grind arith, search rules, grind (arith, common_steps)) in
-    let more : 0 < length c.in-Some.behind.now = first_of (omega arith, grind arith, search rules, grind (arith, common_steps)) in
+pub returns-then-has_text : goal.returns-then-has_text
+returns-then-has_text c =
+    let end : bytes_eq c.in-Some.line.now (codes "end") ≡ true = cc in
+    let more : 0 < length c.in-Some.behind.now = grind arith in
     rw c.bad.ensures (front_end c.loop-line.entries (entries_from c.args.first (parts_at 10 c.args.text.now)) c.loop-line.number c.in-Some.line.now c.in-Some.behind.now c.loop-line.rest.now
     c.in-Some.ensures.parts end more c.loop-line.invariant.same)
 
 pub returns-in-Err : goal.returns-in-Err
 returns-in-Err c =
-    let goes_on : bytes_eq c.in-Some.line.now (codes "end") ≡ false = first_of (grind arith, search rules, grind (arith, common_steps)) in
+    let goes_on : bytes_eq c.in-Some.line.now (codes "end") ≡ false = cc in
     rw c.refused.ensures (front_refused c.loop-line.entries (entries_from c.args.first (parts_at 10 c.args.text.now)) c.loop-line.number c.in-Some.line.now c.in-Some.behind.now c.loop-line.rest.now c.in-Err.why
     c.in-Some.ensures.parts goes_on c.in-Err.ensures c.loop-line.invariant.same)
 
 pub loop-line-preserved : goal.loop-line-preserved
 loop-line-preserved c =
-    let goes_on : bytes_eq c.in-Some.line.now (codes "end") ≡ false = first_of (grind arith, search rules, grind (arith, common_steps)) in
+    let goes_on : bytes_eq c.in-Some.line.now (codes "end") ≡ false = cc in
     let grown : c.push.new.self ≡ c.loop-line.entries ++ c.in-Ok.entry ∷ [] = c.in_ok-push-in-Ok.ensures.ok in
     let longer : length c.push.new.self ≡ length (c.loop-line.entries ++ c.in-Ok.entry ∷ []) = ap length grown in
     let more = length-append c.loop-line.entries (c.in-Ok.entry ∷ []) in
