@@ -1,2 +1,4 @@
 pub mod Past
 pub mod Turns
+pub mod Wanted
+pub mod Passed

@@ -1,12 +1,13 @@
 //! The client's commands: which has begun, which were accepted, and whether the service is closed.
-ghost use Rattle.std.specs.Prelude.{◌≡◌, reverse, option_copied, find};
-ghost use Rattle.trace_model.specs.Calls.{submits, begun, command_of, item_at, is_repeating, accepts, is_closed};
+ghost use Rattle.std.specs.Prelude.{◌≡◌, reverse, option_copied};
+ghost use Rattle.trace_model.specs.Calls.{begun, command_of, item_at, is_repeating, accepts, is_closed};
 ghost use Rattle.trace_model.specs.Calls.{is_closing_word as closes};
 ghost use Rattle.judge_filters.specs.Past.{is_begin_or_call, begun_in, command_in};
 
+use crate::wanted::{Wanted, last, stands};
 use cam_types::{Command, Item, RequestId, Script, Word};
 use judge_entries::command::{command_at, is_repeat, item_of};
-use judge_entries::entry::{is_closing_word, is_refusal, submits};
+use judge_entries::entry::{is_closing_word, is_refusal};
 use trace_model::Entry;
 
 /// Whether the entry is a begin or a call.
@@ -26,18 +27,12 @@ fn begun_in(entry: Option<&Entry>) -> Option<Word>
     }
 }
 
-fn last_begin_or_call(entries: &[Entry]) -> Option<&Entry>
-    ensures { option_copied result ≡ find is_begin_or_call (reverse entries.now) }
-{
-    entries.iter().rev().find(|entry| is_begin_or_call(entry))
-}
-
 /// The word of the command that has begun and has no call yet.
 #[tactic(auto, using(crate::proofs::PastLemmas::begun_found))]
 pub fn begun(entries: &[Entry]) -> Option<Word>
     ensures { result ≡ begun (reverse entries.now) }
 {
-    begun_in(last_begin_or_call(entries))
+    begun_in(last(entries, Wanted::BeginOrCall))
 }
 
 /// The script's command that a call answers.
@@ -50,12 +45,6 @@ fn command_in<'s>(script: &'s Script, entry: Option<&Entry>) -> Option<&'s Comma
     }
 }
 
-fn last_submission(entries: &[Entry], request: RequestId) -> Option<&Entry>
-    ensures { option_copied result ≡ find (submits request.0) (reverse entries.now) }
-{
-    entries.iter().rev().find(|entry| submits(entry, request))
-}
-
 /// The command that was accepted as the request.
 #[tactic(auto, using(crate::proofs::PastLemmas::command_found))]
 pub fn command_of<'s>(
@@ -65,7 +54,7 @@ pub fn command_of<'s>(
 ) -> Option<&'s Command>
     ensures { option_copied result ≡ command_of script.now (reverse entries.now) request.0 }
 {
-    command_in(script, last_submission(entries, request))
+    command_in(script, last(entries, Wanted::Submission(request)))
 }
 
 /// The request's item at the place.
@@ -83,7 +72,7 @@ pub fn is_repeating(script: &Script, entries: &[Entry], request: RequestId) -> b
 }
 
 /// Whether the entry accepts a close or a disconnect.
-fn closes(entry: &Entry) -> bool
+pub(crate) fn closes(entry: &Entry) -> bool
     ensures { result ≡ accepts closes entry.now }
 {
     match entry {
@@ -96,5 +85,5 @@ fn closes(entry: &Entry) -> bool
 pub fn is_closed(entries: &[Entry]) -> bool
     ensures { result ≡ is_closed (reverse entries.now) }
 {
-    entries.iter().rev().any(|entry| closes(entry))
+    stands(entries, Wanted::Closing)
 }

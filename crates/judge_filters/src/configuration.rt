@@ -1,20 +1,13 @@
 //! The streams and buffers of the last accepted configuration.
-ghost use Rattle.std.specs.Prelude.{◌≡◌, reverse, option_copied, find};
+ghost use Rattle.std.specs.Prelude.{◌≡◌, reverse, option_copied};
 ghost use Rattle.cam_types.specs.Four.{four_list};
-ghost use Rattle.trace_model.specs.Configuration.{streams, made, is_configured, configures};
+ghost use Rattle.trace_model.specs.Configuration.{streams, made, is_configured};
 ghost use Rattle.judge_filters.specs.Past.{streams_in, made_in};
 
+use crate::wanted::{Wanted, last, stands};
 use cam_types::{Command, Four, Made, Reply, Script, StreamSpec};
 use judge_entries::command::command_at;
-use judge_entries::entry::configures;
 use trace_model::Entry;
-
-/// The last entry that accepts a configuration.
-fn last_configuration(entries: &[Entry]) -> Option<&Entry>
-    ensures { option_copied result ≡ find configures (reverse entries.now) }
-{
-    entries.iter().rev().find(|entry| configures(entry))
-}
 
 /// The streams that a call configures.
 fn streams_in<'s>(script: &'s Script, entry: Option<&Entry>) -> &'s [StreamSpec]
@@ -34,7 +27,7 @@ fn streams_in<'s>(script: &'s Script, entry: Option<&Entry>) -> &'s [StreamSpec]
 pub fn streams<'s>(script: &'s Script, entries: &[Entry]) -> &'s [StreamSpec]
     ensures { result.now ≡ streams script.now (reverse entries.now) }
 {
-    streams_in(script, last_configuration(entries))
+    streams_in(script, last(entries, Wanted::Configuration))
 }
 
 /// The buffers that a call makes for each stream.
@@ -62,12 +55,12 @@ fn made_in(entry: Option<&Entry>) -> Four<Made>
 pub fn made(entries: &[Entry]) -> Four<Made>
     ensures { four_list result ≡ made (reverse entries.now) }
 {
-    made_in(last_configuration(entries))
+    made_in(last(entries, Wanted::Configuration))
 }
 
 /// Whether a configuration was accepted.
 pub fn is_configured(entries: &[Entry]) -> bool
     ensures { result ≡ is_configured (reverse entries.now) }
 {
-    entries.iter().rev().any(|entry| configures(entry))
+    stands(entries, Wanted::Configuration)
 }

@@ -4,8 +4,8 @@ ghost use Rattle.trace_model.specs.Entry.{is_early_with};
 ghost use Rattle.trace_model.specs.Fence.{fence_of, is_signalled, is_passed, early_fence_of, is_late, is_there, is_same_fence};
 
 use crate::place::last_naming;
+use crate::wanted::{Wanted, last, stands};
 use cam_types::{BufferId, DeviceFenceNo, FenceNo};
-use judge_entries::entry::{is_early_with, is_late_with, signals};
 use trace_model::Entry;
 
 /// The fence of a buffer at home: of its release, or the one with which it failed.
@@ -23,7 +23,7 @@ pub fn fence_of(entries: &[Entry], buffer: BufferId) -> Option<FenceNo>
 pub fn is_signalled(entries: &[Entry], fence: FenceNo) -> bool
     ensures { result ≡ is_signalled fence.0 (reverse entries.now) }
 {
-    entries.iter().rev().any(|entry| signals(entry, fence))
+    stands(entries, Wanted::Signal(fence))
 }
 
 /// Whether there is no fence to wait for, or it is signalled.
@@ -50,17 +50,14 @@ pub fn early_fence_of(entries: &[Entry], buffer: BufferId) -> Option<DeviceFence
 pub fn is_late(entries: &[Entry], fence: DeviceFenceNo) -> bool
     ensures { result ≡ is_late fence.0 (reverse entries.now) }
 {
-    entries.iter().rev().any(|entry| is_late_with(entry, fence))
+    stands(entries, Wanted::LateWith(fence))
 }
 
 /// The entry by which a buffer came back early with the device fence.
 pub fn early_return(entries: &[Entry], fence: DeviceFenceNo) -> Option<&Entry>
     ensures { option_copied result ≡ find (is_early_with fence.0) (reverse entries.now) }
 {
-    entries
-        .iter()
-        .rev()
-        .find(|entry| is_early_with(entry, fence))
+    last(entries, Wanted::EarlyWith(fence))
 }
 
 /// Whether there is no device fence to wait for, or it is signalled.

@@ -1,15 +1,14 @@
 //! A frame is what a send makes of an item.
-ghost use Rattle.std.specs.Prelude.{◌≡◌, reverse, find, option_copied};
+ghost use Rattle.std.specs.Prelude.{◌≡◌, reverse, option_copied};
 ghost use Rattle.cam_types.specs.Four.{four_list};
 ghost use Rattle.judge_filters.specs.Past.{time_in};
-ghost use Rattle.trace_model.specs.Entry.{is_shutter};
 ghost use Rattle.trace_model.specs.Frames.{is_sent, send_of, targets_of, target_of, has_target, item_of, settings_in};
 ghost use Rattle.trace_model.specs.Frames.{settings_of, is_repeating_frame, has_shutter, has_error_request, has_error};
 ghost use Rattle.trace_model.specs.Frames.{shutter_time};
 
 use crate::call::{is_repeating, item_at};
+use crate::wanted::{Wanted, last, stands};
 use cam_types::{Four, FrameNo, Item, Script, Settings, StreamIx};
-use judge_entries::entry::{is_error_of, is_error_request, is_shutter, sends};
 use judge_entries::target::{has_stream, target_for};
 use trace_model::{Entry, Sent};
 
@@ -17,14 +16,14 @@ use trace_model::{Entry, Sent};
 pub fn is_sent(entries: &[Entry], frame: FrameNo) -> bool
     ensures { result ≡ is_sent frame.0 (reverse entries.now) }
 {
-    entries.iter().rev().any(|entry| sends(entry, frame))
+    stands(entries, Wanted::Send(frame))
 }
 
 /// The entry that sent the frame.
 pub fn send_of(entries: &[Entry], frame: FrameNo) -> Option<&Entry>
     ensures { option_copied result ≡ send_of frame.0 (reverse entries.now) }
 {
-    entries.iter().rev().find(|entry| sends(entry, frame))
+    last(entries, Wanted::Send(frame))
 }
 
 /// The buffers that the frame was sent with.
@@ -102,30 +101,21 @@ pub fn is_repeating_frame(script: &Script, entries: &[Entry], frame: FrameNo) ->
 pub fn has_shutter(entries: &[Entry], frame: FrameNo) -> bool
     ensures { result ≡ has_shutter frame.0 (reverse entries.now) }
 {
-    entries.iter().rev().any(|entry| is_shutter(entry, frame))
+    stands(entries, Wanted::Shutter(frame))
 }
 
 /// Whether the capture of the frame failed whole.
 pub fn has_error_request(entries: &[Entry], frame: FrameNo) -> bool
     ensures { result ≡ has_error_request frame.0 (reverse entries.now) }
 {
-    entries
-        .iter()
-        .rev()
-        .any(|entry| is_error_request(entry, frame))
+    stands(entries, Wanted::ErrorRequest(frame))
 }
 
 /// Whether the frame has an error.
 pub fn has_error(entries: &[Entry], frame: FrameNo) -> bool
     ensures { result ≡ has_error frame.0 (reverse entries.now) }
 {
-    entries.iter().rev().any(|entry| is_error_of(entry, frame))
-}
-
-fn shutter_of(entries: &[Entry], frame: FrameNo) -> Option<&Entry>
-    ensures { option_copied result ≡ find (is_shutter frame.0) (reverse entries.now) }
-{
-    entries.iter().rev().find(|entry| is_shutter(entry, frame))
+    stands(entries, Wanted::ErrorOf(frame))
 }
 
 /// The time of a shutter.
@@ -143,5 +133,5 @@ fn time_in(entry: Option<&Entry>) -> Option<u64>
 pub fn shutter_time(entries: &[Entry], frame: FrameNo) -> Option<u64>
     ensures { result ≡ shutter_time frame.0 (reverse entries.now) }
 {
-    time_in(shutter_of(entries, frame))
+    time_in(last(entries, Wanted::Shutter(frame)))
 }

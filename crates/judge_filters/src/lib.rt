@@ -12,3 +12,4 @@ pub mod order;
 pub mod place;
 pub mod queue;
 pub mod stopping;
+mod wanted;

@@ -1,10 +1,11 @@
 //! What is sent next: the first of the queue, or where it is empty the repeating list's item in turn.
-ghost use Rattle.std.specs.Prelude.{◌≡◌, ◌<◌, ◌^◌, Some, is_some, length, reverse, find, option_copied};
+ghost use Rattle.std.specs.Prelude.{◌≡◌, ◌<◌, ◌^◌, Some, is_some, length, reverse, option_copied};
 ghost use Rattle.judge_filters.specs.Turns.{repeating_in, sets_repeating};
 ghost use Rattle.trace_model.specs.Queue.{is_clearing_word, is_repeat_word, next, next_repeating, repeating};
 ghost use Rattle.trace_model.specs.Queue.{repeating_of, request_in};
 
 use crate::queue::first_queued;
+use crate::wanted::{Wanted, last};
 use cam_types::{Command, Item, Queued, Reply, RequestId, Script, Word};
 use judge_entries::command::{command_at, is_repeat};
 use judge_entries::entry::is_refusal;
@@ -29,7 +30,7 @@ fn is_clearing_word(word: Word) -> bool
 }
 
 /// Whether the entry accepts a command that sets or clears the repeating list.
-fn sets_repeating(entry: &Entry) -> bool
+pub(crate) fn sets_repeating(entry: &Entry) -> bool
     ensures { result ≡ sets_repeating entry.now }
 {
     match entry {
@@ -38,12 +39,6 @@ fn sets_repeating(entry: &Entry) -> bool
         }
         _ => false,
     }
-}
-
-fn last_setting(entries: &[Entry]) -> Option<&Entry>
-    ensures { option_copied result ≡ find sets_repeating (reverse entries.now) }
-{
-    entries.iter().rev().find(|entry| sets_repeating(entry))
 }
 
 /// The number of the request that was accepted, 0 where none was.
@@ -110,7 +105,7 @@ fn in_turn_after(script: &Script, entries: &[Entry], call: Option<&Entry>) -> Op
 pub fn next_repeating(script: &Script, entries: &[Entry]) -> Option<Queued>
     ensures { result ≡ next_repeating (repeating script.now (reverse entries.now)) (reverse entries.now) }
 {
-    in_turn_after(script, entries, last_setting(entries))
+    in_turn_after(script, entries, last(entries, Wanted::RepeatSetting))
 }
 
 /// Whether the call leaves a repeating list.
@@ -130,7 +125,7 @@ fn leaves_a_list(script: &Script, call: Option<&Entry>) -> bool
 pub fn is_list_repeating(script: &Script, entries: &[Entry]) -> bool
     ensures { result ≡ is_some (repeating script.now (reverse entries.now)) }
 {
-    leaves_a_list(script, last_setting(entries))
+    leaves_a_list(script, last(entries, Wanted::RepeatSetting))
 }
 
 /// The next item.

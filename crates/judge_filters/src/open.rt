@@ -2,47 +2,35 @@
 ghost use Rattle.std.specs.Prelude.{◌≡◌, not, reverse, count_by, option_to_list};
 ghost use Rattle.std.specs.List.{list_all, list_any};
 ghost use Rattle.judge_filters.specs.Past.{on_send, at_send, on_early};
-ghost use Rattle.trace_model.specs.Entry.{brings, is_partial, returns_of_frame};
 ghost use Rattle.trace_model.specs.Fence.{is_late};
 ghost use Rattle.trace_model.specs.Open.{has_part, has_error_result, has_error_buffer, is_metadata_ended, is_returned};
 ghost use Rattle.trace_model.specs.Open.{is_settled, all_settled, is_open, is_done, open_count, is_quiet, has_something};
 
 use crate::fence::is_late;
 use crate::frame::{has_error, has_error_request, is_sent, targets_of};
+use crate::wanted::{Wanted, stands};
 use cam_types::{FrameNo, StreamIx};
-use judge_entries::entry::{
-    brings, is_error_buffer, is_error_result, is_part, is_partial, returns_of_frame, returns_target,
-};
 use trace_model::{Entry, Sent};
 
 /// Whether the frame's partial result of the number came.
 pub fn has_part(entries: &[Entry], frame: FrameNo, number: u8) -> bool
     ensures { result ≡ has_part frame.0 number (reverse entries.now) }
 {
-    entries
-        .iter()
-        .rev()
-        .any(|entry| is_part(entry, frame, number))
+    stands(entries, Wanted::Part(frame, number))
 }
 
 /// Whether it is announced that metadata of the frame is missing.
 pub fn has_error_result(entries: &[Entry], frame: FrameNo) -> bool
     ensures { result ≡ has_error_result frame.0 (reverse entries.now) }
 {
-    entries
-        .iter()
-        .rev()
-        .any(|entry| is_error_result(entry, frame))
+    stands(entries, Wanted::ErrorResult(frame))
 }
 
 /// Whether it is announced that the frame's buffer for the stream won't be filled.
 pub fn has_error_buffer(entries: &[Entry], frame: FrameNo, stream: StreamIx) -> bool
     ensures { result ≡ has_error_buffer frame.0 stream.0 (reverse entries.now) }
 {
-    entries
-        .iter()
-        .rev()
-        .any(|entry| is_error_buffer(entry, frame, stream))
+    stands(entries, Wanted::ErrorBuffer(frame, stream))
 }
 
 /// Whether the metadata of the frame ended.
@@ -57,20 +45,7 @@ pub fn is_metadata_ended(entries: &[Entry], frame: FrameNo) -> bool
 pub fn is_returned(entries: &[Entry], frame: FrameNo, stream: StreamIx) -> bool
     ensures { result ≡ is_returned frame.0 stream.0 (reverse entries.now) }
 {
-    entries
-        .iter()
-        .rev()
-        .any(|entry| returns_target(entry, frame, stream))
-}
-
-/// Whether the frame's buffer for the stream came back filled or failed.
-fn is_brought(entries: &[Entry], frame: FrameNo, stream: StreamIx) -> bool
-    ensures { result ≡ list_any (brings frame.0 stream.0) (reverse entries.now) }
-{
-    entries
-        .iter()
-        .rev()
-        .any(|entry| brings(entry, frame, stream))
+    stands(entries, Wanted::Return(frame, stream))
 }
 
 /// Whether the entry gives the frame's buffer for the stream back early, with a device fence that is signalled.
@@ -104,7 +79,7 @@ fn is_filled_late(entries: &[Entry], frame: FrameNo, stream: StreamIx) -> bool
 pub fn is_settled(entries: &[Entry], frame: FrameNo, stream: StreamIx) -> bool
     ensures { result ≡ is_settled frame.0 stream.0 (reverse entries.now) }
 {
-    is_brought(entries, frame, stream) || is_filled_late(entries, frame, stream)
+    stands(entries, Wanted::Bringing(frame, stream)) || is_filled_late(entries, frame, stream)
 }
 
 fn is_target_settled(entries: &[Entry], frame: FrameNo, target: Option<Sent>) -> bool
@@ -199,26 +174,10 @@ pub fn is_quiet(entries: &[Entry]) -> bool
     no_send_open(entries)
 }
 
-/// Whether a partial result of the frame came.
-fn has_partial(entries: &[Entry], frame: FrameNo) -> bool
-    ensures { result ≡ list_any (is_partial frame.0) (reverse entries.now) }
-{
-    entries.iter().rev().any(|entry| is_partial(entry, frame))
-}
-
-/// Whether a buffer of the frame came back.
-fn has_returned(entries: &[Entry], frame: FrameNo) -> bool
-    ensures { result ≡ list_any (returns_of_frame frame.0) (reverse entries.now) }
-{
-    entries
-        .iter()
-        .rev()
-        .any(|entry| returns_of_frame(entry, frame))
-}
-
 /// Whether a partial result, a buffer or an error of the frame stands.
 pub fn has_something(entries: &[Entry], frame: FrameNo) -> bool
     ensures { result ≡ has_something frame.0 (reverse entries.now) }
 {
-    has_partial(entries, frame) || (has_returned(entries, frame) || has_error(entries, frame))
+    stands(entries, Wanted::Partial(frame))
+        || (stands(entries, Wanted::ReturnOf(frame)) || has_error(entries, frame))
 }

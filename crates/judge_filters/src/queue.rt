@@ -5,19 +5,16 @@ ghost use Rattle.judge_filters.specs.Past.{or_first};
 ghost use Rattle.trace_model.specs.Entry.{takes};
 ghost use Rattle.trace_model.specs.Queue.{named, puts, queued, is_taken, first_in};
 
+use crate::wanted::{Wanted, stands};
 use cam_types::{Item, Reply, RequestId, Script, WaitingItem};
 use judge_entries::command::{command_at, queued_items};
-use judge_entries::entry::takes;
 use trace_model::Entry;
 
 /// Whether a send or a drop names the item.
 pub fn is_taken(entries: &[Entry], request: RequestId, place: u32) -> bool
     ensures { result ≡ list_any (takes request.0 place) (reverse entries.now) }
 {
-    entries
-        .iter()
-        .rev()
-        .any(|entry| takes(entry, request, place))
+    stands(entries, Wanted::Taking(request, place))
 }
 
 /// The first of a request's items that isn't taken.

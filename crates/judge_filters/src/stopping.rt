@@ -3,15 +3,16 @@ ghost use Rattle.std.specs.Prelude.{◌≡◌, reverse};
 ghost use Rattle.trace_model.specs.Stopping.{has_failed, is_stopping, is_stopped};
 
 use crate::call::begun;
+use crate::wanted::{Wanted, stands};
 use cam_types::FrameNo;
-use judge_entries::entry::{is_error_device, is_stop, is_stop_word, sends};
+use judge_entries::entry::{is_stop, is_stop_word, sends};
 use trace_model::Entry;
 
 /// Whether the device failed.
 pub fn has_failed(entries: &[Entry]) -> bool
     ensures { result ≡ has_failed (reverse entries.now) }
 {
-    entries.iter().rev().any(|entry| is_error_device(entry))
+    stands(entries, Wanted::ErrorDevice)
 }
 
 /// Whether a flush or a disconnect has begun and isn't answered, or the device failed.
