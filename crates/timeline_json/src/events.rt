@@ -71,7 +71,7 @@ fn put_flow(out: &mut Vec<u8>, alloc: Global, place: u32, piece: &Piece) -> Resu
     };
     let track = track_of(piece.look, piece.seat);
     let step = flow(alloc, track, u64::from(place), u64::from(frame), phase)?;
-    put_event(out, alloc, &step)
+    put_event(out, alloc, step)
 }
 
 /// Writes the events of a piece.
@@ -86,7 +86,7 @@ fn put_piece(
     ensures { OnOk result (out.new.items ≡ out.old.items ++ piece_text place told.now piece.now) }
 {
     let slice = piece_slice(alloc, place, told, piece)?;
-    put_event(out, alloc, &slice)?;
+    put_event(out, alloc, slice)?;
     put_flow(out, alloc, place, piece)
 }
 
@@ -129,7 +129,7 @@ fn put_fault(
 {
     if broken {
         let event = fault_event(alloc, kind, place, told)?;
-        put_event(out, alloc, &event)
+        put_event(out, alloc, event)
     } else {
         Ok(())
     }
@@ -149,7 +149,7 @@ fn put_level_events(out: &mut Vec<u8>, alloc: Global, group: &Group) -> Result<(
     if group.counted {
         let stopping = one_if(group.stopping);
         let levels = levels_at(alloc, u64::from(group.place), group.level, stopping)?;
-        put_event(out, alloc, &levels)
+        put_event(out, alloc, levels)
     } else {
         Ok(())
     }
@@ -222,7 +222,7 @@ pub fn put_all_unfinished(
 {
     for piece in pieces {
         let event = unfinished_event(alloc, last, piece)?;
-        put_event(out, alloc, &event)?;
+        put_event(out, alloc, event)?;
     }
     Ok(())
 }

@@ -46,18 +46,18 @@ pub fn put(out: &mut Vec<u8>, bytes: &[u8]) -> Result<(), NoMemory>
 }
 
 /// Writes a value.
-pub fn put_value(out: &mut Vec<u8>, alloc: Global, value: &Value) -> Result<(), NoMemory>
-    requires { has_float (view value.now) ≡ false }
-    ensures { OnOk result (out.new.items ≡ out.old.items ++ compact_text (view value.now)) }
+pub fn put_value(out: &mut Vec<u8>, alloc: Global, value: Value) -> Result<(), NoMemory>
+    requires { has_float (view value) ≡ false }
+    ensures { OnOk result (out.new.items ≡ out.old.items ++ compact_text (view value)) }
 {
     let text = value.to_string(alloc)?;
     out.extend_from_slice(text.as_bytes())
 }
 
 /// Writes an event behind a comma.
-pub fn put_event(out: &mut Vec<u8>, alloc: Global, event: &Value) -> Result<(), NoMemory>
-    requires { has_float (view event.now) ≡ false }
-    ensures { OnOk result (out.new.items ≡ out.old.items ++ 44 ∷ compact_text (view event.now)) }
+pub fn put_event(out: &mut Vec<u8>, alloc: Global, event: Value) -> Result<(), NoMemory>
+    requires { has_float (view event) ≡ false }
+    ensures { OnOk result (out.new.items ≡ out.old.items ++ 44 ∷ compact_text (view event)) }
 {
     put(out, b",")?;
     put_value(out, alloc, event)

@@ -53,23 +53,15 @@ pub fn track_of(look: Look, seat: Option<Seat>) -> Track
     ensures { result ≡ track_of look seat }
 {
     match look {
-        Look::Begin => own(1),
-        Look::Call { .. } => own(1),
-        Look::Send => own(2),
-        Look::Dropped => own(2),
-        Look::RequestBegin => own(2),
-        Look::RequestOk => own(2),
-        Look::RequestError => own(2),
-        Look::Shutter { .. } => own(3),
-        Look::ErrorDevice => own(3),
-        Look::Partial { .. } => own(4),
-        Look::ErrorRequest => own(4),
-        Look::ErrorResult => own(4),
-        Look::Release => own(5),
-        Look::Signal => own(5),
-        Look::CallBegin { call } => own(call_thread(call)),
-        Look::CallOk { call } => own(call_thread(call)),
-        Look::CallError { call } => own(call_thread(call)),
+        Look::Begin | Look::Call { .. } => own(1),
+        Look::Send | Look::Dropped | Look::RequestBegin | Look::RequestOk | Look::RequestError =>
+            own(2),
+        Look::Shutter { .. } | Look::ErrorDevice => own(3),
+        Look::Partial { .. } | Look::ErrorRequest | Look::ErrorResult => own(4),
+        Look::Release | Look::Signal => own(5),
+        Look::CallBegin { call } | Look::CallOk { call } | Look::CallError { call } => {
+            own(call_thread(call))
+        }
         _ => row_track(seat),
     }
 }
@@ -92,7 +84,7 @@ pub fn look_text(look: Look) -> &'static str
     ensures { result.now ≡ look_text look }
 {
     match look {
-        Look::Begin => "begin",
+        Look::Begin | Look::CallBegin { .. } => "begin",
         Look::Call { word } => word_text(word),
         Look::Send => "send",
         Look::Dropped => "drop",
@@ -108,13 +100,10 @@ pub fn look_text(look: Look) -> &'static str
         Look::Signal => "signal",
         Look::Early => "early",
         Look::Late => "filled",
-        Look::CallBegin { .. } => "begin",
-        Look::CallOk { call } => call_text(call),
-        Look::CallError { call } => call_text(call),
+        Look::CallOk { call } | Look::CallError { call } => call_text(call),
         Look::RequestBegin => "request",
         Look::RequestOk => "accepted",
-        Look::RequestError => "refused",
-        Look::Refused => "refused",
+        Look::RequestError | Look::Refused => "refused",
         Look::Unclear => "unclear",
         Look::Unfinished => "not done",
     }

@@ -17,7 +17,7 @@ fn put_thread(out: &mut Vec<u8>, alloc: Global, number: u64, name: &str) -> Resu
     ensures { OnOk result (out.new.items ≡ out.old.items ++ 44 ∷ compact_text (thread number name.now)) }
 {
     let event = name_of(alloc, "thread_name", own(number), name)?;
-    put_event(out, alloc, &event)
+    put_event(out, alloc, event)
 }
 
 /// The threads that each trace has.
@@ -75,7 +75,7 @@ fn put_stream(out: &mut Vec<u8>, alloc: Global, lane: &Lane) -> Result<(), NoMem
         thread: 0,
     };
     let event = name_of(alloc, "process_name", track, name.as_str())?;
-    put_event(out, alloc, &event)
+    put_event(out, alloc, event)
 }
 
 /// Writes the names of the streams.
@@ -113,9 +113,9 @@ fn notes_text(alloc: Global, notes: &[Series<u8>]) -> Result<String, NoMemory>
 fn put_verdict(out: &mut Vec<u8>, alloc: Global, note: &str) -> Result<(), NoMemory>
     ensures { OnOk result (out.new.items ≡ out.old.items ++ verdict_text note.now) }
 {
-    let verdict = verdict_value(alloc, note)?;
     put(out, b"{\"otherData\":")?;
-    put_value(out, alloc, &verdict)
+    let verdict = verdict_value(alloc, note)?;
+    put_value(out, alloc, verdict)
 }
 
 /// Writes the first event, which names the camera.
@@ -127,9 +127,9 @@ fn put_camera(out: &mut Vec<u8>, alloc: Global) -> Result<(), NoMemory>
         process: 1,
         thread: 0,
     };
-    let event = name_of(alloc, "process_name", track, "camera")?;
     put(out, b",\"traceEvents\":[")?;
-    put_value(out, alloc, &event)
+    let event = name_of(alloc, "process_name", track, "camera")?;
+    put_value(out, alloc, event)
 }
 
 /// Writes the notes, and the first event.

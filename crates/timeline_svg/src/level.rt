@@ -1,9 +1,9 @@
 //! What goes through the whole picture: the level, and the bands while something stops.
-ghost use Rattle.std.specs.Prelude.{◌≡◌, ◌≤◌, ◌++◌, OnOk};
+ghost use Rattle.std.specs.Prelude.{◌≡◌, ◌≤◌, ◌++◌, OnOk, string_bytes};
 ghost use Rattle.std.specs.List.{flat_map};
 ghost use Rattle.timeline_svg.specs.Levels.{band_step, band_y, bands_text, ground_y, level_step, level_text, level_y};
 
-use crate::pen::{put, put_number};
+use crate::pen::put;
 use crate::place::shift;
 use cam_types::NoMemory;
 use timeline_model::{Group, Kind};
@@ -24,17 +24,16 @@ fn level_y(kind: Kind, level: u64) -> u64
 }
 
 /// Writes the line's step at a place.
-fn put_level_step(out: &mut Vec<u8>, kind: Kind, group: &Group) -> Result<(), NoMemory>
-    ensures { OnOk result (out.new.items ≡ out.old.items ++ level_step kind group.now) }
+fn put_level_step(out: &mut String, kind: Kind, group: &Group) -> Result<(), NoMemory>
+    ensures { OnOk result (string_bytes out.new ≡ string_bytes out.old ++ level_step kind group.now) }
 {
-    put(out, b"V")?;
-    put_number(out, level_y(kind, group.level))?;
-    put(out, b"h10")
+    let y = level_y(kind, group.level);
+    write!(out, "V{y}h10")
 }
 
 /// Writes the steps of the line.
-fn put_level_steps(out: &mut Vec<u8>, kind: Kind, groups: &[Group]) -> Result<(), NoMemory>
-    ensures { OnOk result (out.new.items ≡ out.old.items ++ flat_map (level_step kind) groups.now) }
+fn put_level_steps(out: &mut String, kind: Kind, groups: &[Group]) -> Result<(), NoMemory>
+    ensures { OnOk result (string_bytes out.new ≡ string_bytes out.old ++ flat_map (level_step kind) groups.now) }
 {
     for group in groups {
         put_level_step(out, kind, group)?;
@@ -43,17 +42,13 @@ fn put_level_steps(out: &mut Vec<u8>, kind: Kind, groups: &[Group]) -> Result<()
 }
 
 /// Writes the line of the level: how many items wait, or how many requests are live, after each line of the input.
-#[tactic(auto, unfolding(crate::specs::Levels::level_text))]
-pub fn put_level(out: &mut Vec<u8>, kind: Kind, groups: &[Group]) -> Result<(), NoMemory>
-    ensures { OnOk result (out.new.items ≡ out.old.items ++ level_text kind groups.now) }
+pub fn put_level(out: &mut String, kind: Kind, groups: &[Group]) -> Result<(), NoMemory>
+    ensures { OnOk result (string_bytes out.new ≡ string_bytes out.old ++ level_text kind groups.now) }
 {
     let ground = ground_y(kind);
-    put(out, b"<path class='q' d='M100 ")?;
-    put_number(out, ground)?;
+    write!(out, "<path class='q' d='M100 {ground}")?;
     put_level_steps(out, kind, groups)?;
-    put(out, b"V")?;
-    put_number(out, ground)?;
-    put(out, b"z'/>\n")
+    write!(out, "V{ground}z'/>\n")
 }
 
 /// Where a band ends, which is the picture's bottom, or its top where there is none.
@@ -64,17 +59,16 @@ fn band_y(bottom: u64, stopping: bool) -> u64
 }
 
 /// Writes a band's step at a place.
-fn put_band_step(out: &mut Vec<u8>, bottom: u64, group: &Group) -> Result<(), NoMemory>
-    ensures { OnOk result (out.new.items ≡ out.old.items ++ band_step bottom group.now) }
+fn put_band_step(out: &mut String, bottom: u64, group: &Group) -> Result<(), NoMemory>
+    ensures { OnOk result (string_bytes out.new ≡ string_bytes out.old ++ band_step bottom group.now) }
 {
-    put(out, b"V")?;
-    put_number(out, band_y(bottom, group.stopping))?;
-    put(out, b"h10")
+    let y = band_y(bottom, group.stopping);
+    write!(out, "V{y}h10")
 }
 
 /// Writes the steps of the bands.
-fn put_band_steps(out: &mut Vec<u8>, bottom: u64, groups: &[Group]) -> Result<(), NoMemory>
-    ensures { OnOk result (out.new.items ≡ out.old.items ++ flat_map (band_step bottom) groups.now) }
+fn put_band_steps(out: &mut String, bottom: u64, groups: &[Group]) -> Result<(), NoMemory>
+    ensures { OnOk result (string_bytes out.new ≡ string_bytes out.old ++ flat_map (band_step bottom) groups.now) }
 {
     for group in groups {
         put_band_step(out, bottom, group)?;
@@ -84,10 +78,10 @@ fn put_band_steps(out: &mut Vec<u8>, bottom: u64, groups: &[Group]) -> Result<()
 
 /// Writes the bands while something stops, as steps of a line.
 #[tactic(auto, unfolding(crate::specs::Levels::bands_text))]
-pub fn put_bands(out: &mut Vec<u8>, bottom: u64, groups: &[Group]) -> Result<(), NoMemory>
-    ensures { OnOk result (out.new.items ≡ out.old.items ++ bands_text bottom groups.now) }
+pub fn put_bands(out: &mut String, bottom: u64, groups: &[Group]) -> Result<(), NoMemory>
+    ensures { OnOk result (string_bytes out.new ≡ string_bytes out.old ++ bands_text bottom groups.now) }
 {
-    put(out, b"<path class='u' d='M100 16")?;
+    put(out, "<path class='u' d='M100 16")?;
     put_band_steps(out, bottom, groups)?;
-    put(out, b"V16z'/>\n")
+    put(out, "V16z'/>\n")
 }

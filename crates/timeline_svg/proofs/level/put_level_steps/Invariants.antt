@@ -1,7 +1,8 @@
 use Rattle.std.proofs.Common.{◌≡◌, ◌++◌, take}
+use Rattle.std.specs.Prelude.{string_bytes}
 use Rattle.std.specs.List.{flat_map}
 use Rattle.timeline_svg.specs.Levels.{level_step}
 use Rattle.timeline_svg.proofs.level.put_level_steps.Given as goal
 
 abbrev pub invariant-loop-group : goal.invariant-loop-group
-invariant-loop-group l = l.out.items ≡ l.initial.out.items ++ flat_map (level_step l.kind) (take l.group-index l.groups)
+invariant-loop-group l = string_bytes l.out ≡ string_bytes l.initial.out ++ flat_map (level_step l.kind) (take l.group-index l.groups)

@@ -1,7 +1,8 @@
 use Rattle.std.proofs.Common.{◌≡◌, ◌++◌, take}
+use Rattle.std.specs.Prelude.{string_bytes}
 use Rattle.std.specs.List.{flat_map}
 use Rattle.timeline_svg.specs.Escapes.{escaped}
 use Rattle.timeline_svg.proofs.pen.put_escaped.Given as goal
 
 abbrev pub invariant-loop-byte : goal.invariant-loop-byte
-invariant-loop-byte l = l.out.items ≡ l.initial.out.items ++ flat_map escaped (take l.byte-index l.bytes)
+invariant-loop-byte l = string_bytes l.out ≡ string_bytes l.initial.out ++ flat_map escaped (take l.byte-index l.bytes)
