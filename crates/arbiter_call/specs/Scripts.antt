@@ -5,37 +5,22 @@ use Rattle.cam_types.specs.declared.item.Item.{Item}
 use Rattle.cam_types.specs.declared.script.Command.{Command}
 use Rattle.cam_types.specs.declared.script.Command.TheVariants.{Configure, Repeat, Await, Close, Disconnect}
 use Rattle.cam_types.specs.declared.script.Script.{Script}
-use Rattle.cam_types.specs.declared.stream.Format.TheVariants.{Yuv}
-use Rattle.cam_types.specs.declared.stream.StreamSpec.{StreamSpec}
+use Rattle.call_parts.specs.OwnScripts.{for_first_stream, plain_script, small_stream}
 use Rattle.metadata_rules.specs.Templates.{template_of}
 use Rattle.metadata_rules.specs.declared.rule.Template.TheVariants.{Preview}
 use Rattle.camera_arbiter.specs.declared.answer.LogLine.{LogLine}
 use Rattle.camera_arbiter.specs.declared.answer.LogLine.TheVariants.{Evict, Leave}
 
--- `yuv:40x30` as stream 0
-abbrev pub small_stream : List StreamSpec
-small_stream = record { input = false; format = Yuv; width = 40; height = 30 } ∷ []
-
 -- `preview@0`
 abbrev pub preview : Item
-preview = record {
-  settings = template_of Preview;
-  targets = record { count = 1; list = 0 ∷ 0 ∷ 0 ∷ 0 ∷ 0 ∷ 0 ∷ 0 ∷ 0 ∷ [] };
-}
+preview = for_first_stream (template_of Preview)
 
 -- `configure yuv:40x30`, `repeat preview@0`, `await N` and the last command
 abbrev pub session_commands : ℕ → Command → List Command
 session_commands shots last = Configure small_stream ∷ Repeat (preview ∷ []) ∷ Await shots ∷ last ∷ []
 
 unfoldable pub session_script : ℕ → Command → Script
-session_script shots last = record {
-  version = 1;
-  profile = record { depth = 6; raw = 3; yuv = 4 };
-  early = false;
-  faults = [];
-  picks = [];
-  commands = session_commands shots last;
-}
+session_script shots last = plain_script (session_commands shots last)
 
 -- the script of the session that a line ends, if it ends one
 abbrev pub script_behind : LogLine → Option Script

@@ -1,42 +1,20 @@
 //! What the client of a session does at its camera.
 ghost use Rattle.std.specs.Prelude.{◌≡◌, ◌∷◌, ◌≤◌, [], IfOk, IfSome, IsTrue, true};
 ghost use Rattle.cam_types.specs.Script.{command_fits, is_closing_command, is_valid};
-ghost use Rattle.arbiter_call.specs.Scripts.{preview, script_behind, session_commands, session_script, shots_fit, small_stream};
+ghost use Rattle.arbiter_call.specs.Scripts.{preview, script_behind, session_commands, session_script, shots_fit};
 
-use cam_types::{
-    Command, CommandList, FaultList, Format, Item, ItemList, NoMemory, PickList, Profile, Script,
-    SpecList, StreamSpec, Targets,
-};
+use call_parts::{for_first_stream, plain_script, small_stream};
+use cam_types::{Command, CommandList, ItemList, NoMemory, Script};
 use camera_arbiter::LogLine;
 use metadata_rules::{Template, template};
 use std::alloc::Global;
-
-/// `yuv:40x30` as stream 0.
-fn small_stream(alloc: Global) -> Result<SpecList, NoMemory>
-    ensures { IfOk result (λ list. list ≡ small_stream) }
-{
-    let mut streams = SpecList::new(alloc);
-    streams.push(StreamSpec {
-        input: false,
-        format: Format::Yuv,
-        width: 40,
-        height: 30,
-    })?;
-    Ok(streams)
-}
 
 /// `preview@0`, as a list.
 fn previews(alloc: Global) -> Result<ItemList, NoMemory>
     ensures { IfOk result (λ list. list ≡ preview ∷ []) }
 {
     let mut items = ItemList::new(alloc);
-    items.push(Item {
-        settings: template(Template::Preview),
-        targets: Targets {
-            count: 1,
-            list: [0; 8],
-        },
-    })?;
+    items.push(for_first_stream(template(Template::Preview)))?;
     Ok(items)
 }
 
@@ -63,14 +41,7 @@ fn session_script(alloc: Global, shots: u32, last: Command) -> Result<Script, No
     ensures valid { IfOk result (λ script. IsTrue (is_valid script)) }
 {
     let commands = session_commands(alloc, shots, last)?;
-    Ok(Script {
-        version: 1,
-        profile: Profile::PLAIN,
-        early: false,
-        faults: FaultList::new(alloc),
-        picks: PickList::new(alloc),
-        commands,
-    })
+    Ok(plain_script(alloc, commands))
 }
 
 /// The script of the session that a line ends, if it ends one. It is valid. This fails only for want of memory.

@@ -15,7 +15,8 @@ use Rattle.cam_types.specs.declared.script.Command.TheVariants.{Configure, Close
 use Rattle.cam_types.specs.Script.{awaited_by, command_fits, is_closing_command, is_valid, settings_fit}
 use Rattle.auto_call.specs.Brightness.{least}
 use Rattle.auto_call.specs.Search.{searched, step_of}
-use Rattle.auto_call.specs.Output.{one_stream, once, script_of, settings_of, shot, scene_shots, shots_of}
+use Rattle.call_parts.specs.OwnScripts.{small_stream}
+use Rattle.auto_call.specs.Output.{once, script_of, settings_of, shot, scene_shots, shots_of}
 use Rattle.auto_call.specs.declared.text.AutoText.{AutoText}
 use Rattle.auto_call.specs.declared.text.Scene.{Scene}
 use Rattle.auto_call.specs.Valid.{frames_of, is_iso, is_scene, is_valid as is_valid_text}
@@ -90,11 +91,11 @@ script-valid shots few fit =
     let behind = map once shots ++ Close ∷ [] in
     let len = length-append (map once shots) (Close ∷ []) in
     let same = length-map shots once in
-    let count : nat_le (length (Configure one_stream ∷ behind)) 512 ≡ true = grind (arith, nat_tests) in
+    let count : nat_le (length (Configure small_stream ∷ behind)) 512 ≡ true = grind (arith, nat_tests) in
     let none = none-awaited shots in
-    let cons = sum_by-cons awaited_by (Configure one_stream) behind in
-    let total : sum_by awaited_by (Configure one_stream ∷ behind) ≡ 0 = omega arith in
-    let awaited : nat_le (sum_by awaited_by (Configure one_stream ∷ behind)) 16384 ≡ true = rw total refl in
+    let cons = sum_by-cons awaited_by (Configure small_stream) behind in
+    let total : sum_by awaited_by (Configure small_stream ∷ behind) ≡ 0 = omega arith in
+    let awaited : nat_le (sum_by awaited_by (Configure small_stream ∷ behind)) 16384 ≡ true = rw total refl in
     let all : list_all command_fits behind ≡ true = all-append command_fits (map once shots) (Close ∷ []) (once-fits shots fit) refl in
     and_from _ _ count (and_from _ _ all (and_from _ _ awaited (closes shots)))
 

@@ -1,6 +1,6 @@
 -- What automatic exposure finds in its scenes, by their least steps alone, and the script of its frames.
 -- (docs/FORMATS.md, automatic exposure)
-use Rattle.std.specs.Prelude.{ℕ, ◌+◌, false, List, [], ◌∷◌, ◌++◌, map}
+use Rattle.std.specs.Prelude.{ℕ, ◌+◌, List, [], ◌∷◌, ◌++◌, map}
 use Rattle.std.specs.List.{flat_map, range_with_len}
 use Rattle.auto_call.specs.Brightness.{at_step, least}
 use Rattle.auto_call.specs.Search.{searched, state_of, step_of}
@@ -10,8 +10,7 @@ use Rattle.cam_types.specs.declared.item.Settings.{Settings}
 use Rattle.cam_types.specs.declared.script.Command.{Command}
 use Rattle.cam_types.specs.declared.script.Command.TheVariants.{Configure, Once, Close}
 use Rattle.cam_types.specs.declared.script.Script.{Script}
-use Rattle.cam_types.specs.declared.stream.Format.TheVariants.{Yuv}
-use Rattle.cam_types.specs.declared.stream.StreamSpec.{StreamSpec}
+use Rattle.call_parts.specs.OwnScripts.{for_first_stream, plain_script, small_stream}
 use Rattle.auto_call.specs.declared.text.AutoText.{AutoText}
 use Rattle.auto_call.specs.declared.text.Scene.{Scene}
 
@@ -48,24 +47,10 @@ lines_from target iso first k (scene ∷ scenes) =
 abbrev pub lines_of : AutoText → List AutoLine
 lines_of text = lines_from text.target text.iso 0 0 text.scenes
 
--- `yuv:40x30` as stream 0
-abbrev pub one_stream : List StreamSpec
-one_stream = record { input = false; format = Yuv; width = 40; height = 30 } ∷ []
-
 -- `once` of the settings for stream 0
 abbrev pub once : Settings → Command
-once s = Once (record {
-  settings = s;
-  targets = record { count = 1; list = 0 ∷ 0 ∷ 0 ∷ 0 ∷ 0 ∷ 0 ∷ 0 ∷ 0 ∷ [] };
-})
+once s = Once (for_first_stream s)
 
 -- the script of frames with these settings: a configuration, one capture for each, and a `close`
 unfoldable pub script_of : List Settings → Script
-script_of shots = record {
-  version = 1;
-  profile = record { depth = 6; raw = 3; yuv = 4 };
-  early = false;
-  faults = [];
-  picks = [];
-  commands = Configure one_stream ∷ map once shots ++ Close ∷ [];
-}
+script_of shots = plain_script (Configure small_stream ∷ map once shots ++ Close ∷ [])

@@ -5,6 +5,7 @@
 
 mod input;
 mod output;
+mod own_script;
 mod program;
 mod reading;
 mod refusal;
@@ -16,6 +17,7 @@ mod write;
 
 pub use input::{InputWork, answer_input};
 pub use output::{Output, named_profile};
+pub use own_script::{for_first_stream, plain_script, small_stream};
 pub use program::{code_of, words_of};
 pub use reading::{
     LineText, named_number, number_from_to, one_number_from_to, read_text, two_numbers,

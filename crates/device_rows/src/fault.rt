@@ -8,37 +8,25 @@ use cam_types::{Fault, Four, FrameNo, RowFaults, RowView, StreamIx, TargetView};
 fn fails_request(frame: FrameNo, fault: Fault) -> bool
     ensures { result ≡ fails_request frame.0 fault }
 {
-    match fault {
-        Fault::Request(other) => other.0 == frame.0,
-        _ => false,
-    }
+    matches!(fault, Fault::Request(other) if other.0 == frame.0)
 }
 
 fn fails_result(frame: FrameNo, fault: Fault) -> bool
     ensures { result ≡ fails_result frame.0 fault }
 {
-    match fault {
-        Fault::Result(other) => other.0 == frame.0,
-        _ => false,
-    }
+    matches!(fault, Fault::Result(other) if other.0 == frame.0)
 }
 
 fn fails_buffer(frame: FrameNo, stream: StreamIx, fault: Fault) -> bool
     ensures { result ≡ fails_buffer frame.0 stream.0 fault }
 {
-    match fault {
-        Fault::Buffer(other, target) => other.0 == frame.0 && target.0 == stream.0,
-        _ => false,
-    }
+    matches!(fault, Fault::Buffer(other, target) if other.0 == frame.0 && target.0 == stream.0)
 }
 
 fn fails_device(frame: FrameNo, fault: Fault) -> bool
     ensures { result ≡ fails_device frame.0 fault }
 {
-    match fault {
-        Fault::Device(other) => other.0 == frame.0,
-        _ => false,
-    }
+    matches!(fault, Fault::Device(other) if other.0 == frame.0)
 }
 
 /// Whether the capture of the frame shall fail whole.

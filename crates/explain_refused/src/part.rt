@@ -1,7 +1,7 @@
 //! What every refusal has.
 ghost use Rattle.std.specs.Prelude.{◌≡◌, ◌++◌, OnOk};
 ghost use Rattle.std.specs.Option.{option_map};
-ghost use Rattle.explain_refused.specs.Refused.{between, cause_place, line_place, refused_head, sentence_text, shown_at, told, word_and_place, wrong_part};
+ghost use Rattle.explain_refused.specs.Refused.{cause_place, line_place, refused_head, sentence_text, shown_at, told, word_and_place, wrong_part};
 ghost use Rattle.wrong_words.specs.Shown.{shown};
 
 use crate::kind_text;
@@ -45,21 +45,6 @@ pub fn put_head(
     text.extend_from_slice(front)?;
     put_line_place(text, alloc, number)?;
     put_cause_place(text, alloc, cause)
-}
-
-/// Writes a number between two texts.
-pub fn put_between(
-    text: &mut Vec<u8>,
-    alloc: Global,
-    front: &[u8],
-    number: u64,
-    back: &[u8],
-) -> Result<(), NoMemory>
-    ensures { OnOk result (text.new.items ≡ text.old.items ++ between front.now number back.now) }
-{
-    text.extend_from_slice(front)?;
-    put_number(text, alloc, number)?;
-    text.extend_from_slice(back)
 }
 
 /// Writes the line, where there is one that isn't empty.

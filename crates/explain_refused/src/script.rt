@@ -6,9 +6,7 @@ ghost use Rattle.explain_refused.specs.Sentences.{script_form};
 ghost use Rattle.text_parts.specs.Words.{loose_words};
 
 use crate::at::script_line;
-use crate::part::{
-    put_between, put_head, put_sentence, put_shown_at, put_told, put_word_and_place, put_wrong,
-};
+use crate::part::{put_head, put_sentence, put_shown_at, put_told, put_word_and_place, put_wrong};
 use crate::{
     fault_words, line_words, long_script, script_form, script_limits, script_sentence,
     version_lines,
@@ -16,7 +14,7 @@ use crate::{
 use cam_types::NoMemory;
 use std::alloc::Global;
 use text_parts::{Cause, next_loose_word};
-use wrong_words::{put_number, wrong_in_script};
+use wrong_words::{put_between, put_number, wrong_in_script};
 
 /// Writes the place of a byte in the line.
 #[tactic(auto, unfolding(crate::specs::Refused::byte_place))]

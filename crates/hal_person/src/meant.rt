@@ -20,10 +20,7 @@ use hal_row::word::{
 fn begins(frame: u32, event: &HalEvent) -> bool
     ensures { result ≡ begins frame event.now }
 {
-    match event {
-        HalEvent::RequestBegin { frame: other, .. } => *other == frame,
-        _ => false,
-    }
+    matches!(event, HalEvent::RequestBegin { frame: other, .. } if *other == frame)
 }
 
 /// Whether the event accepts a request whose number is this or above.
@@ -156,34 +153,21 @@ fn gives_for(which: Which, stream: Option<u32>, event: &HalEvent) -> bool
 fn is_result_of(frame: u32, event: &HalEvent) -> bool
     ensures { result ≡ is_result_of frame event.now }
 {
-    match event {
-        HalEvent::Results { frame: other, .. } => *other == frame,
-        _ => false,
-    }
+    matches!(event, HalEvent::Results { frame: other, .. } if *other == frame)
 }
 
 /// Whether it is a result of a frame with a higher number.
 fn is_result_above(frame: u32, event: &HalEvent) -> bool
     ensures { result ≡ is_result_above frame event.now }
 {
-    match event {
-        HalEvent::Results { frame: other, .. } => frame < *other,
-        _ => false,
-    }
+    matches!(event, HalEvent::Results { frame: other, .. } if frame < *other)
 }
 
 /// Whether it brings metadata under the number.
 fn has_part(part: u32, event: &HalEvent) -> bool
     ensures { result ≡ has_part part event.now }
 {
-    match event {
-        HalEvent::Results {
-            partial,
-            pack: Pack::Entries,
-            ..
-        } => *partial == part,
-        _ => false,
-    }
+    matches!(event, HalEvent::Results { partial, pack: Pack::Entries, .. } if *partial == part)
 }
 
 /// Whether it names the frame, and isn't its begin.

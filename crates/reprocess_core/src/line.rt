@@ -8,70 +8,49 @@ use reprocess_model::ReEntry;
 pub fn is_call(line: &ReEntry) -> bool
     ensures { result ≡ is_call_of line.now }
 {
-    match line {
-        ReEntry::Called { .. } | ReEntry::Flushed { .. } => true,
-        _ => false,
-    }
+    matches!(line, ReEntry::Called { .. } | ReEntry::Flushed { .. })
 }
 
 /// Whether a request is called.
 pub fn is_called(line: &ReEntry) -> bool
     ensures { result ≡ is_called_of line.now }
 {
-    match line {
-        ReEntry::Called { .. } => true,
-        _ => false,
-    }
+    matches!(line, ReEntry::Called { .. })
 }
 
 /// Whether a flush begins.
 pub fn is_begin_flush(line: &ReEntry) -> bool
     ensures { result ≡ is_begin_by line.now }
 {
-    match line {
-        ReEntry::BeginFlush => true,
-        _ => false,
-    }
+    matches!(line, ReEntry::BeginFlush)
 }
 
 /// Whether a request is taken.
 pub fn takes(line: &ReEntry, request: u32) -> bool
     ensures { result ≡ takes_by request line.now }
 {
-    match line {
-        ReEntry::Take { frame, .. } => frame.0 == request,
-        _ => false,
-    }
+    matches!(line, ReEntry::Take { frame, .. } if frame.0 == request)
 }
 
 /// Whether a request is taken or dropped.
 pub fn leaves(line: &ReEntry, request: u32) -> bool
     ensures { result ≡ leaves_by request line.now }
 {
-    match line {
-        ReEntry::Take { frame, .. } | ReEntry::Dropped { frame } => frame.0 == request,
-        _ => false,
-    }
+    matches!(line, ReEntry::Take { frame, .. } | ReEntry::Dropped { frame } if frame.0 == request)
 }
 
 /// Whether it is the error of a request.
 pub fn is_error_of(line: &ReEntry, request: u32) -> bool
     ensures { result ≡ is_error_by request line.now }
 {
-    match line {
-        ReEntry::Error { frame } => frame.0 == request,
-        _ => false,
-    }
+    matches!(line, ReEntry::Error { frame } if frame.0 == request)
 }
 
 /// Whether an output of a request is filled.
 pub fn is_fill_of(line: &ReEntry, request: u32) -> bool
     ensures { result ≡ is_fill_by request line.now }
 {
-    match line {
-        ReEntry::Fill { frame, .. } => frame.0 == request,
-        _ => false,
-    }
+    matches!(line, ReEntry::Fill { frame, .. } if frame.0 == request)
 }
 
 /// Whether the buffer of a request for an output comes back.
@@ -90,8 +69,5 @@ pub fn is_return_of(line: &ReEntry, request: u32, output: u8) -> bool
 pub fn is_input_of(line: &ReEntry, request: u32) -> bool
     ensures { result ≡ is_input_by request line.now }
 {
-    match line {
-        ReEntry::Input { frame, .. } => frame.0 == request,
-        _ => false,
-    }
+    matches!(line, ReEntry::Input { frame, .. } if frame.0 == request)
 }

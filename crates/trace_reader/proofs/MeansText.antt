@@ -67,18 +67,18 @@ kind-step w v ws e this more h a b = elim (cases_Bool (bytes_eq w v)) [
 entry_with-is : (w : List ℕ) (ws : List (List ℕ)) (e : Entry) → entry_with w ws ≡ Ok e → IsLine (w ∷ ws) e
 unfolding kind_of entry_in
 entry_with-is w ws e h =
-    kind-step w (codes "begin") ws e kind.Begin _ h (begin-is ws e) (λ h1.
-    kind-step w (codes "call") ws e kind.Call _ h1 (call-is ws e) (λ h2.
-    kind-step w (codes "send") ws e kind.Send _ h2 (send-is ws e) (λ h3.
-    kind-step w (codes "drop") ws e kind.Drop _ h3 (drop-is ws e) (λ h4.
+    kind-step w (codes "partial") ws e kind.Partial _ h (partial-is ws e) (λ h1.
+    kind-step w (codes "buffer") ws e kind.Buffer _ h1 (buffer-is ws e) (λ h2.
+    kind-step w (codes "release") ws e kind.Release _ h2 (release-is ws e) (λ h3.
+    kind-step w (codes "send") ws e kind.Send _ h3 (send-is ws e) (λ h4.
     kind-step w (codes "shutter") ws e kind.Shutter _ h4 (shutter-is ws e) (λ h5.
-    kind-step w (codes "partial") ws e kind.Partial _ h5 (partial-is ws e) (λ h6.
-    kind-step w (codes "buffer") ws e kind.Buffer _ h6 (buffer-is ws e) (λ h7.
-    kind-step w (codes "error") ws e kind.Error _ h7 (error-is ws e) (λ h8.
-    kind-step w (codes "release") ws e kind.Release _ h8 (release-is ws e) (λ h9.
-    kind-step w (codes "signal") ws e kind.Signal _ h9 (signal-is ws e) (λ h10.
-    kind-step w (codes "early") ws e kind.Early _ h10 (early-is ws e) (λ h11.
-    kind-step w (codes "filled") ws e kind.Late None h11 (late-is ws e) (λ h12. absurd (cc)))))))))))))
+    kind-step w (codes "signal") ws e kind.Signal _ h5 (signal-is ws e) (λ h6.
+    kind-step w (codes "begin") ws e kind.Begin _ h6 (begin-is ws e) (λ h7.
+    kind-step w (codes "call") ws e kind.Call _ h7 (call-is ws e) (λ h8.
+    kind-step w (codes "filled") ws e kind.Late _ h8 (late-is ws e) (λ h9.
+    kind-step w (codes "early") ws e kind.Early _ h9 (early-is ws e) (λ h10.
+    kind-step w (codes "error") ws e kind.Error _ h10 (error-is ws e) (λ h11.
+    kind-step w (codes "drop") ws e kind.Drop None h11 (drop-is ws e) (λ h12. absurd (cc)))))))))))))
 
 entry_by-is : (ws : List (List ℕ)) (e : Entry) → entry_by ws ≡ Ok e → IsLine ws e
 entry_by-is [] e h = absurd (cc)

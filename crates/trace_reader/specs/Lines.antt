@@ -218,18 +218,18 @@ late_of words = two device_fence digest words >>= λ p. Ok (Late (record { 0 = p
 -- the kind of a line, by its first word
 unfoldable pub kind_of : List ℕ → Option Kind
 kind_of word =
-    if bytes_eq word (codes "begin") then Some kind.Begin
-    else (if bytes_eq word (codes "call") then Some kind.Call
-    else (if bytes_eq word (codes "send") then Some kind.Send
-    else (if bytes_eq word (codes "drop") then Some kind.Drop
-    else (if bytes_eq word (codes "shutter") then Some kind.Shutter
-    else (if bytes_eq word (codes "partial") then Some kind.Partial
+    if bytes_eq word (codes "partial") then Some kind.Partial
     else (if bytes_eq word (codes "buffer") then Some kind.Buffer
-    else (if bytes_eq word (codes "error") then Some kind.Error
     else (if bytes_eq word (codes "release") then Some kind.Release
+    else (if bytes_eq word (codes "send") then Some kind.Send
+    else (if bytes_eq word (codes "shutter") then Some kind.Shutter
     else (if bytes_eq word (codes "signal") then Some kind.Signal
-    else (if bytes_eq word (codes "early") then Some kind.Early
+    else (if bytes_eq word (codes "begin") then Some kind.Begin
+    else (if bytes_eq word (codes "call") then Some kind.Call
     else (if bytes_eq word (codes "filled") then Some kind.Late
+    else (if bytes_eq word (codes "early") then Some kind.Early
+    else (if bytes_eq word (codes "error") then Some kind.Error
+    else (if bytes_eq word (codes "drop") then Some kind.Drop
     else None)))))))))))
 
 -- a line by its kind and the words behind the first

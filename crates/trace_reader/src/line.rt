@@ -64,35 +64,35 @@ pub enum Kind {
     Late,
 }
 
-/// The kind of a line, by its first word.
+/// The kind of a line, by its first word. The words that a trace has most are asked first.
 #[tactic(auto, unfolding(crate::specs::Lines::kind_of))]
 fn kind_of(word: &[u8]) -> Option<Kind>
     ensures { result ≡ kind_of word.now }
 {
-    if has_text(word, "begin") {
-        Some(Kind::Begin)
-    } else if has_text(word, "call") {
-        Some(Kind::Call)
-    } else if has_text(word, "send") {
-        Some(Kind::Send)
-    } else if has_text(word, "drop") {
-        Some(Kind::Drop)
-    } else if has_text(word, "shutter") {
-        Some(Kind::Shutter)
-    } else if has_text(word, "partial") {
+    if has_text(word, "partial") {
         Some(Kind::Partial)
     } else if has_text(word, "buffer") {
         Some(Kind::Buffer)
-    } else if has_text(word, "error") {
-        Some(Kind::Error)
     } else if has_text(word, "release") {
         Some(Kind::Release)
+    } else if has_text(word, "send") {
+        Some(Kind::Send)
+    } else if has_text(word, "shutter") {
+        Some(Kind::Shutter)
     } else if has_text(word, "signal") {
         Some(Kind::Signal)
-    } else if has_text(word, "early") {
-        Some(Kind::Early)
+    } else if has_text(word, "begin") {
+        Some(Kind::Begin)
+    } else if has_text(word, "call") {
+        Some(Kind::Call)
     } else if has_text(word, "filled") {
         Some(Kind::Late)
+    } else if has_text(word, "early") {
+        Some(Kind::Early)
+    } else if has_text(word, "error") {
+        Some(Kind::Error)
+    } else if has_text(word, "drop") {
+        Some(Kind::Drop)
     } else {
         None
     }

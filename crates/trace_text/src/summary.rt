@@ -1,8 +1,7 @@
 //! How much of each a trace has, in one line.
 
 ghost use Rattle.std.specs.Prelude.{◌≡◌, ◌≤◌, ◌+◌, ◌++◌, ◌∷◌, count_by, length, decimal};
-ghost use Rattle.trace_model.specs.Entry.{is_call};
-ghost use Rattle.trace_model.specs.Summary.{is_drop, is_failed_buffer, is_filled_buffer, is_last_part, is_request_error, is_result_error, is_send, summary_of};
+ghost use Rattle.trace_model.specs.Summary.{summary_of};
 ghost use Rattle.trace_text.specs.Summary.{is_of, summary_line};
 
 use io_edge::{ROOM, Room};
@@ -10,54 +9,6 @@ use trace_model::Entry;
 
 /// The number of the last partial result of a frame.
 const LAST_PART: u8 = 3;
-
-fn is_call(entry: &Entry) -> bool
-    ensures { result ≡ is_call entry.now }
-{
-    matches!(entry, Entry::Call { .. })
-}
-
-fn is_send(entry: &Entry) -> bool
-    ensures { result ≡ is_send entry.now }
-{
-    matches!(entry, Entry::Send { .. })
-}
-
-fn is_drop(entry: &Entry) -> bool
-    ensures { result ≡ is_drop entry.now }
-{
-    matches!(entry, Entry::Dropped { .. })
-}
-
-fn is_last_part(entry: &Entry) -> bool
-    ensures { result ≡ is_last_part entry.now }
-{
-    matches!(entry, Entry::Partial { number, .. } if *number == LAST_PART)
-}
-
-fn is_request_error(entry: &Entry) -> bool
-    ensures { result ≡ is_request_error entry.now }
-{
-    matches!(entry, Entry::ErrorRequest { .. })
-}
-
-fn is_result_error(entry: &Entry) -> bool
-    ensures { result ≡ is_result_error entry.now }
-{
-    matches!(entry, Entry::ErrorResult { .. })
-}
-
-fn is_filled_buffer(entry: &Entry) -> bool
-    ensures { result ≡ is_filled_buffer entry.now }
-{
-    matches!(entry, Entry::Filled { .. })
-}
-
-fn is_failed_buffer(entry: &Entry) -> bool
-    ensures { result ≡ is_failed_buffer entry.now }
-{
-    matches!(entry, Entry::Failed { .. })
-}
 
 /// What is counted.
 #[derive(Clone, Copy)]
@@ -77,14 +28,14 @@ fn is_of(kind: Kind, entry: &Entry) -> bool
     ensures { result ≡ is_of kind entry.now }
 {
     match kind {
-        Kind::Call => is_call(entry),
-        Kind::Send => is_send(entry),
-        Kind::Drop => is_drop(entry),
-        Kind::LastPart => is_last_part(entry),
-        Kind::RequestError => is_request_error(entry),
-        Kind::ResultError => is_result_error(entry),
-        Kind::FilledBuffer => is_filled_buffer(entry),
-        Kind::FailedBuffer => is_failed_buffer(entry),
+        Kind::Call => matches!(entry, Entry::Call { .. }),
+        Kind::Send => matches!(entry, Entry::Send { .. }),
+        Kind::Drop => matches!(entry, Entry::Dropped { .. }),
+        Kind::LastPart => matches!(entry, Entry::Partial { number, .. } if *number == LAST_PART),
+        Kind::RequestError => matches!(entry, Entry::ErrorRequest { .. }),
+        Kind::ResultError => matches!(entry, Entry::ErrorResult { .. }),
+        Kind::FilledBuffer => matches!(entry, Entry::Filled { .. }),
+        Kind::FailedBuffer => matches!(entry, Entry::Failed { .. }),
     }
 }
 

@@ -74,7 +74,7 @@ fn side_by_side<R: Threads + Wait + Sync>(
     )
 }
 
-/// Asks for a camera and leaves it, over and over, and counts the answers.
+/// Asks for a camera and leaves it, over and over, and counts the answers that aren't refusals.
 fn ask_often<R: Wait>(
     rt: &R,
     turnstile: &Turnstile<Arbiter>,
@@ -87,26 +87,13 @@ fn ask_often<R: Wait>(
 {
     let mut served: u32 = 0;
     for _ in 0..ROUNDS {
-        served = served.wrapping_add(ask_once(rt, turnstile, seat, session));
+        let granted = answer_turn(rt, turnstile, seat, ArbiterLine::Connect(session));
+        let left = answer_turn(rt, turnstile, seat, ArbiterLine::Leave(session.client));
+        served = served
+            .wrapping_add(u32::from(granted == Some(Answer::Granted)))
+            .wrapping_add(u32::from(left == Some(Answer::Left(session.camera))));
     }
     served
-}
-
-/// Asks for a camera and leaves it, and counts the answers that aren't refusals.
-fn ask_once<R: Wait>(
-    rt: &R,
-    turnstile: &Turnstile<Arbiter>,
-    seat: &mut Seat<Arbiter>,
-    session: Session,
-) -> u32
-    requires idle { IsIdle cameras_of turnstile.now seat.old }
-    requires range { IsTrue (is_session (fixed_of cameras_of turnstile.now) session) }
-    ensures { IsDone cameras_of turnstile.now (view seat.old) seat.new }
-{
-    let granted = answer_turn(rt, turnstile, seat, ArbiterLine::Connect(session));
-    let left = answer_turn(rt, turnstile, seat, ArbiterLine::Leave(session.client));
-    u32::from(granted == Some(Answer::Granted))
-        + u32::from(left == Some(Answer::Left(session.camera)))
 }
 
 #[test]

@@ -23,7 +23,7 @@ pub use kind::LineKind;
 pub use lines::{
     LINE_LIMIT, MOST_LINES, put_headed, put_last_lines, put_line, put_lines, put_number,
 };
-pub use picks::put_picks_part;
+pub use picks::{put_between, put_picks_part};
 pub use place_laws::a_script_has_its_lines;
 pub use places::{command_line, fault_line, pick_line};
 pub use shown::{put_numbered_line, put_shown};

@@ -8,7 +8,7 @@ use cam_types::{NoMemory, Script};
 use std::alloc::Global;
 
 /// Writes a number between two texts.
-fn put_between(
+pub fn put_between(
     text: &mut Vec<u8>,
     alloc: Global,
     front: &[u8],

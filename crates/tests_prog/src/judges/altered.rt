@@ -1,9 +1,6 @@
 //! An entry with one of its parts altered.
 
-use cam_types::{
-    BufferId, DeviceFenceNo, FenceNo, Four, FrameNo, PartialResult, Reply, RequestId, StreamIx,
-    Word,
-};
+use cam_types::{BufferId, FenceNo, Four, PartialResult, Reply, RequestId, Word};
 use trace_model::{Entry, Sent};
 
 /// The most alterations of an entry: an entry has at most so many parts.
@@ -25,34 +22,15 @@ fn next_word(word: Word) -> Word {
     }
 }
 
-fn next_frame(frame: FrameNo) -> FrameNo {
-    FrameNo(frame.0.wrapping_add(1))
-}
-
-fn next_stream(stream: StreamIx) -> StreamIx {
-    StreamIx(stream.0.wrapping_add(1))
-}
-
-fn next_buffer(buffer: BufferId) -> BufferId {
-    BufferId(buffer.0.wrapping_add(1))
-}
-
-fn next_fence(fence: FenceNo) -> FenceNo {
-    FenceNo(fence.0.wrapping_add(1))
-}
-
-fn next_device_fence(fence: DeviceFenceNo) -> DeviceFenceNo {
-    DeviceFenceNo(fence.0.wrapping_add(1))
-}
-
-fn next_request(request: RequestId) -> RequestId {
-    RequestId(request.0.wrapping_add(1))
+/// The number behind a number.
+fn next(number: u32) -> u32 {
+    number.wrapping_add(1)
 }
 
 /// The next fence, or the first where there is none.
 fn other_fence(fence: Option<FenceNo>) -> Option<FenceNo> {
     match fence {
-        Some(fence) => Some(next_fence(fence)),
+        Some(fence) => Some(FenceNo(next(fence.0))),
         None => Some(FenceNo(0)),
     }
 }
@@ -82,7 +60,7 @@ fn other_part(part: PartialResult) -> PartialResult {
 fn other_reply(reply: Reply) -> Reply {
     match reply {
         Reply::Ok => Reply::Submitted(RequestId(0)),
-        Reply::Submitted(request) => Reply::Submitted(next_request(request)),
+        Reply::Submitted(request) => Reply::Submitted(RequestId(next(request.0))),
         Reply::Configured(_) => Reply::Ok,
         Reply::Refused {
             code,
@@ -103,7 +81,7 @@ fn other_targets(targets: Four<Sent>) -> Four<Sent> {
         (Some(sent), None) => Four {
             a: Some(Sent {
                 stream: sent.stream,
-                buffer: next_buffer(sent.buffer),
+                buffer: BufferId(next(sent.buffer.0)),
                 fence: sent.fence,
             }),
             b,
@@ -119,14 +97,14 @@ pub fn altered(entry: Entry, number: u8) -> Option<Entry> {
     let mut other = entry;
     match (&mut other, number) {
         (Entry::Begin { word } | Entry::Call { word, .. }, 0) => *word = next_word(*word),
-        (Entry::Call { index, .. }, 1) => *index = index.wrapping_add(1),
+        (Entry::Call { index, .. }, 1) => *index = next(*index),
         (Entry::Call { reply, .. }, 2) => *reply = other_reply(*reply),
         (Entry::Send { same, .. }, 3) => *same = !*same,
         (Entry::Send { targets, .. }, 4) => *targets = other_targets(*targets),
         (Entry::Send { request, .. } | Entry::Dropped { request, .. }, 1) => {
-            *request = next_request(*request);
+            request.0 = next(request.0);
         }
-        (Entry::Send { item, .. } | Entry::Dropped { item, .. }, 2) => *item = item.wrapping_add(1),
+        (Entry::Send { item, .. } | Entry::Dropped { item, .. }, 2) => *item = next(*item),
         (Entry::Shutter { time, .. }, 1) => *time = time.wrapping_add(1),
         (Entry::Partial { number, .. }, 1) => *number = number.wrapping_add(1),
         (Entry::Partial { part, .. }, 2) => *part = other_part(*part),
@@ -151,29 +129,29 @@ fn altered_buffer(entry: Entry, number: u8) -> Option<Entry> {
             | Entry::ErrorBuffer { frame, .. }
             | Entry::Early { frame, .. },
             0,
-        ) => *frame = next_frame(*frame),
+        ) => frame.0 = next(frame.0),
         (
             Entry::Filled { stream, .. }
             | Entry::Failed { stream, .. }
             | Entry::ErrorBuffer { stream, .. }
             | Entry::Early { stream, .. },
             1,
-        ) => *stream = next_stream(*stream),
+        ) => stream.0 = stream.0.wrapping_add(1),
         (
             Entry::Filled { buffer, .. }
             | Entry::Failed { buffer, .. }
             | Entry::Early { buffer, .. },
             2,
         )
-        | (Entry::Release { buffer, .. }, 0) => *buffer = next_buffer(*buffer),
+        | (Entry::Release { buffer, .. }, 0) => buffer.0 = next(buffer.0),
         (Entry::Filled { fence, .. } | Entry::Failed { fence, .. }, 3) => {
             *fence = other_fence(*fence);
         }
         (Entry::Release { fence, .. }, 1) | (Entry::Signal { fence }, 0) => {
-            *fence = next_fence(*fence);
+            fence.0 = next(fence.0);
         }
         (Entry::Early { fence, .. }, 3) | (Entry::Late { fence, .. }, 0) => {
-            *fence = next_device_fence(*fence);
+            fence.0 = next(fence.0);
         }
         (Entry::Filled { digest, .. }, 4) | (Entry::Late { digest, .. }, 1) => {
             *digest = other_digest(*digest);

@@ -2,7 +2,8 @@ use Rattle.std.proofs.Common.{List, ◌∷◌, ◌++◌, [], ap, ◌∙◌}
 use Rattle.cam_types.specs.declared.item.Item.{Item}
 use Rattle.cam_types.specs.declared.script.Command.TheVariants.{Await, Configure, Repeat}
 use Rattle.cam_types.specs.declared.stream.StreamSpec.{StreamSpec}
-use Rattle.arbiter_call.specs.Scripts.{preview, small_stream}
+use Rattle.call_parts.specs.OwnScripts.{small_stream}
+use Rattle.arbiter_call.specs.Scripts.{preview}
 use Rattle.arbiter_call.proofs.Scripts.{four}
 use Rattle.arbiter_call.proofs.script.session_commands.Goals as goal
 
