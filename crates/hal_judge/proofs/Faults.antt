@@ -1,7 +1,6 @@
 -- What is at fault, put together.
-use Rattle.std.proofs.Common.{◌≡◌, ◌∙◌, ℕ, suc, ◌+◌, ◌<◌, Bool, true, false, List, [], ◌∷◌, ◌++◌, None, refl, sym, ap, arith, filter, get_or, length, map, take, if◌then◌else◌}
+use Rattle.std.proofs.Common.{◌≡◌, ◌∙◌, ℕ, Bool, true, false, List, [], ◌∷◌, ◌++◌, None, refl, sym, ap, filter, map, if◌then◌else◌}
 use Rattle.std.specs.Map.{values_of}
-use Rattle.std.proofs.Math.Seq.{take-suc}
 use Rattle.basic_lemmas.proofs.Lists.{map-map, append-none}
 use Rattle.hal_model.specs.declared.event.HalStream.{HalStream}
 use Rattle.hal_model.specs.declared.event.StreamMax.{StreamMax}
@@ -56,13 +55,6 @@ silences_next e k r t u old new all is now' so =
 pub silences_end : (e : HalEvent) (t : List (ℕ × Row)) (old all : List Fault) → t ≡ [] → old ++ row_silences (filter (is_row_silent e) (values_of t)) ≡ all → old ≡ all
 silences_end e t old all is so =
     sym (append-none old) ∙ (ap (λ z. old ++ row_silences (filter (is_row_silent e) (values_of z))) (sym is) ∙ so)
-
--- ---- one more element
-
-pub filter_more : {X : Type 0} (p : X → Bool) (xs : List X) (i : ℕ) (d : X) (wanted : Bool) (old new : List X) → i < length xs → old ≡ filter p (take i xs) → wanted ≡ p (get_or xs i d) → new ≡ old ++ (if wanted then get_or xs i d ∷ [] else []) → new ≡ filter p (take (i + 1) xs)
-filter_more {X} p xs i d wanted old new l before' is now' =
-    let s : i + 1 ≡ suc i = omega arith in
-    now' ∙ (rw (before', is) (sym (rw (s, take-suc xs i d l) (filter-append p (take i xs) (get_or xs i d ∷ [])))))
 
 -- requests as faults
 pub rows_told : (rows : List Row) → at_frames (map frame_of rows) ≡ at_rows rows

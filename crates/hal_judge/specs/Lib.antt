@@ -1,3 +1,4 @@
 pub mod Judged
 pub mod Meant
 pub mod Onto
+pub mod Wrong

@@ -1,15 +1,14 @@
 //! What an event is at fault in that breaks a rule.
-ghost use Rattle.std.specs.Prelude.{◌≡◌, ◌==◌, ◌&&◌, ◌∷◌, [], ◌++◌, None, Some, filter, map, not, option_copied, IfOk, OnOk, if◌then◌else◌, ℕ};
+ghost use Rattle.std.specs.Prelude.{◌≡◌, ◌==◌, ◌&&◌, ◌∷◌, [], ◌++◌, None, Some, filter, map, option_copied, IfOk, OnOk, ℕ};
 ghost use Rattle.std.specs.Map.Iter.{ShowsInOrder, deref_pair};
 ghost use Rattle.hal_rows.specs.declared.row.Row.{Row as ARow};
 ghost use Rattle.hal_model.specs.Rules.{at, at_buffers, at_frames, at_stream, at_targets, plain};
-ghost use Rattle.hal_model.specs.Callbacks.{has_acquire, is_unclear};
 ghost use Rattle.hal_model.specs.Device.{is_idle_most, is_unnamed};
-ghost use Rattle.hal_model.specs.Framework.{is_twice_stream};
-ghost use Rattle.hal_rows.specs.Judged.{at_rows, at_target_rows, is_held_target_at, is_row_disorderly, is_row_overtaken, is_row_silent, is_row_wrongly_fenced, is_row_wrongly_filled, is_target_unknown_in, is_too_many_at, is_unknown_in, row_astray, row_silences};
+ghost use Rattle.hal_rows.specs.Judged.{at_rows, at_target_rows, is_row_silent, is_target_unknown_in, row_astray, row_silences};
 ghost use Rattle.hal_rows.specs.Row.{is_row_unannounced_at};
 ghost use Rattle.hal_calls.specs.Meant.{is_meant};
 ghost use Rattle.hal_judge.specs.Meant.{frame_of, silence_of};
+ghost use Rattle.hal_judge.specs.Wrong.{is_buffer_wrong, is_flawed, is_target_wrong};
 ghost use Rattle.hal_table.specs.State.{state_of};
 
 use cam_types::NoMemory;
@@ -195,126 +194,53 @@ fn at_target(frame: u32, target: &HalTarget) -> Fault
     at(frame, Some(target.stream))
 }
 
-/// The targets, as faults of the request.
-fn at_all(alloc: Global, frame: u32, targets: &[HalTarget]) -> Result<Vec<Fault>, NoMemory>
-    ensures { IfOk result (λ faults. faults.items ≡ at_targets frame targets.now) }
-{
-    targets
-        .iter()
-        .map(|target| at_target(frame, target))
-        .collect(alloc)
+/// What a target of a request that begins may be at fault in.
+#[derive(Clone, Copy)]
+pub(crate) enum TargetFault {
+    /// Its buffer is held, or asked for twice.
+    Held,
+    /// Another target is of its stream.
+    Repeated,
+    /// Its stream has more buffers at the device than it may.
+    TooMany,
+    /// Its stream isn't configured.
+    Unknown,
 }
 
-fn add_target(wanted: bool, target: HalTarget, targets: &mut Vec<HalTarget>) -> Result<(), NoMemory>
-    ensures { OnOk result (targets.new.items ≡ targets.old.items ++ (if wanted then target ∷ [] else [])) }
+fn is_target_wrong(
+    fault: TargetFault,
+    targets: &[HalTarget],
+    table: &HalTable,
+    target: &HalTarget,
+) -> bool
+    ensures { result ≡ is_target_wrong fault targets.now (state_of table.now) target.now }
 {
-    if wanted {
-        targets.push(target)?;
+    match fault {
+        TargetFault::Held => is_held_target(targets, table, target),
+        TargetFault::Repeated => is_twice_stream(targets, target),
+        TargetFault::TooMany => is_too_many(targets, table, target),
+        TargetFault::Unknown => is_unknown_in(table.device().streams.as_slice(), target),
     }
-    Ok(())
 }
 
-fn held(alloc: Global, targets: &[HalTarget], table: &HalTable) -> Result<Vec<HalTarget>, NoMemory>
-    ensures { IfOk result (λ held.
-        held.items ≡ filter (is_held_target_at targets.now (state_of table.now)) targets.now) }
+/// The targets that are at fault, as faults of the request.
+pub(crate) fn targets_wrong(
+    alloc: Global,
+    fault: TargetFault,
+    frame: u32,
+    targets: &[HalTarget],
+    table: &HalTable,
+) -> Result<Vec<Fault>, NoMemory>
+    ensures { IfOk result (λ faults. faults.items ≡
+        at_targets frame (filter (is_target_wrong fault targets.now (state_of table.now)) targets.now)) }
 {
-    let mut held = Vec::new(alloc);
+    let mut faults = Vec::new(alloc);
     for target in targets {
-        let wanted = is_held_target(targets, table, target);
-        add_target(wanted, *target, &mut held)?;
+        if is_target_wrong(fault, targets, table, target) {
+            faults.push(at_target(frame, target))?;
+        }
     }
-    Ok(held)
-}
-
-pub(crate) fn targets_held(
-    alloc: Global,
-    frame: u32,
-    targets: &[HalTarget],
-    table: &HalTable,
-) -> Result<Vec<Fault>, NoMemory>
-    ensures { IfOk result (λ faults. faults.items ≡
-        at_targets frame (filter (is_held_target_at targets.now (state_of table.now)) targets.now)) }
-{
-    let held = held(alloc, targets, table)?;
-    at_all(alloc, frame, held.as_slice())
-}
-
-fn twice(alloc: Global, targets: &[HalTarget]) -> Result<Vec<HalTarget>, NoMemory>
-    ensures { IfOk result (λ twice. twice.items ≡ filter (is_twice_stream targets.now) targets.now) }
-{
-    targets
-        .iter()
-        .copied()
-        .filter(|target| is_twice_stream(targets, target))
-        .collect(alloc)
-}
-
-pub(crate) fn targets_twice(
-    alloc: Global,
-    frame: u32,
-    targets: &[HalTarget],
-) -> Result<Vec<Fault>, NoMemory>
-    ensures { IfOk result (λ faults. faults.items ≡
-        at_targets frame (filter (is_twice_stream targets.now) targets.now)) }
-{
-    let twice = twice(alloc, targets)?;
-    at_all(alloc, frame, twice.as_slice())
-}
-
-fn too_many(
-    alloc: Global,
-    targets: &[HalTarget],
-    table: &HalTable,
-) -> Result<Vec<HalTarget>, NoMemory>
-    ensures { IfOk result (λ too_many.
-        too_many.items ≡ filter (is_too_many_at targets.now (state_of table.now)) targets.now) }
-{
-    let mut too_many = Vec::new(alloc);
-    for target in targets {
-        let wanted = is_too_many(targets, table, target);
-        add_target(wanted, *target, &mut too_many)?;
-    }
-    Ok(too_many)
-}
-
-pub(crate) fn targets_too_many(
-    alloc: Global,
-    frame: u32,
-    targets: &[HalTarget],
-    table: &HalTable,
-) -> Result<Vec<Fault>, NoMemory>
-    ensures { IfOk result (λ faults. faults.items ≡
-        at_targets frame (filter (is_too_many_at targets.now (state_of table.now)) targets.now)) }
-{
-    let too_many = too_many(alloc, targets, table)?;
-    at_all(alloc, frame, too_many.as_slice())
-}
-
-fn unknown(
-    alloc: Global,
-    streams: &[HalStream],
-    targets: &[HalTarget],
-) -> Result<Vec<HalTarget>, NoMemory>
-    ensures { IfOk result (λ unknown. unknown.items ≡ filter (is_unknown_in streams.now) targets.now) }
-{
-    targets
-        .iter()
-        .copied()
-        .filter(|target| is_unknown_in(streams, target))
-        .collect(alloc)
-}
-
-pub(crate) fn targets_unknown(
-    alloc: Global,
-    frame: u32,
-    streams: &[HalStream],
-    targets: &[HalTarget],
-) -> Result<Vec<Fault>, NoMemory>
-    ensures { IfOk result (λ faults. faults.items ≡
-        at_targets frame (filter (is_unknown_in streams.now) targets.now)) }
-{
-    let unknown = unknown(alloc, streams, targets)?;
-    at_all(alloc, frame, unknown.as_slice())
+    Ok(faults)
 }
 
 // ---- streams of a configuration
@@ -381,96 +307,79 @@ fn at_buffer(frame: u32, buffer: &Returned) -> Fault
     at(frame, buffer.stream)
 }
 
-pub(crate) fn buffers_unclear(
+/// What a buffer that comes back may be at fault in by itself.
+#[derive(Clone, Copy)]
+pub(crate) enum BufferFlaw {
+    /// It is neither filled nor failed.
+    Unclear,
+    /// It has an acquire fence.
+    Acquire,
+}
+
+fn is_flawed(flaw: BufferFlaw, buffer: &Returned) -> bool
+    ensures { result ≡ is_flawed flaw buffer.now }
+{
+    match flaw {
+        BufferFlaw::Unclear => is_unclear(buffer),
+        BufferFlaw::Acquire => has_acquire(buffer),
+    }
+}
+
+/// The buffers that are flawed.
+pub(crate) fn buffers_flawed(
     alloc: Global,
+    flaw: BufferFlaw,
     frame: u32,
     buffers: &[Returned],
 ) -> Result<Vec<Fault>, NoMemory>
-    ensures { IfOk result (λ faults. faults.items ≡ at_buffers frame (filter is_unclear buffers.now)) }
+    ensures { IfOk result (λ faults. faults.items ≡ at_buffers frame (filter (is_flawed flaw) buffers.now)) }
 {
     buffers
         .iter()
-        .filter(|buffer| is_unclear(buffer))
+        .filter(|buffer| is_flawed(flaw, buffer))
         .map(|buffer| at_buffer(frame, buffer))
         .collect(alloc)
 }
 
-pub(crate) fn buffers_with_acquire(
-    alloc: Global,
-    frame: u32,
-    buffers: &[Returned],
-) -> Result<Vec<Fault>, NoMemory>
-    ensures { IfOk result (λ faults. faults.items ≡ at_buffers frame (filter has_acquire buffers.now)) }
-{
-    buffers
-        .iter()
-        .filter(|buffer| has_acquire(buffer))
-        .map(|buffer| at_buffer(frame, buffer))
-        .collect(alloc)
+/// What a buffer that comes back may be at fault in, beside its request.
+#[derive(Clone, Copy)]
+pub(crate) enum BufferFault {
+    /// A filled buffer of its stream and of an earlier request is still at the device.
+    Overtaken,
+    /// A buffer of its stream and of an earlier request is still at the device.
+    Disorderly,
+    /// It is filled, and an error told that it wouldn't be.
+    Filled,
+    /// It failed, and its release fence isn't its acquire fence.
+    Fenced,
 }
 
-pub(crate) fn buffers_overtaken(
+fn is_buffer_wrong(fault: BufferFault, row: &Row, table: &HalTable, buffer: &Returned) -> bool
+    ensures { result ≡ is_buffer_wrong fault (state_of table.now) row.now buffer.now }
+{
+    match fault {
+        BufferFault::Overtaken => is_overtaken(row, table, buffer),
+        BufferFault::Disorderly => is_disorderly(row, table, buffer),
+        BufferFault::Filled => is_wrongly_filled(row, buffer),
+        BufferFault::Fenced => is_wrongly_fenced(row, buffer),
+    }
+}
+
+/// The buffers that are at fault.
+pub(crate) fn buffers_wrong(
     alloc: Global,
+    fault: BufferFault,
     frame: u32,
     row: &Row,
     table: &HalTable,
     buffers: &[Returned],
 ) -> Result<Vec<Fault>, NoMemory>
     ensures { IfOk result (λ faults. faults.items ≡
-        at_buffers frame (filter (is_row_overtaken (state_of table.now) row.now) buffers.now)) }
+        at_buffers frame (filter (is_buffer_wrong fault (state_of table.now) row.now) buffers.now)) }
 {
     buffers
         .iter()
-        .filter(|buffer| is_overtaken(row, table, buffer))
-        .map(|buffer| at_buffer(frame, buffer))
-        .collect(alloc)
-}
-
-pub(crate) fn buffers_disorderly(
-    alloc: Global,
-    frame: u32,
-    row: &Row,
-    table: &HalTable,
-    buffers: &[Returned],
-) -> Result<Vec<Fault>, NoMemory>
-    ensures { IfOk result (λ faults. faults.items ≡
-        at_buffers frame (filter (is_row_disorderly (state_of table.now) row.now) buffers.now)) }
-{
-    buffers
-        .iter()
-        .filter(|buffer| is_disorderly(row, table, buffer))
-        .map(|buffer| at_buffer(frame, buffer))
-        .collect(alloc)
-}
-
-pub(crate) fn buffers_wrongly_filled(
-    alloc: Global,
-    frame: u32,
-    row: &Row,
-    buffers: &[Returned],
-) -> Result<Vec<Fault>, NoMemory>
-    ensures { IfOk result (λ faults. faults.items ≡
-        at_buffers frame (filter (is_row_wrongly_filled row.now) buffers.now)) }
-{
-    buffers
-        .iter()
-        .filter(|buffer| is_wrongly_filled(row, buffer))
-        .map(|buffer| at_buffer(frame, buffer))
-        .collect(alloc)
-}
-
-pub(crate) fn buffers_wrongly_fenced(
-    alloc: Global,
-    frame: u32,
-    row: &Row,
-    buffers: &[Returned],
-) -> Result<Vec<Fault>, NoMemory>
-    ensures { IfOk result (λ faults. faults.items ≡
-        at_buffers frame (filter (is_row_wrongly_fenced row.now) buffers.now)) }
-{
-    buffers
-        .iter()
-        .filter(|buffer| is_wrongly_fenced(row, buffer))
+        .filter(|buffer| is_buffer_wrong(fault, row, table, buffer))
         .map(|buffer| at_buffer(frame, buffer))
         .collect(alloc)
 }

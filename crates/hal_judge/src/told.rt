@@ -2,14 +2,13 @@
 ghost use Rattle.std.specs.Prelude.{◌≡◌, ◌∷◌, ◌++◌, [], None, filter, map, option_copied, IfOk, OnOk};
 ghost use Rattle.hal_model.specs.Rules.{at, at_buffers, frame_in};
 ghost use Rattle.hal_judge.specs.Judged.{named_in};
-ghost use Rattle.hal_rows.specs.Judged.{all_breaches_at, at_target_rows, breach_of, breaches_at, faults_at, for_row, is_row_disorderly, is_row_overtaken, is_row_wrongly_fenced, is_row_wrongly_filled, is_target_unknown_in, row_astray};
+ghost use Rattle.hal_rows.specs.Judged.{all_breaches_at, at_target_rows, breach_of, breaches_at, faults_at, for_row, is_target_unknown_in, row_astray};
+ghost use Rattle.hal_judge.specs.Wrong.{buffer_rule, flaw_rule, is_buffer_wrong, target_rule};
 ghost use Rattle.hal_table.specs.State.{state_of};
 
 use crate::fault::{
-    at, buffers_astray, buffers_disorderly, buffers_overtaken, buffers_unclear,
-    buffers_with_acquire, buffers_wrongly_fenced, buffers_wrongly_filled, one, plain, rows_meant,
-    rows_silent, streams_wrong, target_rows_unknown, targets_held, targets_too_many, targets_twice,
-    targets_unknown,
+    BufferFault, BufferFlaw, TargetFault, at, buffers_astray, buffers_flawed, buffers_wrong, one,
+    plain, rows_meant, rows_silent, streams_wrong, target_rows_unknown, targets_wrong,
 };
 use crate::order::ordered;
 use crate::rule::breaks;
@@ -35,54 +34,17 @@ fn own(alloc: Global, event: &HalEvent) -> Result<Vec<Fault>, NoMemory>
 
 // ---- the targets of a request that begins
 
-fn held_buffer(alloc: Global, event: &HalEvent, table: &HalTable) -> Result<Vec<Fault>, NoMemory>
-    ensures { IfOk result (λ faults. faults.items ≡ faults_at Rule.HeldBuffer event.now (state_of table.now)) }
-{
-    match event {
-        HalEvent::RequestBegin { frame, targets, .. } => {
-            targets_held(alloc, *frame, targets.as_slice(), table)
-        }
-        _ => own(alloc, event),
-    }
-}
-
-fn repeated_stream(
+fn wrong_targets(
     alloc: Global,
+    fault: TargetFault,
     event: &HalEvent,
     table: &HalTable,
 ) -> Result<Vec<Fault>, NoMemory>
-    ensures { IfOk result (λ faults. faults.items ≡ faults_at Rule.RepeatedStream event.now (state_of table.now)) }
+    ensures { IfOk result (λ faults. faults.items ≡ faults_at (target_rule fault) event.now (state_of table.now)) }
 {
     match event {
         HalEvent::RequestBegin { frame, targets, .. } => {
-            targets_twice(alloc, *frame, targets.as_slice())
-        }
-        _ => own(alloc, event),
-    }
-}
-
-fn too_many_buffers(
-    alloc: Global,
-    event: &HalEvent,
-    table: &HalTable,
-) -> Result<Vec<Fault>, NoMemory>
-    ensures { IfOk result (λ faults. faults.items ≡ faults_at Rule.TooManyBuffers event.now (state_of table.now)) }
-{
-    match event {
-        HalEvent::RequestBegin { frame, targets, .. } => {
-            targets_too_many(alloc, *frame, targets.as_slice(), table)
-        }
-        _ => own(alloc, event),
-    }
-}
-
-fn unknown_stream(alloc: Global, event: &HalEvent, table: &HalTable) -> Result<Vec<Fault>, NoMemory>
-    ensures { IfOk result (λ faults. faults.items ≡ faults_at Rule.UnknownStream event.now (state_of table.now)) }
-{
-    match event {
-        HalEvent::RequestBegin { frame, targets, .. } => {
-            let streams = table.device().streams.as_slice();
-            targets_unknown(alloc, *frame, streams, targets.as_slice())
+            targets_wrong(alloc, fault, *frame, targets.as_slice(), table)
         }
         _ => own(alloc, event),
     }
@@ -162,148 +124,57 @@ fn not_at_device(alloc: Global, event: &HalEvent, table: &HalTable) -> Result<Ve
     }
 }
 
-fn buffer_status(alloc: Global, event: &HalEvent, table: &HalTable) -> Result<Vec<Fault>, NoMemory>
-    ensures { IfOk result (λ faults. faults.items ≡ faults_at Rule.BufferStatus event.now (state_of table.now)) }
-{
-    match event {
-        HalEvent::Results { frame, buffers, .. } => {
-            buffers_unclear(alloc, *frame, buffers.as_slice())
-        }
-        _ => own(alloc, event),
-    }
-}
-
-fn acquire_fence(alloc: Global, event: &HalEvent, table: &HalTable) -> Result<Vec<Fault>, NoMemory>
-    ensures { IfOk result (λ faults. faults.items ≡ faults_at Rule.AcquireFence event.now (state_of table.now)) }
-{
-    match event {
-        HalEvent::Results { frame, buffers, .. } => {
-            buffers_with_acquire(alloc, *frame, buffers.as_slice())
-        }
-        _ => own(alloc, event),
-    }
-}
-
-fn overtaken_of(
+fn flawed_buffers(
     alloc: Global,
+    flaw: BufferFlaw,
+    event: &HalEvent,
+    table: &HalTable,
+) -> Result<Vec<Fault>, NoMemory>
+    ensures { IfOk result (λ faults. faults.items ≡ faults_at (flaw_rule flaw) event.now (state_of table.now)) }
+{
+    match event {
+        HalEvent::Results { frame, buffers, .. } => {
+            buffers_flawed(alloc, flaw, *frame, buffers.as_slice())
+        }
+        _ => own(alloc, event),
+    }
+}
+
+fn wrong_of(
+    alloc: Global,
+    fault: BufferFault,
     frame: u32,
     row: Option<&Row>,
     table: &HalTable,
     buffers: &[Returned],
 ) -> Result<Vec<Fault>, NoMemory>
     ensures { IfOk result (λ faults. faults.items ≡
-        for_row (λ r. at_buffers frame (filter (is_row_overtaken (state_of table.now) r) buffers.now))
+        for_row (λ r. at_buffers frame (filter (is_buffer_wrong fault (state_of table.now) r) buffers.now))
         (option_copied row.entry)) }
 {
     match row {
-        Some(row) => buffers_overtaken(alloc, frame, row, table, buffers),
+        Some(row) => buffers_wrong(alloc, fault, frame, row, table, buffers),
         None => Ok(Vec::new(alloc)),
     }
 }
 
-fn buffer_order(alloc: Global, event: &HalEvent, table: &HalTable) -> Result<Vec<Fault>, NoMemory>
-    ensures { IfOk result (λ faults. faults.items ≡ faults_at Rule.BufferOrder event.now (state_of table.now)) }
+fn wrong_buffers(
+    alloc: Global,
+    fault: BufferFault,
+    event: &HalEvent,
+    table: &HalTable,
+) -> Result<Vec<Fault>, NoMemory>
+    ensures { IfOk result (λ faults. faults.items ≡ faults_at (buffer_rule fault) event.now (state_of table.now)) }
 {
     match event {
-        HalEvent::Results { frame, buffers, .. } => overtaken_of(
+        HalEvent::Results { frame, buffers, .. } => wrong_of(
             alloc,
+            fault,
             *frame,
             table.row_for(*frame),
             table,
             buffers.as_slice(),
         ),
-        _ => own(alloc, event),
-    }
-}
-
-fn disorderly_of(
-    alloc: Global,
-    frame: u32,
-    row: Option<&Row>,
-    table: &HalTable,
-    buffers: &[Returned],
-) -> Result<Vec<Fault>, NoMemory>
-    ensures { IfOk result (λ faults. faults.items ≡
-        for_row (λ r. at_buffers frame (filter (is_row_disorderly (state_of table.now) r) buffers.now))
-        (option_copied row.entry)) }
-{
-    match row {
-        Some(row) => buffers_disorderly(alloc, frame, row, table, buffers),
-        None => Ok(Vec::new(alloc)),
-    }
-}
-
-fn failed_buffer_order(
-    alloc: Global,
-    event: &HalEvent,
-    table: &HalTable,
-) -> Result<Vec<Fault>, NoMemory>
-    ensures { IfOk result (λ faults. faults.items ≡ faults_at Rule.FailedBufferOrder event.now (state_of table.now)) }
-{
-    match event {
-        HalEvent::Results { frame, buffers, .. } => disorderly_of(
-            alloc,
-            *frame,
-            table.row_for(*frame),
-            table,
-            buffers.as_slice(),
-        ),
-        _ => own(alloc, event),
-    }
-}
-
-fn wrongly_filled_of(
-    alloc: Global,
-    frame: u32,
-    row: Option<&Row>,
-    buffers: &[Returned],
-) -> Result<Vec<Fault>, NoMemory>
-    ensures { IfOk result (λ faults. faults.items ≡
-        for_row (λ r. at_buffers frame (filter (is_row_wrongly_filled r) buffers.now)) (option_copied row.entry)) }
-{
-    match row {
-        Some(row) => buffers_wrongly_filled(alloc, frame, row, buffers),
-        None => Ok(Vec::new(alloc)),
-    }
-}
-
-fn good_after_error(
-    alloc: Global,
-    event: &HalEvent,
-    table: &HalTable,
-) -> Result<Vec<Fault>, NoMemory>
-    ensures { IfOk result (λ faults. faults.items ≡ faults_at Rule.GoodAfterError event.now (state_of table.now)) }
-{
-    match event {
-        HalEvent::Results { frame, buffers, .. } => {
-            wrongly_filled_of(alloc, *frame, table.row_for(*frame), buffers.as_slice())
-        }
-        _ => own(alloc, event),
-    }
-}
-
-fn wrongly_fenced_of(
-    alloc: Global,
-    frame: u32,
-    row: Option<&Row>,
-    buffers: &[Returned],
-) -> Result<Vec<Fault>, NoMemory>
-    ensures { IfOk result (λ faults. faults.items ≡
-        for_row (λ r. at_buffers frame (filter (is_row_wrongly_fenced r) buffers.now)) (option_copied row.entry)) }
-{
-    match row {
-        Some(row) => buffers_wrongly_fenced(alloc, frame, row, buffers),
-        None => Ok(Vec::new(alloc)),
-    }
-}
-
-fn release_fence(alloc: Global, event: &HalEvent, table: &HalTable) -> Result<Vec<Fault>, NoMemory>
-    ensures { IfOk result (λ faults. faults.items ≡ faults_at Rule.ReleaseFence event.now (state_of table.now)) }
-{
-    match event {
-        HalEvent::Results { frame, buffers, .. } => {
-            wrongly_fenced_of(alloc, *frame, table.row_for(*frame), buffers.as_slice())
-        }
         _ => own(alloc, event),
     }
 }
@@ -326,7 +197,6 @@ fn named(event: &HalEvent) -> Fault
 // ---- all rules
 
 /// What is at fault where the event breaks the rule.
-
 fn faults(
     alloc: Global,
     rule: Rule,
@@ -346,10 +216,10 @@ fn faults(
         Rule::OverlappingCalls => one(alloc, plain()),
         Rule::CallAfterClose => one(alloc, plain()),
         Rule::FrameNumber => own(alloc, event),
-        Rule::HeldBuffer => held_buffer(alloc, event, table),
-        Rule::RepeatedStream => repeated_stream(alloc, event, table),
-        Rule::TooManyBuffers => too_many_buffers(alloc, event, table),
-        Rule::UnknownStream => unknown_stream(alloc, event, table),
+        Rule::HeldBuffer => wrong_targets(alloc, TargetFault::Held, event, table),
+        Rule::RepeatedStream => wrong_targets(alloc, TargetFault::Repeated, event, table),
+        Rule::TooManyBuffers => wrong_targets(alloc, TargetFault::TooMany, event, table),
+        Rule::UnknownStream => wrong_targets(alloc, TargetFault::Unknown, event, table),
         Rule::AcceptedBeforeInit => one(alloc, plain()),
         Rule::AcceptedInitTwice => one(alloc, plain()),
         Rule::AcceptedDead => one(alloc, plain()),
@@ -372,12 +242,12 @@ fn faults(
         Rule::MetadataAfterRequestError => own(alloc, event),
         Rule::MetadataOrder => own(alloc, event),
         Rule::NotAtDevice => not_at_device(alloc, event, table),
-        Rule::BufferStatus => buffer_status(alloc, event, table),
-        Rule::BufferOrder => buffer_order(alloc, event, table),
-        Rule::FailedBufferOrder => failed_buffer_order(alloc, event, table),
-        Rule::GoodAfterError => good_after_error(alloc, event, table),
-        Rule::AcquireFence => acquire_fence(alloc, event, table),
-        Rule::ReleaseFence => release_fence(alloc, event, table),
+        Rule::BufferStatus => flawed_buffers(alloc, BufferFlaw::Unclear, event, table),
+        Rule::BufferOrder => wrong_buffers(alloc, BufferFault::Overtaken, event, table),
+        Rule::FailedBufferOrder => wrong_buffers(alloc, BufferFault::Disorderly, event, table),
+        Rule::GoodAfterError => wrong_buffers(alloc, BufferFault::Filled, event, table),
+        Rule::AcquireFence => flawed_buffers(alloc, BufferFlaw::Acquire, event, table),
+        Rule::ReleaseFence => wrong_buffers(alloc, BufferFault::Fenced, event, table),
         Rule::ErrorTwice => one(alloc, named(event)),
         Rule::ErrorBesideRequestError => one(alloc, named(event)),
         Rule::RequestErrorLate => own(alloc, event),

@@ -1,4 +1,3 @@
-use Rattle.std.proofs.Common.{◌∙◌, ap, filter}
 use Rattle.std.proofs.lemmas.Map.Iter.{rest_all, rest_more}
 use Rattle.std.specs.Map.Iter.{deref_pair}
 use Rattle.hal_judge.proofs.Faults.{silences_end, silences_next}
