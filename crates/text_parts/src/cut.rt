@@ -4,18 +4,15 @@ ghost use Rattle.std.specs.Prelude.{◌≡◌, ◌≢◌, ℕ, ◌+◌, ◌<◌,
 ghost use Rattle.std.specs.Option.{option_map};
 ghost use Rattle.text_parts.specs.Cuts.{cut_at, in_four, in_two, parts_at};
 
+use memchr::memchr;
+
 /// The place of the first byte of this value, or the text's length where there is none.
 pub fn place_of(text: &[u8], byte: u8) -> usize
     ensures within { result ≤ length text.now }
     ensures before { (k : ℕ) → k < result → slice_index text.now k ≢ byte }
     ensures found { result < length text.now → slice_index text.now result ≡ byte }
 {
-    for (place, found) in text.iter().enumerate() {
-        if *found == byte {
-            return place;
-        }
-    }
-    text.len()
+    memchr(byte, text).unwrap_or(text.len())
 }
 
 /// What stands before the first byte of this value, and what stands after it.
