@@ -5,11 +5,11 @@ ghost use Rattle.text_parts.specs.Words.{strict_words_behind};
 ghost use Rattle.trace_reader.specs.Lines.{no_profile, profile_of, version_of, named_profile};
 
 use crate::cause::Cause;
-use crate::line::is_plain_line;
+use crate::line::plain_words;
 use crate::number::profile_number;
 use crate::word::both;
 use cam_types::Profile;
-use text_parts::{first_strict_word, has_text, next_strict_word, three_strict_words};
+use text_parts::{has_text, next_strict_word, three_strict_words};
 
 /// A first line of the first version has no further words.
 fn no_profile(rest: &[u8]) -> Result<Option<Profile>, Cause>
@@ -53,10 +53,7 @@ fn version_of(rest: &[u8]) -> Result<Option<Profile>, Cause>
 pub fn named_profile(line: &[u8]) -> Result<Option<Profile>, Cause>
     ensures { result ≡ named_profile line.now }
 {
-    if !is_plain_line(line) {
-        return Err(Cause::BadLine);
-    }
-    let (word, rest) = first_strict_word(line);
+    let (word, rest) = plain_words(line).ok_or(Cause::BadLine)?;
     if has_text(word, "trace") {
         version_of(rest)
     } else {

@@ -1,6 +1,6 @@
 //! What a line means.
 
-ghost use Rattle.std.specs.Prelude.{◌≡◌, ◌==◌, ◌&&◌, not, length, nat_lt};
+ghost use Rattle.std.specs.Prelude.{◌≡◌, ◌==◌, ◌∷◌, not, length, nat_lt, is_some, IfSome};
 ghost use Rattle.std.specs.List.{list_all};
 ghost use Rattle.text_parts.specs.Words.{strict_words, strict_words_behind};
 ghost use Rattle.trace_reader.specs.Lines.{is_plain_line, kind_of, entry_in, entry_of};
@@ -23,14 +23,11 @@ fn is_ascii(line: &[u8]) -> bool
     line.iter().all(|byte| *byte < 128)
 }
 
-/// Whether no word of a line is empty: a single space stands between each two, and none at its ends.
-fn has_single_spaces(line: &[u8]) -> bool
-    ensures { result ≡ list_all (λ word. not (length word == 0)) (strict_words line.now) }
+/// Whether no word behind the first is empty: a single space stands between each two, and none at the line's end.
+fn has_single_spaces(behind: &[u8]) -> bool
+    ensures { result ≡ list_all (λ word. not (length word == 0)) (strict_words_behind behind.now) }
 {
-    let (word, mut rest) = first_strict_word(line);
-    if word.is_empty() {
-        return false;
-    }
+    let mut rest = behind;
     while let Some((word, after)) = next_strict_word(rest) {
         if word.is_empty() {
             return false;
@@ -40,11 +37,17 @@ fn has_single_spaces(line: &[u8]) -> bool
     true
 }
 
-/// Whether a line is ASCII, with single spaces between its words.
-pub fn is_plain_line(line: &[u8]) -> bool
-    ensures { result ≡ is_plain_line line.now }
+/// The first word of a line and what stands behind it, where the line is ASCII, with single spaces between its words.
+pub fn plain_words(line: &[u8]) -> Option<(&[u8], &[u8])>
+    ensures plain { is_some result ≡ is_plain_line line.now }
+    ensures words { IfSome result (λ cut. strict_words line.now ≡ cut.0.now ∷ strict_words_behind cut.1.now) }
 {
-    is_ascii(line) && has_single_spaces(line)
+    let (word, rest) = first_strict_word(line);
+    if is_ascii(line) && !word.is_empty() && has_single_spaces(rest) {
+        Some((word, rest))
+    } else {
+        None
+    }
 }
 
 /// The kinds of lines, each with its own first word.
@@ -131,10 +134,9 @@ fn entry_in(alloc: Global, kind: Kind, rest: &[u8]) -> Result<Entry, LineRefused
 pub fn entry_of(alloc: Global, line: &[u8]) -> Result<Entry, LineRefused>
     ensures { Gives result (entry_of line.now) }
 {
-    if !is_plain_line(line) {
+    let Some((word, rest)) = plain_words(line) else {
         return Err(LineRefused::Bad(Cause::BadLine));
-    }
-    let (word, rest) = first_strict_word(line);
+    };
     match kind_of(word) {
         Some(kind) => entry_in(alloc, kind, rest),
         None => Err(LineRefused::Bad(Cause::BadLine)),
