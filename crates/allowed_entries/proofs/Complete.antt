@@ -1,8 +1,8 @@
 -- Of each entry that is allowed after a legal trace the list tells.
-use Rattle.std.proofs.Common.{◌≡◌, ◌∙◌, ◌<◌, ℕ, ◌+◌, ◌==◌, Bool, true, false, ◌&&◌, ◌||◌, not, List, [], ◌∷◌, ◌++◌, Option, Some, None, refl, sym, ap, arith, inl, inr, find, nat_lt, if◌then◌else◌}
+use Rattle.std.proofs.Common.{◌≡◌, ◌∙◌, ◌<◌, ℕ, ◌==◌, Bool, true, false, ◌&&◌, not, List, Option, Some, None, refl, sym, ap, arith, inl, find, nat_lt, if◌then◌else◌}
 use Rattle.std.specs.Prelude.{IsSome}
-use Rattle.std.specs.List.{list_all, list_any, range_with_len, flat_map}
-use Rattle.std.proofs.lemmas.Bool.{and_parts, cases_Bool, eq-eqb, eqb-true, false≢true}
+use Rattle.std.specs.List.{list_all, range_with_len, flat_map}
+use Rattle.std.proofs.lemmas.Bool.{and_parts, eq-eqb, eqb-true, false≢true}
 use Rattle.std.proofs.lemmas.Bool.Decides.{nat_tests}
 use Rattle.basic_lemmas.proofs.Lists.{found-any}
 use Rattle.cam_types.specs.Four.{four_list}

@@ -1,6 +1,5 @@
 -- What a valid script and a legal past give to the list.
-use Rattle.std.proofs.Common.{◌≡◌, ◌∙◌, ◌<◌, ◌^◌, ℕ, ◌==◌, ◌+◌, true, ◌&&◌, List, refl, sym, ap, subst, arith, length, inl, inr}
-use Rattle.std.proofs.lemmas.Bool.{and_from, and_parts, cases_Bool, eqb-true}
+use Rattle.std.proofs.Common.{◌≡◌, ◌∙◌, ◌<◌, ◌^◌, ℕ, ◌+◌, true, List, sym, ap, subst, arith, length}
 use Rattle.cam_types.specs.Script.{is_valid}
 use Rattle.cam_types.specs.declared.script.Script.{Script}
 use Rattle.trace_model.specs.declared.entry.Entry.{Entry}

@@ -1,5 +1,5 @@
 //! All that is allowed after the entries of a legal trace.
-ghost use Rattle.std.specs.Prelude.{◌≡◌, ◌<◌, ◌^◌, ◌+◌, ◌++◌, IfOk, IsTrue, OnOk, length, reverse};
+ghost use Rattle.std.specs.Prelude.{◌≡◌, ◌<◌, ◌^◌, ◌+◌, ◌++◌, [], IfOk, IsTrue, OnOk, length, reverse};
 ghost use Rattle.cam_types.specs.Profile.{is_profile};
 ghost use Rattle.cam_types.specs.Script.{is_valid};
 ghost use Rattle.trace_model.specs.Legal.{IsLegal};
@@ -52,6 +52,22 @@ fn released(script: &Script, entries: &[Entry]) -> u32
     next_fence(entries) as u32
 }
 
+/// Adds the entries that are allowed after those of a legal trace of a valid script, least first.
+fn add_allowed(
+    list: &mut Vec<AllowedEntry>,
+    alloc: Global,
+    script: &Script,
+    entries: &[Entry],
+) -> Result<(), NoMemory>
+    requires valid { IsTrue (is_valid script.now) }
+    requires legal { IsLegal script.now (reverse entries.now) }
+    requires empty { list.old.items ≡ [] }
+    ensures { OnOk result (list.new.items ≡ allowed_entries script.now (reverse entries.now)) }
+{
+    let tables = tables_after(alloc, script, entries)?;
+    add_all(list, script, &tables, released(script, entries))
+}
+
 /// The entries that are allowed after those of a legal trace of a valid script, least first. The answer is an error
 /// only where memory runs out.
 pub fn allowed_after(
@@ -65,8 +81,7 @@ pub fn allowed_after(
     ensures prints { IfOk result (λ list. IsTrue (list_all prints list.items)) }
 {
     legal_traces_print(script);
-    let tables = tables_after(alloc, script, entries)?;
     let mut list = Vec::new(alloc);
-    add_all(&mut list, script, &tables, released(script, entries))?;
+    add_allowed(&mut list, alloc, script, entries)?;
     Ok(list)
 }

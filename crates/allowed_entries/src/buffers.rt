@@ -12,7 +12,7 @@ use judge_due::errors::error_buffer_due;
 use judge_rows::JudgeTables;
 
 /// A kind of entry of a frame's buffer.
-#[derive(Clone, Copy, Debug, PartialEq, Eq)]
+#[derive(Clone, Copy)]
 pub(crate) enum BufferEntry {
     /// It comes back with its picture.
     Picture,

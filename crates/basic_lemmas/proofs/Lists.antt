@@ -314,3 +314,12 @@ all-found p q (y ∷ xs) x all h =
       | inl here ↦ (let h' = rw here at h in let same : y ≡ x = cc in rw same at parts.0)
       | inr other ↦ (let h' = rw other at h in all-found p q xs x parts.1 h')
     ]
+
+take-one-more : {X : Type 0} (xs : List X) (p : ℕ) (x : X) → slice_get xs p ≡ Some x → take (suc p) xs ≡ take p xs ++ (x ∷ [])
+take-one-more [] p x at = absurd (cc)
+take-one-more (y ∷ xs) zero x at = let same : y ≡ x = cc in rw same refl
+take-one-more (y ∷ xs) (suc p) x at = ap (λ l. y ∷ l) (take-one-more xs p x at)
+
+-- the newest first, one element more stands before those before it
+pub newest : {X : Type 0} (xs : List X) (p : ℕ) (x : X) → slice_get xs p ≡ Some x → reverse (take (suc p) xs) ≡ x ∷ reverse (take p xs)
+newest xs p x at = ap reverse (take-one-more xs p x at) ∙ reverse-append (take p xs) (x ∷ [])

@@ -14,3 +14,4 @@ pub mod Opens
 pub mod Accepted
 pub mod Readings
 pub mod Resting
+pub mod Aways

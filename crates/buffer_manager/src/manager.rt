@@ -1,6 +1,7 @@
 //! The manager: the streams, and what is kept for each buffer.
-ghost use Rattle.std.specs.Prelude.{◌≡◌, ◌+◌, IfOk, IsTrue, length};
-ghost use Rattle.cam_types.specs.Profile.{is_profile};
+ghost use Rattle.std.specs.Prelude.{◌≡◌, ◌+◌, ◌*◌, ◌≤◌, [], IfOk, IsTrue, length, vec_capacity};
+ghost use Rattle.buffer_pool.specs.Blocks.{full_blocks};
+ghost use Rattle.cam_types.specs.Profile.{is_profile, pool_size};
 ghost use Rattle.buffer_manager.specs.Managed.{no_buffers};
 
 use crate::slot::Slot;
@@ -60,18 +61,9 @@ impl BufferManager {
         requires { IsTrue (is_profile profile) }
         ensures { IfOk result (λ m. m ≡ no_buffers profile early) }
     {
-        let raw = profile.pool_size(Format::Raw16);
-        let yuv = profile.pool_size(Format::Yuv);
-        let blocks = Blocks::new(alloc, raw, 3 * yuv)?;
+        let blocks = open_blocks(alloc, profile)?;
         let late = Fences::with_room(alloc, early)?;
-        let streams = Vec::with_capacity(alloc, STREAM_LIMIT as usize)?;
-        let slots = match Vec::with_capacity(alloc, SLOT_LIMIT) {
-            Ok(slots) => slots,
-            Err(error) => {
-                streams.destroy_empty();
-                return Err(error);
-            }
-        };
+        let (streams, slots) = open_lists(alloc)?;
         Ok(BufferManager {
             streams,
             slots,
@@ -101,5 +93,31 @@ impl BufferManager {
         ensures { result ≡ self.now.first + length self.now.places }
     {
         self.first + self.slots.len() as u32
+    }
+}
+
+/// The blocks of a RAW16 stream and of three YUV streams.
+fn open_blocks(alloc: Global, profile: Profile) -> Result<Blocks, NoMemory>
+    requires { IsTrue (is_profile profile) }
+    ensures { IfOk result
+        (λ blocks. blocks ≡ full_blocks (pool_size profile Format.Raw16) (3 * pool_size profile Format.Yuv)) }
+{
+    let raw = profile.pool_size(Format::Raw16);
+    let yuv = profile.pool_size(Format::Yuv);
+    Blocks::new(alloc, raw, 3 * yuv)
+}
+
+/// No stream and no slot, with the memory for as many as a configuration has at most.
+fn open_lists(alloc: Global) -> Result<(Vec<Stream>, Vec<Slot>), NoMemory>
+    ensures empty { IfOk result (λ lists. (lists.0.items ≡ []) × (lists.1.items ≡ [])) }
+    ensures room { IfOk result (λ lists. (4 ≤ vec_capacity lists.0) × (72 ≤ vec_capacity lists.1)) }
+{
+    let streams = Vec::with_capacity(alloc, STREAM_LIMIT as usize)?;
+    match Vec::with_capacity(alloc, SLOT_LIMIT) {
+        Ok(slots) => Ok((streams, slots)),
+        Err(error) => {
+            streams.destroy_empty();
+            Err(error)
+        }
     }
 }

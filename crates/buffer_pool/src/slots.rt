@@ -54,24 +54,27 @@ pub(crate) fn end_slots(slots: Slots)
     requires { (k : ℕ) → slice_index_or slots k None ≡ None }
 {
     let [a, b, c, d, e, f, g, h, i, j, k, l, m, n, o, p, q, r] = slots;
+    end_six(a, b, c, d, e, f);
+    end_six(g, h, i, j, k, l);
+    end_six(m, n, o, p, q, r);
+}
+
+fn end_six(
+    a: Option<Parked>,
+    b: Option<Parked>,
+    c: Option<Parked>,
+    d: Option<Parked>,
+    e: Option<Parked>,
+    f: Option<Parked>,
+)
+    requires { (a ≡ None) × (b ≡ None) × (c ≡ None) × (d ≡ None) × (e ≡ None) × (f ≡ None) }
+{
     end(a);
     end(b);
     end(c);
     end(d);
     end(e);
     end(f);
-    end(g);
-    end(h);
-    end(i);
-    end(j);
-    end(k);
-    end(l);
-    end(m);
-    end(n);
-    end(o);
-    end(p);
-    end(q);
-    end(r);
 }
 
 fn end(slot: Option<Parked>)

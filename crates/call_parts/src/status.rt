@@ -6,7 +6,7 @@ ghost use Rattle.call_parts.specs.Answers.{Answers, AnswersWithMemory};
 ghost use Rattle.call_parts.specs.Status.{status_number};
 
 use io_edge::{NoMemory, Sink, write_all};
-use trace_check::Verdict;
+use trace_model::Verdict;
 
 /// How the program ended. Each has its number.
 #[derive(Clone, Copy, Debug, PartialEq, Eq)]

@@ -10,6 +10,9 @@ ghost use Rattle.camera_top.specs.Words.{limit_of};
 ghost use Rattle.text_parts.specs.Forms.{form_of};
 ghost use Rattle.call_parts.specs.Status.{status_number};
 
+#[cfg(test)]
+mod gated;
+
 use call_parts::{code_of, words_of};
 use camera_top::{OpenGate, Status, camera_main};
 use io_edge::{NoMemory, Sink, Source, StdSink, StdSource};

@@ -7,3 +7,4 @@ pub mod Front
 pub mod Causes
 pub mod LeastLemmas
 pub mod NextLemmas
+pub mod Within

@@ -4,8 +4,8 @@ use Rattle.std.specs.List.{list_all}
 use Rattle.std.specs.Prelude.{slice_get}
 use Rattle.std.proofs.lemmas.Bool.{and_from, and_parts}
 use Rattle.cam_types.specs.declared.script.Script.{Script}
-use Rattle.trace_check.specs.Verdict.{IsIllegalAt}
-use Rattle.trace_check.specs.declared.verdict.RuleName.{RuleName}
+use Rattle.trace_model.specs.Verdict.{IsIllegalAt}
+use Rattle.trace_model.specs.declared.verdict.RuleName.{RuleName}
 use Rattle.trace_model.specs.declared.entry.Entry.{Entry}
 use Rattle.trace_model.specs.Allowed.{IsAllowed}
 

@@ -4,7 +4,7 @@ use Rattle.std.specs.Prelude.{IfOk, slice_get}
 use Rattle.std.specs.declared.alloc.AllocError.{AllocError}
 use Rattle.std.specs.Global.{Vec}
 use Rattle.cam_types.specs.declared.script.Script.{Script}
-use Rattle.trace_check.specs.declared.verdict.RuleName.{RuleName}
+use Rattle.trace_model.specs.declared.verdict.RuleName.{RuleName}
 use Rattle.trace_model.specs.declared.entry.Entry.{Entry}
 use Rattle.rule_conditions.specs.declared.condition.Condition.{Condition}
 use Rattle.rule_conditions.specs.Conditions.{first_failed}

@@ -5,9 +5,9 @@ use Rattle.cam_types.specs.declared.script.Script.{Script}
 use Rattle.text_parts.specs.declared.cause.TextRefused.{TextRefused}
 use Rattle.text_parts.specs.declared.cause.TextRefused.TheVariants.{Bad, NoMemory}
 use Rattle.script_text.specs.Grammar.{script_of}
-use Rattle.trace_check.specs.Verdict.{IsVerdict}
-use Rattle.trace_check.specs.declared.verdict.Verdict.{Verdict}
-use Rattle.trace_check.specs.declared.verdict.Verdict.TheVariants.{Legal, IllegalAt, Incomplete}
+use Rattle.trace_model.specs.Verdict.{IsVerdict}
+use Rattle.trace_model.specs.declared.verdict.Verdict.{Verdict}
+use Rattle.trace_model.specs.declared.verdict.Verdict.TheVariants.{Legal, IllegalAt, Incomplete}
 use Rattle.trace_model.specs.declared.entry.Entry.{Entry}
 use Rattle.trace_model.specs.declared.list.TraceList.{TraceList}
 use Rattle.trace_model.specs.Complete.{IsComplete}
@@ -23,7 +23,7 @@ use Rattle.explain_refused.specs.Refused.{refused_input, refused_profile, refuse
 use Rattle.explain_text.specs.Explained.{illegal_text, legal_text}
 use Rattle.explain_call.specs.Length.{IsPlayedLength}
 use Rattle.rule_conditions.specs.Conditions.{first_failed}
-use Rattle.trace_check.specs.declared.verdict.RuleName.{RuleName}
+use Rattle.trace_model.specs.declared.verdict.RuleName.{RuleName}
 
 -- In all of these `part` is the script's text, and `bytes` are the trace's.
 

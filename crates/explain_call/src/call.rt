@@ -2,7 +2,7 @@
 ghost use Rattle.std.specs.Prelude.{◌≡◌, ◌+◌, ◌≤◌, IsTrue, Ok, length};
 ghost use Rattle.std.specs.List.{list_all};
 ghost use Rattle.cam_types.specs.Script.{is_valid};
-ghost use Rattle.trace_check.specs.Verdict.{IsVerdict};
+ghost use Rattle.trace_model.specs.Verdict.{IsVerdict};
 ghost use Rattle.trace_model.specs.Printable.{is_printable};
 ghost use Rattle.script_text.specs.Grammar.{script_of};
 ghost use Rattle.trace_reader.specs.Grammar.{trace_of};

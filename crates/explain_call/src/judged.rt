@@ -3,14 +3,14 @@ ghost use Rattle.std.specs.Prelude.{◌≡◌, IfOk, Ok};
 ghost use Rattle.explain_call.specs.Explaining.{CountsMoves};
 ghost use Rattle.explain_call.specs.Length.{IsPlayedLength};
 ghost use Rattle.script_text.specs.Grammar.{script_of};
-ghost use Rattle.trace_check.specs.Verdict.{IsVerdict};
+ghost use Rattle.trace_model.specs.Verdict.{IsVerdict};
 
 use crate::played_length;
 use cam_types::{NoMemory, Script};
 use std::alloc::{AllocError, Global};
 use text_parts::TextRefused;
-use trace_check::{Verdict, check};
-use trace_model::TraceList;
+use trace_check::check;
+use trace_model::{TraceList, Verdict};
 
 /// The verdict on a trace. Of a legal one, whose script has picks, also how many moves the script's played run has.
 #[derive(Clone, Copy)]

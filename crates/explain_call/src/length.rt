@@ -7,9 +7,8 @@ use cam_types::{NoMemory, Script};
 use digest_memory::DigestMemory;
 use fill_jobs::Hands;
 use run_model::early_bound;
-use service_core::Service;
 use service_parts::no_job_is_out_at_first;
-use settle::{close, play};
+use settle::{Service, close, play};
 use std::alloc::Global;
 
 /// Plays a script, and answers how many moves its run has. The run is let go.

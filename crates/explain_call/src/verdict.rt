@@ -5,7 +5,7 @@ ghost use Rattle.cam_types.specs.Script.{is_valid};
 ghost use Rattle.explain_call.specs.Explaining.{explained, illegal_at};
 ghost use Rattle.explain_text.specs.Explained.{illegal_text};
 ghost use Rattle.rule_conditions.specs.Conditions.{first_failed};
-ghost use Rattle.trace_check.specs.Verdict.{IsIllegalAt, IsVerdict};
+ghost use Rattle.trace_model.specs.Verdict.{IsIllegalAt, IsVerdict};
 ghost use Rattle.trace_model.specs.Allowed.{IsAllowed};
 ghost use Rattle.trace_model.specs.Legal.{IsLegal};
 ghost use Rattle.trace_model.specs.Printable.{is_printable};
@@ -16,8 +16,7 @@ use cam_types::{NoMemory, Script};
 use explain_text::{illegal_text, incomplete_text, legal_text};
 use judge_conditions::first_failed;
 use std::alloc::Global;
-use trace_check::{RuleName, Verdict};
-use trace_model::{Entry, TraceList};
+use trace_model::{Entry, RuleName, TraceList, Verdict};
 use trace_text::Printer;
 use wrong_words::LINE_LIMIT;
 

@@ -1,1 +1,2 @@
 pub mod MissingLists
+pub mod Written

@@ -3,8 +3,8 @@ use Rattle.std.specs.Prelude.{ℕ, ◌+◌, Bool, true, false, not, List, [], �
 use Rattle.cam_types.specs.declared.script.Fault.{Fault}
 use Rattle.cam_types.specs.declared.script.Fault.TheVariants as fault
 use Rattle.cam_types.specs.declared.script.Script.{Script}
-use Rattle.trace_check.specs.declared.verdict.RuleName.{RuleName}
-use Rattle.trace_check.specs.declared.verdict.Verdict.TheVariants.{Legal}
+use Rattle.trace_model.specs.declared.verdict.RuleName.{RuleName}
+use Rattle.trace_model.specs.declared.verdict.Verdict.TheVariants.{Legal}
 use Rattle.trace_model.specs.declared.entry.Entry.{Entry}
 use Rattle.trace_model.specs.declared.entry.Entry.TheVariants.{Begin, Call}
 use Rattle.trace_model.specs.Entry.{is_refusal}

@@ -9,8 +9,8 @@ use Rattle.cam_types.specs.declared.script.Command.{Command}
 use Rattle.cam_types.specs.declared.script.Script.{Script}
 use Rattle.text_parts.specs.CommandWords.{word_text}
 use Rattle.judge_text.specs.Lines.{verdict_text}
-use Rattle.trace_check.specs.declared.verdict.MissingPart.{MissingPart}
-use Rattle.trace_check.specs.declared.verdict.Verdict.TheVariants.{Incomplete}
+use Rattle.trace_model.specs.declared.verdict.MissingPart.{MissingPart}
+use Rattle.trace_model.specs.declared.verdict.Verdict.TheVariants.{Incomplete}
 use Rattle.trace_model.specs.declared.entry.Entry.{Entry}
 use Rattle.trace_model.specs.declared.entry.Entry.TheVariants.{Release, Send}
 use Rattle.trace_model.specs.declared.entry.Sent.{Sent}

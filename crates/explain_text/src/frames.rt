@@ -83,6 +83,22 @@ fn is_open_in(entries: &[Entry], frame: FrameNo) -> bool
     is_open(entries, frame)
 }
 
+/// Writes what the frame lacks.
+fn put_lacks(
+    text: &mut Vec<u8>,
+    alloc: Global,
+    entries: &[Entry],
+    frame: FrameNo,
+    targets: &Four<Sent>,
+) -> Result<(), NoMemory>
+    ensures { OnOk result (text.new.items ≡ text.old.items
+        ++ (metadata_lack frame.0 (reverse entries.now)
+        ++ flat_map (buffer_lack frame.0 (reverse entries.now)) (four_list targets.now))) }
+{
+    put_metadata_lack(text, entries, frame)?;
+    put_buffer_lacks(text, alloc, entries, frame, targets)
+}
+
 /// Writes the entry, where it sends a frame that is open, and what the frame lacks.
 #[tactic(auto, unfolding(crate::specs::Missing::open_frame))]
 fn put_open(
@@ -103,8 +119,7 @@ fn put_open(
         return Ok(());
     }
     put_line(text, alloc, printer, number, entry)?;
-    put_metadata_lack(text, entries, *frame)?;
-    put_buffer_lacks(text, alloc, entries, *frame, targets)
+    put_lacks(text, alloc, entries, *frame, targets)
 }
 
 /// The open frames in the order of their sends, each with what it lacks. The line of the first entry has the number.

@@ -1,7 +1,7 @@
 //! What of a script did nothing.
 ghost use Rattle.std.specs.Prelude.{◌≡◌, ◌+◌, ◌≤◌, ◌++◌, IfOk, IsTrue, OnOk, length, reverse};
 ghost use Rattle.std.specs.List.{list_all};
-ghost use Rattle.explain_text.specs.Explained.{is_unmet, legal_text, refused_command, refused_line, refused_part, unmet_part};
+ghost use Rattle.explain_text.specs.Explained.{is_unmet, legal_text, refused_command, refused_line, refused_lines, refused_part, unmet_part};
 ghost use Rattle.trace_model.specs.Printable.{is_printable};
 
 use crate::script::put_found;
@@ -10,8 +10,7 @@ use judge_entries::entry::is_refusal;
 use judge_filters::frame::{has_target, is_sent};
 use judge_text::verdict_text;
 use std::alloc::Global;
-use trace_check::Verdict;
-use trace_model::Entry;
+use trace_model::{Entry, Verdict};
 use trace_text::Printer;
 use wrong_words::{LINE_LIMIT, command_line, fault_line, put_headed, put_line, put_picks_part};
 
@@ -94,6 +93,30 @@ fn put_refused(
     }
 }
 
+/// Writes each command that was refused. The line of the first entry has the number.
+fn put_refused_lines(
+    alloc: Global,
+    printer: &mut Printer,
+    entries: &[Entry],
+    part: &[u8],
+    number: u64,
+    text: &mut Vec<u8>,
+) -> Result<(), NoMemory>
+    requires long { length part.now ≤ 134217728 }
+    requires printable { IsTrue (list_all is_printable entries.now) }
+    requires numbers { number + length entries.now ≤ LINE_LIMIT }
+    ensures { OnOk result (text.new.items ≡ text.old.items ++ refused_lines part.now number entries.now) }
+{
+    let mut number = number;
+    let mut rest = entries;
+    while let [entry, after @ ..] = rest {
+        put_refused(text, alloc, printer, part, number, entry)?;
+        number += 1;
+        rest = after;
+    }
+    Ok(())
+}
+
 /// Writes the commands that were refused, behind their heading. The line of the first entry has the number.
 #[tactic(auto, unfolding(crate::specs::Explained::refused_part))]
 fn put_refused_part(
@@ -110,13 +133,7 @@ fn put_refused_part(
     ensures { OnOk result (text.new.items ≡ text.old.items ++ refused_part part.now number entries.now) }
 {
     let mut lines = Vec::new(alloc);
-    let mut number = number;
-    let mut rest = entries;
-    while let [entry, after @ ..] = rest {
-        put_refused(&mut lines, alloc, printer, part, number, entry)?;
-        number += 1;
-        rest = after;
-    }
+    put_refused_lines(alloc, printer, entries, part, number, &mut lines)?;
     put_headed(text, b"Commands that were refused:\n", lines.as_slice())
 }
 

@@ -15,8 +15,7 @@ use cam_types::{NoMemory, Script};
 use judge_conditions::mentions;
 use rule_conditions::Condition;
 use std::alloc::Global;
-use trace_check::RuleName;
-use trace_model::Entry;
+use trace_model::{Entry, RuleName};
 use trace_text::Printer;
 use wrong_words::{Choice, LINE_LIMIT, put_headed, put_last_lines, put_number};
 

@@ -8,8 +8,7 @@ use crate::missing::put_missing;
 use cam_types::{NoMemory, Script};
 use judge_text::verdict_text;
 use std::alloc::Global;
-use trace_check::{MissingPart, Verdict};
-use trace_model::Entry;
+use trace_model::{Entry, MissingPart, Verdict};
 use trace_text::Printer;
 use wrong_words::LINE_LIMIT;
 

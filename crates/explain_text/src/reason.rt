@@ -5,7 +5,7 @@ ghost use Rattle.explain_text.specs.Explained.{heading_text, reason_text, sectio
 use cam_types::NoMemory;
 use rule_conditions::Condition;
 use rule_sentences::{heading_of, section_of, sentence_of};
-use trace_check::RuleName;
+use trace_model::RuleName;
 
 /// Writes the sentence of a condition.
 #[tactic(auto, unfolding(crate::specs::Explained::sentence_text))]

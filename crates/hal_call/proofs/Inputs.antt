@@ -11,11 +11,11 @@ use Rattle.trace_model.specs.Legal.{IsLegal}
 use Rattle.trace_model.specs.Open.{is_quiet}
 use Rattle.trace_model.specs.Place.{all_in_pool}
 use Rattle.trace_reader.specs.Grammar.{trace_of}
-use Rattle.trace_check.specs.Verdict.{IsVerdict, first_missing}
-use Rattle.trace_check.specs.declared.verdict.MissingPart.{MissingPart}
-use Rattle.trace_check.specs.declared.verdict.MissingPart.TheVariants.{Calls, Open, Queued, Pool, Signal}
-use Rattle.trace_check.specs.declared.verdict.Verdict.{Verdict}
-use Rattle.trace_check.specs.declared.verdict.Verdict.TheVariants.{Legal, Incomplete}
+use Rattle.trace_model.specs.Verdict.{IsVerdict, first_missing}
+use Rattle.trace_model.specs.declared.verdict.MissingPart.{MissingPart}
+use Rattle.trace_model.specs.declared.verdict.MissingPart.TheVariants.{Calls, Open, Queued, Pool, Signal}
+use Rattle.trace_model.specs.declared.verdict.Verdict.{Verdict}
+use Rattle.trace_model.specs.declared.verdict.Verdict.TheVariants.{Legal, Incomplete}
 use Rattle.judge_text.specs.Parts.{first_line, script_part, trace_part}
 use Rattle.judge_text.specs.Profiles.{profile_of}
 use Rattle.hal_call.specs.Shown.{HasNoLog, is_illegal}

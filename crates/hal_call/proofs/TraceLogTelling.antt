@@ -12,9 +12,9 @@ use Rattle.trace_model.specs.declared.list.TraceList.{TraceList}
 use Rattle.trace_reader.specs.Grammar.{trace_of}
 use Rattle.trace_reader.specs.declared.cause.TraceRefused.{TraceRefused}
 use Rattle.trace_reader.specs.declared.cause.TraceRefused.TheVariants as reading
-use Rattle.trace_check.specs.declared.verdict.Verdict.{Verdict}
-use Rattle.trace_check.specs.declared.verdict.Verdict.TheVariants.{Legal, IllegalAt, Incomplete}
-use Rattle.trace_check.specs.Verdict.{IsVerdict}
+use Rattle.trace_model.specs.declared.verdict.Verdict.{Verdict}
+use Rattle.trace_model.specs.declared.verdict.Verdict.TheVariants.{Legal, IllegalAt, Incomplete}
+use Rattle.trace_model.specs.Verdict.{IsVerdict}
 use Rattle.judge_text.specs.Lines.{refused_trace_text, verdict_status}
 use Rattle.judge_text.specs.Meaning.{JudgesParts, JudgesWhole}
 use Rattle.judge_text.specs.Parts.{first_line, script_part, trace_part}

@@ -6,8 +6,8 @@ use Rattle.script_text.specs.Grammar.{script_of}
 use Rattle.trace_model.specs.declared.list.TraceList.{TraceList}
 use Rattle.trace_model.specs.Legal.{IsLegal}
 use Rattle.trace_reader.specs.Grammar.{trace_of}
-use Rattle.trace_check.specs.declared.verdict.Verdict.{Verdict}
-use Rattle.trace_check.specs.declared.verdict.Verdict.TheVariants.{IllegalAt}
+use Rattle.trace_model.specs.declared.verdict.Verdict.{Verdict}
+use Rattle.trace_model.specs.declared.verdict.Verdict.TheVariants.{IllegalAt}
 use Rattle.judge_text.specs.Meaning.{Judges, input_limit}
 use Rattle.judge_text.specs.Parts.{first_line, script_part, trace_part}
 use Rattle.judge_text.specs.Profiles.{profile_of}

@@ -11,8 +11,8 @@ use cam_types::{NoMemory, Script};
 use judge_text::{parts_of, profiles_agree};
 use std::alloc::{AllocError, Global};
 use text_parts::TextRefused;
-use trace_check::{Verdict, a_trace_has_one_verdict, check};
-use trace_model::TraceList;
+use trace_check::{a_trace_has_one_verdict, check};
+use trace_model::{TraceList, Verdict};
 use trace_reader::TraceRefused;
 
 /// The text of the hal log of an input, or none where the input isn't a script and a legal trace of its profile.

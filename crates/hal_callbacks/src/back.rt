@@ -1,9 +1,10 @@
 //! The rules that bind the device in the buffers that come back.
 ghost use Rattle.std.specs.Prelude.{◌≡◌, ◌&&◌, ◌||◌, ◌∷◌, [], ◌++◌, List, Option, drop, length, not, option_copied, reverse, take, IfOk, IsTrue};
 ghost use Rattle.std.specs.List.{list_any};
-ghost use Rattle.hal_model.specs.Callbacks.{has_acquire, is_fence_of, is_of, is_some_listed, is_unclear};
+ghost use Rattle.hal_model.specs.Callbacks.{is_fence_of, is_of, is_some_listed};
 ghost use Rattle.hal_model.specs.Words.{is_number, is_same_number};
-ghost use Rattle.hal_rows.specs.Judged.{acquire_fence_at, buffer_order_at, buffer_status_at, failed_buffer_order_at, good_after_error_at, is_row_announced_for, is_row_astray, is_row_disorderly, is_row_disorderly_for, is_row_overtaken, is_row_overtaken_for, is_row_wrongly_fenced, is_row_wrongly_filled, not_at_device_at, of_found, other_order, release_fence_at, row_astray};
+ghost use Rattle.hal_rows.specs.Judged.{is_row_announced_for, is_row_astray, is_row_disorderly, is_row_disorderly_for, is_row_overtaken, is_row_overtaken_for, is_row_wrongly_fenced, is_row_wrongly_filled, not_at_device_at, of_found, other_order, row_astray};
+ghost use Rattle.hal_callbacks.specs.Buffers.{has_flaw, has_wrong_buffer, is_buffer_wrong, is_flawed};
 ghost use Rattle.hal_table.specs.State.{state_of};
 
 use crate::later::is_later;
@@ -16,48 +17,37 @@ use hal_table::HalTable;
 
 // ---- status and acquire fence
 
-/// Whether the status is neither ok nor error.
-pub fn is_unclear(buffer: &Returned) -> bool
-    ensures { result ≡ is_unclear buffer.now }
-{
-    !(is_filled(buffer) || is_failed_buffer(buffer))
+/// What a buffer that comes back may be at fault in by itself.
+#[derive(Clone, Copy)]
+pub enum BufferFlaw {
+    /// Its status is neither ok nor error.
+    Unclear,
+    /// It carries an acquire fence.
+    Acquire,
 }
 
-fn is_some_unclear(buffers: &[Returned]) -> bool
-    ensures { result ≡ list_any is_unclear buffers.now }
+/// Whether the buffer is flawed.
+pub fn is_flawed(flaw: BufferFlaw, buffer: &Returned) -> bool
+    ensures { result ≡ is_flawed flaw buffer.now }
 {
-    buffers.iter().any(|buffer| is_unclear(buffer))
-}
-
-/// Whether a buffer's status is neither ok nor error.
-pub fn buffer_status(event: &HalEvent, table: &HalTable) -> bool
-    ensures { result ≡ buffer_status_at event.now (state_of table.now) }
-{
-    match event {
-        HalEvent::Results { buffers, .. } => is_some_unclear(buffers.as_slice()),
-        _ => false,
+    match flaw {
+        BufferFlaw::Unclear => !(is_filled(buffer) || is_failed_buffer(buffer)),
+        BufferFlaw::Acquire => buffer.acquire,
     }
 }
 
-/// Whether the buffer carries an acquire fence.
-pub fn has_acquire(buffer: &Returned) -> bool
-    ensures { result ≡ has_acquire buffer.now }
+fn is_some_flawed(flaw: BufferFlaw, buffers: &[Returned]) -> bool
+    ensures { result ≡ list_any (is_flawed flaw) buffers.now }
 {
-    buffer.acquire
+    buffers.iter().any(|buffer| is_flawed(flaw, buffer))
 }
 
-fn is_some_acquire(buffers: &[Returned]) -> bool
-    ensures { result ≡ list_any has_acquire buffers.now }
-{
-    buffers.iter().any(|buffer| has_acquire(buffer))
-}
-
-/// Whether a buffer carries an acquire fence.
-pub fn acquire_fence(event: &HalEvent, table: &HalTable) -> bool
-    ensures { result ≡ acquire_fence_at event.now (state_of table.now) }
+/// Whether a buffer comes back that is flawed.
+pub fn has_flaw(flaw: BufferFlaw, event: &HalEvent, table: &HalTable) -> bool
+    ensures { result ≡ has_flaw flaw event.now (state_of table.now) }
 {
     match event {
-        HalEvent::Results { buffers, .. } => is_some_acquire(buffers.as_slice()),
+        HalEvent::Results { buffers, .. } => is_some_flawed(flaw, buffers.as_slice()),
         _ => false,
     }
 }
@@ -147,40 +137,10 @@ fn is_overtaken_for(stream: Option<u32>, row: &Row, table: &HalTable) -> bool
 }
 
 /// Whether the buffer is ok, and an ok one of a later request is back.
-pub fn is_overtaken(row: &Row, table: &HalTable, buffer: &Returned) -> bool
+fn is_overtaken(row: &Row, table: &HalTable, buffer: &Returned) -> bool
     ensures { result ≡ is_row_overtaken (state_of table.now) row.now buffer.now }
 {
     is_filled(buffer) && is_overtaken_for(buffer.stream, row, table)
-}
-
-fn is_some_overtaken(row: &Row, table: &HalTable, buffers: &[Returned]) -> bool
-    ensures { result ≡ list_any (is_row_overtaken (state_of table.now) row.now) buffers.now }
-{
-    buffers
-        .iter()
-        .any(|buffer| is_overtaken(row, table, buffer))
-}
-
-fn has_overtaken(buffers: &[Returned], row: Option<&Row>, table: &HalTable) -> bool
-    ensures { result ≡ of_found (λ r. list_any (is_row_overtaken (state_of table.now) r) buffers.now)
-        (option_copied row.entry) }
-{
-    match row {
-        Some(row) => is_some_overtaken(row, table, buffers),
-        None => false,
-    }
-}
-
-/// Whether an ok buffer comes back after one of a later request.
-pub fn buffer_order(event: &HalEvent, table: &HalTable) -> bool
-    ensures { result ≡ buffer_order_at event.now (state_of table.now) }
-{
-    match event {
-        HalEvent::Results { frame, buffers, .. } => {
-            has_overtaken(buffers.as_slice(), table.row_for(*frame), table)
-        }
-        _ => false,
-    }
 }
 
 fn other_order(buffer: &Returned, stream: u32) -> Order
@@ -203,40 +163,10 @@ fn is_disorderly_for(buffer: &Returned, row: &Row, table: &HalTable) -> bool
 }
 
 /// Whether the buffer comes out of the strict order.
-pub fn is_disorderly(row: &Row, table: &HalTable, buffer: &Returned) -> bool
+fn is_disorderly(row: &Row, table: &HalTable, buffer: &Returned) -> bool
     ensures { result ≡ is_row_disorderly (state_of table.now) row.now buffer.now }
 {
     is_orderly(table.device().flush.out, buffer) && is_disorderly_for(buffer, row, table)
-}
-
-fn is_some_disorderly(row: &Row, table: &HalTable, buffers: &[Returned]) -> bool
-    ensures { result ≡ list_any (is_row_disorderly (state_of table.now) row.now) buffers.now }
-{
-    buffers
-        .iter()
-        .any(|buffer| is_disorderly(row, table, buffer))
-}
-
-fn has_disorderly(buffers: &[Returned], row: Option<&Row>, table: &HalTable) -> bool
-    ensures { result ≡ of_found (λ r. list_any (is_row_disorderly (state_of table.now) r) buffers.now)
-        (option_copied row.entry) }
-{
-    match row {
-        Some(row) => is_some_disorderly(row, table, buffers),
-        None => false,
-    }
-}
-
-/// Whether a buffer comes back out of the strict order.
-pub fn failed_buffer_order(event: &HalEvent, table: &HalTable) -> bool
-    ensures { result ≡ failed_buffer_order_at event.now (state_of table.now) }
-{
-    match event {
-        HalEvent::Results { frame, buffers, .. } => {
-            has_disorderly(buffers.as_slice(), table.row_for(*frame), table)
-        }
-        _ => false,
-    }
 }
 
 // ---- buffers after an error
@@ -251,37 +181,10 @@ fn is_announced_for(row: &Row, stream: Option<u32>) -> bool
 }
 
 /// Whether the buffer is ok that was said to be in error.
-pub fn is_wrongly_filled(row: &Row, buffer: &Returned) -> bool
+fn is_wrongly_filled(row: &Row, buffer: &Returned) -> bool
     ensures { result ≡ is_row_wrongly_filled row.now buffer.now }
 {
     is_filled(buffer) && (row.failed || is_announced_for(row, buffer.stream))
-}
-
-fn is_some_wrongly_filled(row: &Row, buffers: &[Returned]) -> bool
-    ensures { result ≡ list_any (is_row_wrongly_filled row.now) buffers.now }
-{
-    buffers.iter().any(|buffer| is_wrongly_filled(row, buffer))
-}
-
-fn has_wrongly_filled(buffers: &[Returned], row: Option<&Row>) -> bool
-    ensures { result ≡ of_found (λ r. list_any (is_row_wrongly_filled r) buffers.now) (option_copied row.entry) }
-{
-    match row {
-        Some(row) => is_some_wrongly_filled(row, buffers),
-        None => false,
-    }
-}
-
-/// Whether an ok buffer comes back that was said to be in error.
-pub fn good_after_error(event: &HalEvent, table: &HalTable) -> bool
-    ensures { result ≡ good_after_error_at event.now (state_of table.now) }
-{
-    match event {
-        HalEvent::Results { frame, buffers, .. } => {
-            has_wrongly_filled(buffers.as_slice(), table.row_for(*frame))
-        }
-        _ => false,
-    }
 }
 
 // ---- release fences
@@ -312,36 +215,79 @@ fn has_own_fence(targets: &[TargetRow], buffer: &Returned) -> bool
 }
 
 /// Whether the failed buffer has a release fence other than its acquire fence.
-pub fn is_wrongly_fenced(row: &Row, buffer: &Returned) -> bool
+fn is_wrongly_fenced(row: &Row, buffer: &Returned) -> bool
     ensures { result ≡ is_row_wrongly_fenced row.now buffer.now }
 {
     is_failed_buffer(buffer)
         && (!is_absent(buffer.release) && !has_own_fence(row.targets.as_slice(), buffer))
 }
 
-fn is_some_wrongly_fenced(row: &Row, buffers: &[Returned]) -> bool
-    ensures { result ≡ list_any (is_row_wrongly_fenced row.now) buffers.now }
-{
-    buffers.iter().any(|buffer| is_wrongly_fenced(row, buffer))
+// ---- what a buffer is at fault in beside its request
+
+/// What a buffer that comes back may be at fault in beside its request.
+#[derive(Clone, Copy)]
+pub enum BufferFault {
+    /// It is ok, and an ok one of a later request is back.
+    Overtaken,
+    /// It comes out of the strict order.
+    Disorderly,
+    /// It is ok, and was said to be in error.
+    Filled,
+    /// It failed, and has a release fence other than its acquire fence.
+    Fenced,
 }
 
-fn has_wrongly_fenced(buffers: &[Returned], row: Option<&Row>) -> bool
-    ensures { result ≡ of_found (λ r. list_any (is_row_wrongly_fenced r) buffers.now) (option_copied row.entry) }
+/// Whether the buffer is at fault.
+pub fn is_buffer_wrong(fault: BufferFault, row: &Row, table: &HalTable, buffer: &Returned) -> bool
+    ensures { result ≡ is_buffer_wrong fault (state_of table.now) row.now buffer.now }
+{
+    match fault {
+        BufferFault::Overtaken => is_overtaken(row, table, buffer),
+        BufferFault::Disorderly => is_disorderly(row, table, buffer),
+        BufferFault::Filled => is_wrongly_filled(row, buffer),
+        BufferFault::Fenced => is_wrongly_fenced(row, buffer),
+    }
+}
+
+fn is_some_buffer_wrong(
+    fault: BufferFault,
+    row: &Row,
+    table: &HalTable,
+    buffers: &[Returned],
+) -> bool
+    ensures { result ≡ list_any (is_buffer_wrong fault (state_of table.now) row.now) buffers.now }
+{
+    buffers
+        .iter()
+        .any(|buffer| is_buffer_wrong(fault, row, table, buffer))
+}
+
+fn has_buffer_wrong(
+    fault: BufferFault,
+    buffers: &[Returned],
+    row: Option<&Row>,
+    table: &HalTable,
+) -> bool
+    ensures { result ≡ of_found (λ r. list_any (is_buffer_wrong fault (state_of table.now) r) buffers.now)
+        (option_copied row.entry) }
 {
     match row {
-        Some(row) => is_some_wrongly_fenced(row, buffers),
+        Some(row) => is_some_buffer_wrong(fault, row, table, buffers),
         None => false,
     }
 }
 
-/// Whether a failed buffer comes back with a release fence other than its acquire fence.
-pub fn release_fence(event: &HalEvent, table: &HalTable) -> bool
-    ensures { result ≡ release_fence_at event.now (state_of table.now) }
+/// Whether a buffer comes back that is at fault.
+pub fn has_wrong_buffer(fault: BufferFault, event: &HalEvent, table: &HalTable) -> bool
+    ensures { result ≡ has_wrong_buffer fault event.now (state_of table.now) }
 {
     match event {
-        HalEvent::Results { frame, buffers, .. } => {
-            has_wrongly_fenced(buffers.as_slice(), table.row_for(*frame))
-        }
+        HalEvent::Results { frame, buffers, .. } => has_buffer_wrong(
+            fault,
+            buffers.as_slice(),
+            table.row_for(*frame),
+            table,
+        ),
         _ => false,
     }
 }

@@ -1,9 +1,10 @@
 //! What later requests brought back.
-ghost use Rattle.std.specs.Prelude.{◌≡◌, ◌==◌, ◌&&◌, nat_lt, ℕ};
+ghost use Rattle.std.specs.Prelude.{◌≡◌, ℕ};
 ghost use Rattle.std.specs.Map.Iter.{ShowsInOrder, deref_pair};
 ghost use Rattle.hal_rows.specs.declared.row.Row.{Row as ARow};
 ghost use Rattle.std.specs.List.{list_any};
-ghost use Rattle.hal_rows.specs.State.{brings, has_filled, has_orderly, has_other, is_later_in_call, later_at};
+ghost use Rattle.hal_row.specs.Raised.{target_brings, targets_bring};
+ghost use Rattle.hal_rows.specs.State.{brings, is_later_in_call, later_at};
 ghost use Rattle.hal_table.specs.State.{state_of};
 
 use hal_row::row::is_in_call;
@@ -11,28 +12,22 @@ use hal_rows::{Order, Row, TargetRow};
 use hal_table::HalTable;
 use lru::Iter;
 
-fn has_filled(stream: u32, targets: &[TargetRow]) -> bool
-    ensures { result ≡ list_any (λ t. (t.target.stream == stream) && t.filled) targets.now }
+/// Whether the target brought back what the order asks for.
+fn target_brings(order: Order, target: &TargetRow) -> bool
+    ensures { result ≡ target_brings target.now order }
 {
-    targets
-        .iter()
-        .any(|target| target.target.stream == stream && target.filled)
+    match order {
+        Order::Sound => false,
+        Order::Filled(stream) => target.target.stream == stream && target.filled,
+        Order::Orderly(stream) => target.target.stream == stream && target.orderly,
+        Order::Other(stream) => target.target.stream == stream && target.other,
+    }
 }
 
-fn has_orderly(stream: u32, targets: &[TargetRow]) -> bool
-    ensures { result ≡ list_any (λ t. (t.target.stream == stream) && t.orderly) targets.now }
+fn targets_bring(order: Order, targets: &[TargetRow]) -> bool
+    ensures { result ≡ targets_bring targets.now order }
 {
-    targets
-        .iter()
-        .any(|target| target.target.stream == stream && target.orderly)
-}
-
-fn has_other(stream: u32, targets: &[TargetRow]) -> bool
-    ensures { result ≡ list_any (λ t. (t.target.stream == stream) && t.other) targets.now }
-{
-    targets
-        .iter()
-        .any(|target| target.target.stream == stream && target.other)
+    targets.iter().any(|target| target_brings(order, target))
 }
 
 /// Whether the row's request brought back what the order asks for.
@@ -41,9 +36,7 @@ fn brings(order: Order, row: &Row) -> bool
 {
     match order {
         Order::Sound => row.sound,
-        Order::Filled(stream) => has_filled(stream, row.targets.as_slice()),
-        Order::Orderly(stream) => has_orderly(stream, row.targets.as_slice()),
-        Order::Other(stream) => has_other(stream, row.targets.as_slice()),
+        _ => targets_bring(order, row.targets.as_slice()),
     }
 }
 

@@ -1,1 +1,3 @@
 pub mod Meant
+pub mod Streams
+pub mod Targets

@@ -1,9 +1,10 @@
 //! The rules that bind the framework: whether an event breaks them.
 ghost use Rattle.std.specs.Prelude.{◌≡◌, ◌==◌, ◌+◌, ◌&&◌, ◌||◌, ℕ, count_by, find, min, nat_lt, not, option_copied, sum_by};
 ghost use Rattle.std.specs.List.{list_all, list_any};
-ghost use Rattle.hal_model.specs.Framework.{has_no_output, has_two_inputs, is_past, is_twice_stream};
+ghost use Rattle.hal_model.specs.Framework.{has_no_output, has_two_inputs, is_past};
 ghost use Rattle.hal_model.specs.Words.{is_begin};
-ghost use Rattle.hal_rows.specs.Judged.{call_after_close_at, configure_in_flight_at, excused_at, frame_number_at, held_buffer_at, held_count_at, init_order_at, init_twice_at, is_flawed_at, is_held_at, is_held_target_at, is_holding, is_holding_for, is_in_other_call_at, is_output_in, is_requesting_at, is_row_called_from, is_too_many_at, is_unknown_in, no_configuration_at, no_output_at, no_settings_at, overlapping_calls_at, repeated_stream_at, too_many_buffers_at, two_inputs_at, unknown_stream_at};
+ghost use Rattle.hal_rows.specs.Judged.{call_after_close_at, configure_in_flight_at, excused_at, frame_number_at, held_count_at, init_order_at, init_twice_at, is_flawed_at, is_held_at, is_held_target_at, is_holding, is_holding_for, is_in_other_call_at, is_output_in, is_requesting_at, is_row_called_from, is_too_many_at, no_configuration_at, no_output_at, no_settings_at, overlapping_calls_at, two_inputs_at};
+ghost use Rattle.hal_calls.specs.Targets.{has_wrong_target, is_target_wrong};
 ghost use Rattle.hal_table.specs.State.{state_of};
 
 use crate::meant::{Which, is_some_meant};
@@ -157,46 +158,10 @@ pub fn frame_number(event: &HalEvent, table: &HalTable) -> bool
 }
 
 /// Whether the target's buffer is held, or stands twice among the targets.
-pub fn is_held_target(targets: &[HalTarget], table: &HalTable, target: &HalTarget) -> bool
+fn is_held_target(targets: &[HalTarget], table: &HalTable, target: &HalTarget) -> bool
     ensures { result ≡ is_held_target_at targets.now (state_of table.now) target.now }
 {
     table.is_held(target.buffer) || is_twice_buffer(targets, target)
-}
-
-fn is_some_held(targets: &[HalTarget], table: &HalTable) -> bool
-    ensures { result ≡ list_any (is_held_target_at targets.now (state_of table.now)) targets.now }
-{
-    targets
-        .iter()
-        .any(|target| is_held_target(targets, table, target))
-}
-
-/// Whether a request asks for a buffer that is held.
-pub fn held_buffer(event: &HalEvent, table: &HalTable) -> bool
-    ensures { result ≡ held_buffer_at event.now (state_of table.now) }
-{
-    match event {
-        HalEvent::RequestBegin { targets, .. } => is_some_held(targets.as_slice(), table),
-        _ => false,
-    }
-}
-
-fn is_some_twice(targets: &[HalTarget]) -> bool
-    ensures { result ≡ list_any (is_twice_stream targets.now) targets.now }
-{
-    targets
-        .iter()
-        .any(|target| is_twice_stream(targets, target))
-}
-
-/// Whether a request has two targets of a stream.
-pub fn repeated_stream(event: &HalEvent, table: &HalTable) -> bool
-    ensures { result ≡ repeated_stream_at event.now (state_of table.now) }
-{
-    match event {
-        HalEvent::RequestBegin { targets, .. } => is_some_twice(targets.as_slice()),
-        _ => false,
-    }
 }
 
 /// Whether the number is above what the device takes, unless that is 0.
@@ -210,7 +175,7 @@ fn is_past(most: Option<&StreamMax>, count: u64) -> bool
 }
 
 /// Whether with the targets more buffers of the target's stream are held than the device takes.
-pub fn is_too_many(targets: &[HalTarget], table: &HalTable, target: &HalTarget) -> bool
+fn is_too_many(targets: &[HalTarget], table: &HalTable, target: &HalTarget) -> bool
     ensures { result ≡ is_too_many_at targets.now (state_of table.now) target.now }
 {
     let held = table.held_count(target.stream);
@@ -221,37 +186,51 @@ pub fn is_too_many(targets: &[HalTarget], table: &HalTable, target: &HalTarget) 
     )
 }
 
-fn is_some_too_many(targets: &[HalTarget], table: &HalTable) -> bool
-    ensures { result ≡ list_any (is_too_many_at targets.now (state_of table.now)) targets.now }
-{
-    targets
-        .iter()
-        .any(|target| is_too_many(targets, table, target))
+/// What a target of a request that begins may be at fault in.
+#[derive(Clone, Copy)]
+pub enum TargetFault {
+    /// Its buffer is held, or asked for twice.
+    Held,
+    /// Another target is of its stream.
+    Repeated,
+    /// With the targets more buffers of its stream are held than the device takes.
+    TooMany,
+    /// Its stream isn't configured.
+    Unknown,
 }
 
-/// Whether a request asks for more buffers than the device takes.
-pub fn too_many_buffers(event: &HalEvent, table: &HalTable) -> bool
-    ensures { result ≡ too_many_buffers_at event.now (state_of table.now) }
+/// Whether the target is at fault.
+pub fn is_target_wrong(
+    fault: TargetFault,
+    targets: &[HalTarget],
+    table: &HalTable,
+    target: &HalTarget,
+) -> bool
+    ensures { result ≡ is_target_wrong fault targets.now (state_of table.now) target.now }
 {
-    match event {
-        HalEvent::RequestBegin { targets, .. } => is_some_too_many(targets.as_slice(), table),
-        _ => false,
+    match fault {
+        TargetFault::Held => is_held_target(targets, table, target),
+        TargetFault::Repeated => is_twice_stream(targets, target),
+        TargetFault::TooMany => is_too_many(targets, table, target),
+        TargetFault::Unknown => is_unknown_in(table.device().streams.as_slice(), target),
     }
 }
 
-fn is_some_unknown(streams: &[HalStream], targets: &[HalTarget]) -> bool
-    ensures { result ≡ list_any (is_unknown_in streams.now) targets.now }
+fn is_some_target_wrong(fault: TargetFault, targets: &[HalTarget], table: &HalTable) -> bool
+    ensures { result ≡ list_any (is_target_wrong fault targets.now (state_of table.now)) targets.now }
 {
-    targets.iter().any(|target| is_unknown_in(streams, target))
+    targets
+        .iter()
+        .any(|target| is_target_wrong(fault, targets, table, target))
 }
 
-/// Whether a request has a target of a stream that isn't configured.
-pub fn unknown_stream(event: &HalEvent, table: &HalTable) -> bool
-    ensures { result ≡ unknown_stream_at event.now (state_of table.now) }
+/// Whether a request begins with a target that is at fault.
+pub fn has_wrong_target(fault: TargetFault, event: &HalEvent, table: &HalTable) -> bool
+    ensures { result ≡ has_wrong_target fault event.now (state_of table.now) }
 {
     match event {
         HalEvent::RequestBegin { targets, .. } => {
-            is_some_unknown(table.device().streams.as_slice(), targets.as_slice())
+            is_some_target_wrong(fault, targets.as_slice(), table)
         }
         _ => false,
     }
@@ -267,8 +246,10 @@ fn is_flawed(event: &HalEvent, table: &HalTable) -> bool
         || (no_settings(event, table)
             || (overlapping_calls(event, table) || call_after_close(event, table))))
         || ((frame_number(event, table)
-            || (held_buffer(event, table) || repeated_stream(event, table)))
-            || (too_many_buffers(event, table) || unknown_stream(event, table)))
+            || (has_wrong_target(TargetFault::Held, event, table)
+                || has_wrong_target(TargetFault::Repeated, event, table)))
+            || (has_wrong_target(TargetFault::TooMany, event, table)
+                || has_wrong_target(TargetFault::Unknown, event, table)))
 }
 
 /// Whether the targets or the configuration excuse a refusal, or a flush.

@@ -5,6 +5,7 @@ ghost use Rattle.hal_model.specs.Device.{is_idle_most, is_unnamed};
 ghost use Rattle.hal_model.specs.Framework.{has_no_output, has_two_inputs, is_empty, is_twice_buffer, is_twice_stream, puts_out, takes_in};
 ghost use Rattle.hal_model.specs.Words.{has_stream};
 ghost use Rattle.hal_rows.specs.Judged.{is_output_in, is_target_unknown_in, is_unknown_in};
+ghost use Rattle.hal_calls.specs.Streams.{is_asked};
 
 use hal_model::{Direction, HalStream, HalTarget, StreamMax};
 use hal_rows::TargetRow;
@@ -29,17 +30,40 @@ pub fn takes_in(direction: Direction) -> bool
     }
 }
 
-fn is_some_output(streams: &[HalStream]) -> bool
-    ensures { result ≡ list_any (λ x. puts_out x.direction) streams.now }
+/// Which streams are asked for.
+#[derive(Clone, Copy)]
+enum Asked {
+    /// Each that takes what a request puts out.
+    Output,
+    /// That of the number.
+    Number(u32),
+    /// That of the number, where it takes what a request puts out.
+    OutputNumber(u32),
+}
+
+/// Whether the stream is one of those.
+fn is_asked(asked: Asked, stream: &HalStream) -> bool
+    ensures { result ≡ is_asked asked stream.now }
 {
-    streams.iter().any(|stream| puts_out(stream.direction))
+    match asked {
+        Asked::Output => puts_out(stream.direction),
+        Asked::Number(number) => stream.stream == number,
+        Asked::OutputNumber(number) => stream.stream == number && puts_out(stream.direction),
+    }
+}
+
+/// Whether one of those is among the streams.
+fn is_some_asked(asked: Asked, streams: &[HalStream]) -> bool
+    ensures { result ≡ list_any (is_asked asked) streams.now }
+{
+    streams.iter().any(|stream| is_asked(asked, stream))
 }
 
 /// Whether there is no output or bidirectional stream.
 pub fn has_no_output(streams: &[HalStream]) -> bool
     ensures { result ≡ has_no_output streams.now }
 {
-    !is_some_output(streams)
+    !is_some_asked(Asked::Output, streams)
 }
 
 fn input_count(streams: &[HalStream]) -> usize
@@ -62,7 +86,7 @@ pub fn has_two_inputs(streams: &[HalStream]) -> bool
 pub fn has_stream(number: u32, streams: &[HalStream]) -> bool
     ensures { result ≡ has_stream number streams.now }
 {
-    streams.iter().any(|stream| stream.stream == number)
+    is_some_asked(Asked::Number(number), streams)
 }
 
 /// Whether there is no target.
@@ -134,7 +158,7 @@ pub fn is_target_unknown_in(streams: &[HalStream], target: &TargetRow) -> bool
 pub(crate) fn is_output_in(streams: &[HalStream], target: &HalTarget) -> bool
     ensures { result ≡ is_output_in streams.now target.now }
 {
-    streams.iter().any(|stream| stream.stream == target.stream && puts_out(stream.direction))
+    is_some_asked(Asked::OutputNumber(target.stream), streams)
 }
 
 /// Whether each target's is.

@@ -12,7 +12,7 @@ use Rattle.cam_types.specs.declared.stream.StreamSpec.{StreamSpec}
 use Rattle.device_store.specs.Stored.{spec_of, specs_of}
 use Rattle.hal_device_model.specs.Calls.{configured}
 use Rattle.hal_device_model.specs.State.{HalDeviceState, spare_for, spares_for}
-use Rattle.hal_device.specs.Kept.{are_offered, are_packed, is_offered_at, is_sized, place_at, spare_by, spares_by, with_plan_and}
+use Rattle.hal_device.specs.Kept.{are_offered, are_packed, are_sized, is_offered_at, is_sized, place_at, spare_by, spares_by, with_plan_and}
 use Rattle.request_checks.specs.Plan.{plan_of, plan_stream}
 use Rattle.request_checks.specs.declared.plan.Plan.{Plan}
 use Rattle.request_checks.specs.declared.plan.PlanStream.{PlanStream}
@@ -46,6 +46,9 @@ plan_packed profile (w ∷ x ∷ y ∷ z ∷ specs) = refl
 sized-one : (o : Option PlanStream) → is_sized o (spare_by o) ≡ true
 sized-one (Some s) = own-number (block_length s.spec.format)
 sized-one None = refl
+
+pub sized_all : (plan : Plan) → are_sized plan (spares_by plan) ≡ true
+sized_all plan = rw (sized-one plan.streams.a, sized-one plan.streams.b, sized-one plan.streams.c, sized-one plan.streams.d) refl
 
 spare-one : (profile : Profile) (o : Option StreamSpec) → spare_by (option_map (plan_stream profile) o) ≡ spare_for profile o
 spare-one profile (Some spec) = refl

@@ -1,5 +1,5 @@
 //! What is tested of a request, and the row that it becomes.
-ghost use Rattle.std.specs.Prelude.{◌≡◌, not, nat_lt};
+ghost use Rattle.std.specs.Prelude.{◌≡◌, ◌==◌, find, not, nat_lt, option_copied};
 ghost use Rattle.std.specs.List.{list_any};
 ghost use Rattle.hal_device_model.specs.Calls.{are_bad_settings, are_bad_targets, fresh_row, names_twice, placed, placed_at, settings_of, is_again};
 
@@ -68,20 +68,27 @@ fn is_again(target: &HalTarget, other: &HalTarget) -> bool
     other.stream == target.stream || other.buffer == target.buffer
 }
 
+/// What a request says of a stream, if it does.
+fn target_at(stream: u32, targets: &[HalTarget]) -> Option<&HalTarget>
+    ensures { option_copied result ≡ find (λ t. t.stream == stream) targets.now }
+{
+    targets.iter().find(|target| target.stream == stream)
+}
+
 /// The target for a stream, if there is one.
 fn placed_at(stream: u8, targets: &[HalTarget]) -> Option<TargetView>
     ensures { result ≡ placed_at stream targets.now }
 {
-    let target = targets
-        .iter()
-        .find(|target| target.stream == stream as u32)?;
-    Some(TargetView {
-        stream: StreamIx(stream),
-        buffer: BufferId(target.buffer),
-        fence: None,
-        announced: false,
-        state: TargetState::Waiting,
-    })
+    match target_at(u32::from(stream), targets) {
+        Some(target) => Some(TargetView {
+            stream: StreamIx(stream),
+            buffer: BufferId(target.buffer),
+            fence: None,
+            announced: false,
+            state: TargetState::Waiting,
+        }),
+        None => None,
+    }
 }
 
 /// The target for each of the streams 0 to 3.

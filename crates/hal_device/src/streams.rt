@@ -60,14 +60,25 @@ impl HalDevice {
     {
         match Shelves::new(alloc, plan) {
             Ok(shelves) => {
-                self.quiet.configure(plan);
-                self.shelves = shelves;
-                self.plan = plan;
-                self.last = None;
+                self.put_plan(plan, shelves);
                 Ok(plan)
             }
             Err(_) => Err(CallError::NoMemory),
         }
+    }
+
+    /// Puts the streams of a plan, and the blocks for their buffers, in the place of those before.
+    fn put_plan(&mut self, plan: Plan, shelves: Shelves)
+        requires idle { self.old.device.rows ≡ [] }
+        requires offered { IsTrue (are_offered plan) }
+        requires packed { IsTrue (are_packed plan) }
+        requires spares { shelves ≡ spares_by plan }
+        ensures { self.new ≡ with_plan_and (spares_by plan) plan self.old }
+    {
+        self.quiet.configure(plan);
+        self.shelves = shelves;
+        self.plan = plan;
+        self.last = None;
     }
 
     /// Why no configuration can be taken now.

@@ -1,5 +1,5 @@
 //! The calls of the framework.
-ghost use Rattle.std.specs.Prelude.{◌≡◌, ◌<◌, ◌≤◌, None, Some, IfOk, IfSome, false, length, map, true, if◌then◌else◌};
+ghost use Rattle.std.specs.Prelude.{◌≡◌, ◌<◌, ◌≤◌, None, Some, IfOk, IfSome, false, length, map, take, true, if◌then◌else◌};
 ghost use Rattle.std.specs.Option.{option_map};
 ghost use Rattle.std.specs.Result.{result_err};
 ghost use Rattle.hal_device.specs.Templates.{template_error};
@@ -19,7 +19,18 @@ use crate::records::{
 use cam_types::{FrameNo, NoMemory, Settings, SpecList};
 use hal_device::HalDevice;
 use hal_device_model::CallError;
+use hal_model::HalTarget;
 use std::alloc::Global;
+
+/// The most targets of a request that isn't refused: one of each stream.
+const TARGETS: usize = 4;
+
+/// What stands behind the targets of a request.
+const NO_TARGET: HalTarget = HalTarget {
+    stream: 0,
+    buffer: 0,
+    fence: None,
+};
 
 /// camera3 `initialize`.
 #[unsafe(no_mangle)]
@@ -269,22 +280,24 @@ fn request_of(
     ensures answer { result_err result ≡ request_error frame.0 settings (map target_of targets.now) held.old }
     ensures device { held.new ≡ after_call (Request frame.0 settings (map target_of targets.now)) held.old }
 {
-    match targets {
-        [] => held.device.request(frame, settings, &[]),
-        [a] => held.device.request(frame, settings, &[target_of(*a)]),
-        [a, b] => held
-            .device
-            .request(frame, settings, &[target_of(*a), target_of(*b)]),
-        [a, b, c] => {
-            let targets = [target_of(*a), target_of(*b), target_of(*c)];
-            held.device.request(frame, settings, &targets)
-        }
-        [a, b, c, d] => {
-            let targets = [target_of(*a), target_of(*b), target_of(*c), target_of(*d)];
-            held.device.request(frame, settings, &targets)
-        }
-        _ => request_many(&mut held.device, frame, settings, targets),
+    if targets.len() <= TARGETS {
+        let few = few_targets(targets);
+        held.device.request(frame, settings, &few[..targets.len()])
+    } else {
+        request_many(&mut held.device, frame, settings, targets)
     }
+}
+
+/// The targets of a request with few, in the front of an array.
+fn few_targets(targets: &[TargetRecord]) -> [HalTarget; TARGETS]
+    requires { length targets.now ≤ 4 }
+    ensures { take (length targets.now) result ≡ map target_of targets.now }
+{
+    let mut few = [NO_TARGET; TARGETS];
+    for (place, target) in targets.iter().enumerate() {
+        few[place] = target_of(*target);
+    }
+    few
 }
 
 /// Makes a request with more than four targets, one of which is of a stream that isn't configured or that another has

@@ -64,16 +64,11 @@ pub report_item : (k : ℕ) (some : List Rule) (es : List HalEvent) (i : ℕ) (e
 report_item k some es i e s old new l item state before' now' =
     report_more k some es i e s old new l state before' (now' ∙ ap (λ z. old ++ all_breaches_at k i z s some) item)
 
-take-all : (es : List HalEvent) (i : ℕ) → length es ≤ i → take i es ≡ es
-take-all [] zero l = refl
-take-all [] (suc i) l = refl
-take-all (e ∷ es) zero l = absurd (omega arith)
-take-all (e ∷ es) (suc i) l = ap (λ z. e ∷ z) (take-all es i (omega arith))
-
-pub left_reads : (k : ℕ) (es : List HalEvent) (i : ℕ) (s : HalState) (left : List ℕ) → length es ≤ i → s ≡ hal_state k (known k (reverse (take i es))) → left ≡ ascending (map (λ r. r.frame) (filter is_row_outstanding s.rows)) → left ≡ open_requests k (reverse es)
-left_reads k es i s left l state now' =
-    now' ∙ (ap (λ t. ascending (map (λ r. r.frame) (filter is_row_outstanding t.rows))) state
-    ∙ (sym (open_reads k (reverse (take i es))) ∙ ap (λ z. open_requests k (reverse z)) (take-all es i l)))
+pub take_all : (es : List HalEvent) (i : ℕ) → length es ≤ i → take i es ≡ es
+take_all [] zero l = refl
+take_all [] (suc i) l = refl
+take_all (e ∷ es) zero l = absurd (omega arith)
+take_all (e ∷ es) (suc i) l = ap (λ z. e ∷ z) (take_all es i (omega arith))
 
 -- ---- the same in the words of the log
 

@@ -1,4 +1,3 @@
 pub mod Judged
 pub mod Meant
 pub mod Onto
-pub mod Wrong

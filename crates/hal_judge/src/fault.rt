@@ -8,19 +8,15 @@ ghost use Rattle.hal_rows.specs.Judged.{at_rows, at_target_rows, is_row_silent, 
 ghost use Rattle.hal_rows.specs.Row.{is_row_unannounced_at};
 ghost use Rattle.hal_calls.specs.Meant.{is_meant};
 ghost use Rattle.hal_judge.specs.Meant.{frame_of, silence_of};
-ghost use Rattle.hal_judge.specs.Wrong.{is_buffer_wrong, is_flawed, is_target_wrong};
+ghost use Rattle.hal_callbacks.specs.Buffers.{is_buffer_wrong, is_flawed};
+ghost use Rattle.hal_calls.specs.Targets.{is_target_wrong};
 ghost use Rattle.hal_table.specs.State.{state_of};
 
 use cam_types::NoMemory;
-use hal_callbacks::back::{
-    has_acquire, is_astray, is_disorderly, is_overtaken, is_unclear, is_wrongly_fenced,
-    is_wrongly_filled,
-};
-use hal_calls::framework::{is_held_target, is_too_many};
+use hal_callbacks::back::{BufferFault, BufferFlaw, is_astray, is_buffer_wrong, is_flawed};
+use hal_calls::framework::{TargetFault, is_target_wrong};
 use hal_calls::meant::{Which, is_meant, is_silent};
-use hal_calls::stream::{
-    is_idle_most, is_target_unknown_in, is_twice_stream, is_unknown_in, is_unnamed,
-};
+use hal_calls::stream::{is_idle_most, is_target_unknown_in, is_unnamed};
 use hal_model::{Fault, HalEvent, HalStream, HalTarget, Returned, StreamMax};
 use hal_row::row::is_unannounced_at;
 use hal_rows::{Row, TargetRow};
@@ -194,35 +190,6 @@ fn at_target(frame: u32, target: &HalTarget) -> Fault
     at(frame, Some(target.stream))
 }
 
-/// What a target of a request that begins may be at fault in.
-#[derive(Clone, Copy)]
-pub(crate) enum TargetFault {
-    /// Its buffer is held, or asked for twice.
-    Held,
-    /// Another target is of its stream.
-    Repeated,
-    /// Its stream has more buffers at the device than it may.
-    TooMany,
-    /// Its stream isn't configured.
-    Unknown,
-}
-
-fn is_target_wrong(
-    fault: TargetFault,
-    targets: &[HalTarget],
-    table: &HalTable,
-    target: &HalTarget,
-) -> bool
-    ensures { result ≡ is_target_wrong fault targets.now (state_of table.now) target.now }
-{
-    match fault {
-        TargetFault::Held => is_held_target(targets, table, target),
-        TargetFault::Repeated => is_twice_stream(targets, target),
-        TargetFault::TooMany => is_too_many(targets, table, target),
-        TargetFault::Unknown => is_unknown_in(table.device().streams.as_slice(), target),
-    }
-}
-
 /// The targets that are at fault, as faults of the request.
 pub(crate) fn targets_wrong(
     alloc: Global,
@@ -307,24 +274,6 @@ fn at_buffer(frame: u32, buffer: &Returned) -> Fault
     at(frame, buffer.stream)
 }
 
-/// What a buffer that comes back may be at fault in by itself.
-#[derive(Clone, Copy)]
-pub(crate) enum BufferFlaw {
-    /// It is neither filled nor failed.
-    Unclear,
-    /// It has an acquire fence.
-    Acquire,
-}
-
-fn is_flawed(flaw: BufferFlaw, buffer: &Returned) -> bool
-    ensures { result ≡ is_flawed flaw buffer.now }
-{
-    match flaw {
-        BufferFlaw::Unclear => is_unclear(buffer),
-        BufferFlaw::Acquire => has_acquire(buffer),
-    }
-}
-
 /// The buffers that are flawed.
 pub(crate) fn buffers_flawed(
     alloc: Global,
@@ -339,30 +288,6 @@ pub(crate) fn buffers_flawed(
         .filter(|buffer| is_flawed(flaw, buffer))
         .map(|buffer| at_buffer(frame, buffer))
         .collect(alloc)
-}
-
-/// What a buffer that comes back may be at fault in, beside its request.
-#[derive(Clone, Copy)]
-pub(crate) enum BufferFault {
-    /// A filled buffer of its stream and of an earlier request is still at the device.
-    Overtaken,
-    /// A buffer of its stream and of an earlier request is still at the device.
-    Disorderly,
-    /// It is filled, and an error told that it wouldn't be.
-    Filled,
-    /// It failed, and its release fence isn't its acquire fence.
-    Fenced,
-}
-
-fn is_buffer_wrong(fault: BufferFault, row: &Row, table: &HalTable, buffer: &Returned) -> bool
-    ensures { result ≡ is_buffer_wrong fault (state_of table.now) row.now buffer.now }
-{
-    match fault {
-        BufferFault::Overtaken => is_overtaken(row, table, buffer),
-        BufferFault::Disorderly => is_disorderly(row, table, buffer),
-        BufferFault::Filled => is_wrongly_filled(row, buffer),
-        BufferFault::Fenced => is_wrongly_fenced(row, buffer),
-    }
 }
 
 /// The buffers that are at fault.

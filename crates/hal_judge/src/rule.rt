@@ -3,8 +3,10 @@ ghost use Rattle.std.specs.Prelude.{◌≡◌};
 ghost use Rattle.hal_rows.specs.Judged.{breaks_at};
 ghost use Rattle.hal_table.specs.State.{state_of};
 
-use hal_callbacks::{back, said};
-use hal_calls::{framework, left, returns};
+use hal_callbacks::back::{self, BufferFault, BufferFlaw};
+use hal_callbacks::said;
+use hal_calls::framework::{self, TargetFault};
+use hal_calls::{left, returns};
 use hal_model::{HalEvent, Rule};
 use hal_table::HalTable;
 
@@ -23,10 +25,10 @@ pub fn breaks(parts: u32, rule: Rule, event: &HalEvent, table: &HalTable) -> boo
         Rule::OverlappingCalls => framework::overlapping_calls(event, table),
         Rule::CallAfterClose => framework::call_after_close(event, table),
         Rule::FrameNumber => framework::frame_number(event, table),
-        Rule::HeldBuffer => framework::held_buffer(event, table),
-        Rule::RepeatedStream => framework::repeated_stream(event, table),
-        Rule::TooManyBuffers => framework::too_many_buffers(event, table),
-        Rule::UnknownStream => framework::unknown_stream(event, table),
+        Rule::HeldBuffer => framework::has_wrong_target(TargetFault::Held, event, table),
+        Rule::RepeatedStream => framework::has_wrong_target(TargetFault::Repeated, event, table),
+        Rule::TooManyBuffers => framework::has_wrong_target(TargetFault::TooMany, event, table),
+        Rule::UnknownStream => framework::has_wrong_target(TargetFault::Unknown, event, table),
         Rule::AcceptedBeforeInit => returns::accepted_before_init(event, table),
         Rule::AcceptedInitTwice => returns::accepted_init_twice(event, table),
         Rule::AcceptedDead => returns::accepted_dead(event, table),
@@ -49,12 +51,12 @@ pub fn breaks(parts: u32, rule: Rule, event: &HalEvent, table: &HalTable) -> boo
         Rule::MetadataAfterRequestError => said::metadata_after_request_error(event, table),
         Rule::MetadataOrder => said::metadata_order(parts, event, table),
         Rule::NotAtDevice => back::not_at_device(event, table),
-        Rule::BufferStatus => back::buffer_status(event, table),
-        Rule::BufferOrder => back::buffer_order(event, table),
-        Rule::FailedBufferOrder => back::failed_buffer_order(event, table),
-        Rule::GoodAfterError => back::good_after_error(event, table),
-        Rule::AcquireFence => back::acquire_fence(event, table),
-        Rule::ReleaseFence => back::release_fence(event, table),
+        Rule::BufferStatus => back::has_flaw(BufferFlaw::Unclear, event, table),
+        Rule::BufferOrder => back::has_wrong_buffer(BufferFault::Overtaken, event, table),
+        Rule::FailedBufferOrder => back::has_wrong_buffer(BufferFault::Disorderly, event, table),
+        Rule::GoodAfterError => back::has_wrong_buffer(BufferFault::Filled, event, table),
+        Rule::AcquireFence => back::has_flaw(BufferFlaw::Acquire, event, table),
+        Rule::ReleaseFence => back::has_wrong_buffer(BufferFault::Fenced, event, table),
         Rule::ErrorTwice => said::error_twice(event, table),
         Rule::ErrorBesideRequestError => said::error_beside_request_error(event, table),
         Rule::RequestErrorLate => said::request_error_late(event, table),

@@ -3,16 +3,19 @@ ghost use Rattle.std.specs.Prelude.{◌≡◌, ◌∷◌, ◌++◌, [], None, fi
 ghost use Rattle.hal_model.specs.Rules.{at, at_buffers, frame_in};
 ghost use Rattle.hal_judge.specs.Judged.{named_in};
 ghost use Rattle.hal_rows.specs.Judged.{all_breaches_at, at_target_rows, breach_of, breaches_at, faults_at, for_row, is_target_unknown_in, row_astray};
-ghost use Rattle.hal_judge.specs.Wrong.{buffer_rule, flaw_rule, is_buffer_wrong, target_rule};
+ghost use Rattle.hal_callbacks.specs.Buffers.{buffer_rule, flaw_rule, is_buffer_wrong};
+ghost use Rattle.hal_calls.specs.Targets.{target_rule};
 ghost use Rattle.hal_table.specs.State.{state_of};
 
 use crate::fault::{
-    BufferFault, BufferFlaw, TargetFault, at, buffers_astray, buffers_flawed, buffers_wrong, one,
-    plain, rows_meant, rows_silent, streams_wrong, target_rows_unknown, targets_wrong,
+    at, buffers_astray, buffers_flawed, buffers_wrong, one, plain, rows_meant, rows_silent,
+    streams_wrong, target_rows_unknown, targets_wrong,
 };
 use crate::order::ordered;
 use crate::rule::breaks;
 use cam_types::NoMemory;
+use hal_callbacks::back::{BufferFault, BufferFlaw};
+use hal_calls::framework::TargetFault;
 use hal_calls::meant::Which;
 use hal_model::{Breach, Fault, HalEvent, HalStream, Returned, Rule};
 use hal_rows::Row;

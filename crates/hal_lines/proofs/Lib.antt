@@ -4,3 +4,4 @@ pub mod Hexadecimal
 pub mod HexadecimalAgain
 pub mod AgainValues
 pub mod AgainLines
+mod Both

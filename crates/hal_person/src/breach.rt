@@ -245,7 +245,7 @@ pub fn write_breach(
         (string_bytes out.new ≡ string_bytes out.old
         ++ breach_text log.now last breach.now (slice_get log.now.events breach.now.line)) }
 {
-    match log.events.as_slice().get(breach.line as usize) {
+    match log.events.get(breach.line) {
         Some(event) => write_told(out, log, last, breach, event),
         None => Ok(()),
     }

@@ -5,7 +5,7 @@ ghost use Rattle.hal_person.specs.Clues.{begin_clue, buffer_for, clue_of, frame_
 use hal_model::{Breach, HalEvent, HalTarget, Rule};
 
 /// An event of the session.
-#[derive(Clone, Copy, Debug, PartialEq, Eq)]
+#[derive(Clone, Copy)]
 pub enum SessionClue {
     InitBegin,
     TemplateBegin,
@@ -32,7 +32,7 @@ pub enum SessionClue {
 }
 
 /// Which buffers that come back are meant.
-#[derive(Clone, Copy, Debug, PartialEq, Eq)]
+#[derive(Clone, Copy)]
 pub enum Which {
     Any,
     Ok,
@@ -40,7 +40,7 @@ pub enum Which {
 }
 
 /// An event that stands since a request was begun, and speaks of it, or of one with a number above its.
-#[derive(Clone, Copy, Debug, PartialEq, Eq)]
+#[derive(Clone, Copy)]
 pub enum FrameClue {
     Shutter,
     RequestError,
@@ -67,7 +67,7 @@ pub enum FrameClue {
 }
 
 /// What is looked for before an event: the newest event of its kind, in the session or since the request's begin.
-#[derive(Clone, Copy, Debug, PartialEq, Eq)]
+#[derive(Clone, Copy)]
 pub enum Clue {
     Session(SessionClue),
     Frame(u32, FrameClue),

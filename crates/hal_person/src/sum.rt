@@ -136,6 +136,15 @@ fn write_names(out: &mut String, rules: &[Rule]) -> Result<(), NoMemory>
     }
 }
 
+/// Writes the names of the rules of breaches.
+fn write_rules(alloc: Global, out: &mut String, breaches: &[Breach]) -> Result<(), NoMemory>
+    ensures { OnOk result
+        (string_bytes out.new ≡ string_bytes out.old ++ names_text (rules_behind [] breaches.now)) }
+{
+    let rules = rules_of(alloc, breaches)?;
+    write_names(out, rules.as_slice())
+}
+
 /// Writes how many of a side's rules' breaches there are, and the names of the rules.
 #[tactic(auto, unfolding(crate::specs::Sum::side_sum))]
 fn write_side(
@@ -150,11 +159,24 @@ fn write_side(
     if breaches.is_empty() {
         return write!(out, "none by the {bound}");
     }
-    let rules = rules_of(alloc, breaches)?;
     write_counted(out, breaches.len(), "breach", "breaches")?;
     write!(out, " by the {bound} (")?;
-    write_names(out, rules.as_slice())?;
+    write_rules(alloc, out, breaches)?;
     out.push_str(")")
+}
+
+/// Writes the same of those of the breaches whose rule binds the side.
+fn write_bound(
+    alloc: Global,
+    out: &mut String,
+    side: Side,
+    breaches: &[Breach],
+) -> Result<(), NoMemory>
+    ensures { OnOk result
+        (string_bytes out.new ≡ string_bytes out.old ++ side_sum side (by_side side breaches.now)) }
+{
+    let bound = by_side(alloc, side, breaches)?;
+    write_side(alloc, out, side, bound.as_slice())
 }
 
 /// Writes whose the first breach is.
@@ -176,12 +198,9 @@ fn write_sides(
 ) -> Result<(), NoMemory>
     ensures { OnOk result (string_bytes out.new ≡ string_bytes out.old ++ sides_sum side breaches.now) }
 {
-    let other = other_side(side);
-    let own = by_side(alloc, side, breaches)?;
-    let others = by_side(alloc, other, breaches)?;
-    write_side(alloc, out, side, own.as_slice())?;
+    write_bound(alloc, out, side, breaches)?;
     out.push_str(", ")?;
-    write_side(alloc, out, other, others.as_slice())?;
+    write_bound(alloc, out, other_side(side), breaches)?;
     write_first(out, side)
 }
 

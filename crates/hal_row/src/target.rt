@@ -2,7 +2,7 @@
 ghost use Rattle.std.specs.Prelude.{◌≡◌, ◌∷◌, ◌<◌, length, map, IfOk, OnOk};
 ghost use Rattle.hal_model.specs.Words.{numbers};
 ghost use Rattle.hal_rows.specs.Row.{fresh_part, fresh_target, note_notice, note_part, note_target, with_number, has_number};
-ghost use Rattle.hal_row.specs.Given.{buffers_of, is_entries, notice_in, part_in, with_buffers, with_part};
+ghost use Rattle.hal_row.specs.Given.{buffers_of, notice_in, part_in, with_buffers, with_part};
 
 use crate::buffer::{
     is_back, is_back_failed, is_back_filled, is_back_good, is_back_orderly, is_back_other,
@@ -133,13 +133,6 @@ pub(crate) fn fresh_parts(alloc: Global, parts: u32) -> Result<Listing<PartRow>,
     Ok(rows)
 }
 
-/// Whether the metadata has entries.
-fn is_entries(pack: Pack) -> bool
-    ensures { result ≡ is_entries pack }
-{
-    matches!(pack, Pack::Entries)
-}
-
 fn with_part(number: u32, row: &PartRow) -> PartRow
     ensures { result ≡ with_part number row.now }
 {
@@ -172,15 +165,9 @@ fn part_in(frame: u32, event: &HalEvent) -> Option<u32>
         HalEvent::Results {
             frame: of,
             partial,
-            pack,
+            pack: Pack::Entries,
             ..
-        } => {
-            if *of == frame && is_entries(*pack) {
-                Some(*partial)
-            } else {
-                None
-            }
-        }
+        } if *of == frame => Some(*partial),
         _ => None,
     }
 }
@@ -207,7 +194,7 @@ pub(crate) fn note_parts(
 pub fn has_number(number: u32, numbers: &[u32]) -> bool
     ensures { result ≡ has_number number numbers.now }
 {
-    numbers.iter().any(|other| *other == number)
+    numbers.contains(&number)
 }
 
 /// The number before the others.

@@ -17,7 +17,7 @@ use Rattle.hal_rows.specs.declared.row.Row.{Row}
 use Rattle.hal_rows.specs.Row.{is_row_in_call, is_row_live, note_row, note_rows, rows_but}
 use Rattle.hal_table.specs.declared.held.Held.{Held}
 use Rattle.hal_table.specs.declared.index.Index.{Index}
-use Rattle.hal_table.specs.Index.{IsAdded, IsCalled, IsCounted, IsIndexed, IsKept, IsTaken, are_keyed, at_row, ends_call, gives_buffers, set_found, with_row, without_gone}
+use Rattle.hal_table.specs.Index.{IsAdded, IsCalled, IsCounted, IsCountedWith, IsIndexed, IsKept, IsTaken, are_keyed, at_row, ends_call, gives_buffers, set_found, with_row, without_gone}
 use Rattle.hal_table.proofs.Counted.{called_absent, called_noted, called_put, called_removed, counted_absent, counted_put, counted_removed, counted_same, counted_set}
 use Rattle.hal_table.proofs.Entries.{found_frame, found_set, keyed_removed, keyed_set, others_are, put_is}
 use Rattle.hal_table.proofs.Steps.{at_reads, own_reads}
@@ -54,6 +54,14 @@ given_counted f n es es' a b c is taken untaken added unadded counted = by (look
         let now : lookup (nat_eq n) es' ≡ Some (f r) = ap (lookup (nat_eq n)) same ∙ (found_set n n es r (f r) some ∙ rw (eq-eqb n n refl) refl) in
         rw same (counted_set n es r (f r) a b c some counted (taken r some) (added (f r) now))
 
+-- what the others hold, where what the request held is counted no more
+pub others_counted : (n : ℕ) (es : List (ℕ × Row)) (a b : Held) → ((r : Row) → lookup (nat_eq n) es ≡ Some r → IsTaken r.targets a b) → (lookup (nat_eq n) es ≡ None → b ≡ a) → IsCounted es a → IsCounted (remove_entry (nat_eq n) es) b
+others_counted n es a b taken untaken counted = by (lookup (nat_eq n) es) refl
+  where
+    by : (o : Option Row) → lookup (nat_eq n) es ≡ o → IsCounted (remove_entry (nat_eq n) es) b
+    by None none = rw (untaken none) (counted_absent n es a none counted)
+    by (Some r) some = counted_removed n es r a b some counted (taken r some)
+
 -- ---- an event in one row
 
 pub marked_kept : (k : ℕ) (fl : Bool) (e : HalEvent) (n : ℕ) (old new : Index) → IsKept old → (ends_call e ≡ true → frame_in e ≡ Some n) → new.rows.entries ≡ with_row (note_row k fl e) n old.rows.entries → new.rows.cap ≡ old.rows.cap → ((q : ℕ) → contains nat_cmp new.called q ≡ (if ends_call e && (n == q) then false else contains nat_cmp old.called q)) → IsCounted new.rows.entries new.held → IsKept new
@@ -83,12 +91,8 @@ dropped_kept n old new kept apart taken untaken left' is =
       keyed = rw entries (keyed_removed n old.rows.entries kept.keyed);
       room = ap (λ (z : LruCache ℕ Row). z.cap) is ∙ kept.room;
       called = rw entries (called_removed n old.rows.entries old.called new.called apart kept.called left');
-      counted = rw entries (by (lookup (nat_eq n) old.rows.entries) refl);
+      counted = rw entries (others_counted n old.rows.entries old.held new.held taken untaken kept.counted);
     }
-  where
-    by : (o : Option Row) → lookup (nat_eq n) old.rows.entries ≡ o → IsCounted (remove_entry (nat_eq n) old.rows.entries) new.held
-    by None none = rw (untaken none) (counted_absent n old.rows.entries old.held none kept.counted)
-    by (Some r) some = counted_removed n old.rows.entries r old.held new.held some kept.counted (taken r some)
 
 -- ---- the rows after an event
 
@@ -116,19 +120,15 @@ pub begun_values : (old : Index) (row : Row) (new : LruCache ℕ Row) → IsInde
 begun_values old row new indexed apart short is =
     ap values_of (put_entries_are old row new indexed short is) ∙ ap (λ (z : List Row). row ∷ z) (others_are row.frame old.rows.entries indexed.kept.keyed apart)
 
-pub begun_indexed : (old new : Index) (mid : Held) (row : Row) → IsIndexed old → IsDistinct nat_eq (keys_of old.rows.entries) → length old.rows.entries < 2 ^ 63 → is_row_live row ≡ true → is_row_in_call row ≡ true → ((r : Row) → lookup (nat_eq row.frame) old.rows.entries ≡ Some r → IsTaken r.targets old.held mid) → (lookup (nat_eq row.frame) old.rows.entries ≡ None → mid ≡ old.held) → IsAdded row.targets mid new.held → ((q : ℕ) → contains nat_cmp new.called q ≡ (if row.frame == q then true else contains nat_cmp old.called q)) → new.rows ≡ lru_cache (put_entries nat_eq old.rows row.frame row) old.rows.cap → IsIndexed new
-begun_indexed old new mid row indexed apart short live in-call taken untaken added entered is =
+pub begun_indexed : (old new : Index) (row : Row) → IsIndexed old → IsDistinct nat_eq (keys_of old.rows.entries) → length old.rows.entries < 2 ^ 63 → is_row_live row ≡ true → is_row_in_call row ≡ true → IsCountedWith row.frame row.targets old.rows.entries new.held → ((q : ℕ) → contains nat_cmp new.called q ≡ (if row.frame == q then true else contains nat_cmp old.called q)) → new.rows ≡ lru_cache (put_entries nat_eq old.rows row.frame row) old.rows.cap → IsIndexed new
+begun_indexed old new row indexed apart short live in-call held entered is =
     let entries = put_entries_are old row new.rows indexed short is in
     record {
       kept = record {
         keyed = rw (entries, eq-eqb row.frame row.frame refl) (keyed_removed row.frame old.rows.entries indexed.kept.keyed);
         room = ap (λ (z : LruCache ℕ Row). z.cap) is ∙ indexed.kept.room;
         called = rw entries (called_put row.frame row old.rows.entries old.called new.called apart in-call indexed.kept.called entered);
-        counted = rw entries (counted_put row.frame row (remove_entry (nat_eq row.frame) old.rows.entries) mid new.held (by (lookup (nat_eq row.frame) old.rows.entries) refl) added);
+        counted = rw entries (counted_put row.frame row (remove_entry (nat_eq row.frame) old.rows.entries) held.0 new.held held.1 held.2);
       };
       live = rw (begun_values old row new.rows indexed apart short is, live) (all-filtered is_row_live _ (values_of old.rows.entries) indexed.live);
     }
-  where
-    by : (o : Option Row) → lookup (nat_eq row.frame) old.rows.entries ≡ o → IsCounted (remove_entry (nat_eq row.frame) old.rows.entries) mid
-    by None none = rw (untaken none) (counted_absent row.frame old.rows.entries old.held none indexed.kept.counted)
-    by (Some r) some = counted_removed row.frame old.rows.entries r old.held mid some indexed.kept.counted (taken r some)

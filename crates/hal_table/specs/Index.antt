@@ -45,6 +45,11 @@ IsCounted entries held =
     ((b : ℕ) → count_in held.buffers.entries b ≡ held_by (is_holding b) (values_of entries))
     × ((s : ℕ) → count_in held.streams.entries s ≡ held_by (is_holding_for s) (values_of entries))
 
+-- the counts are those of these targets of request n, and of the rows of the others
+abbrev pub IsCountedWith : ℕ → List TargetRow → List (ℕ × Row) → Held → Type 0
+IsCountedWith n targets entries held =
+    (others : Held) × IsCounted (remove_entry (nat_eq n) entries) others × IsAdded targets others held
+
 -- the numbers are those of the requests in call
 abbrev pub IsCalled : List (ℕ × Row) → BTreeSet ℕ → Type 0
 IsCalled entries called =

@@ -13,7 +13,7 @@ ghost use Rattle.hal_rows.specs.Judged.{is_holding, is_holding_for};
 ghost use Rattle.hal_rows.specs.Row.{is_row_in_call, is_row_live, note_row, note_rows, rows_but};
 ghost use Rattle.hal_rows.specs.State.{settled};
 ghost use Rattle.hal_row.specs.Settled.{IsTopped, settled_of};
-ghost use Rattle.hal_table.specs.Index.{IsAdded, IsCounted, IsIndexed, IsKept, IsTaken, are_keyed, at_row, ends_call, gives_buffers, is_gone, is_touched, may_touch, with_row, without_gone};
+ghost use Rattle.hal_table.specs.Index.{IsAdded, IsCounted, IsCountedWith, IsIndexed, IsKept, IsTaken, are_keyed, at_row, ends_call, gives_buffers, is_gone, is_touched, may_touch, with_row, without_gone};
 
 use crate::held::{Held, add_targets, take_targets};
 use cam_types::NoMemory;
@@ -459,6 +459,20 @@ pub(crate) fn note_event(
 
 // ---- a request begins
 
+/// Counts what a request holds that begins, and enters its call. What the one of its number held goes.
+fn hold(row: &Row, index: &mut Index) -> Result<(), NoMemory>
+    ensures rows { index.new.rows ≡ index.old.rows }
+    ensures called { OnOk result ((n : ℕ) → contains nat_cmp index.new.called n
+        ≡ (if row.now.frame == n then true else contains nat_cmp index.old.called n)) }
+    ensures counted { IsCounted index.old.rows.entries index.old.held → OnOk result
+        (IsCountedWith row.now.frame row.now.targets index.old.rows.entries index.new.held) }
+{
+    take_of(row.frame, &index.rows, &mut index.held)?;
+    add_targets(&mut index.held, row.targets.as_slice())?;
+    enter_call(row.frame, &mut index.called)?;
+    Ok(())
+}
+
 /// Puts the row of a request that begins in place of the one of its number.
 pub(crate) fn begin_row(row: Row, index: &mut Index) -> Result<(), NoMemory>
     requires indexed { IsIndexed index.old }
@@ -470,10 +484,7 @@ pub(crate) fn begin_row(row: Row, index: &mut Index) -> Result<(), NoMemory>
     ensures room { index.new.rows.cap ≡ index.old.rows.cap }
 {
     let _valid = index.rows.len();
-    let frame = row.frame;
-    take_of(frame, &index.rows, &mut index.held)?;
-    add_targets(&mut index.held, row.targets.as_slice())?;
-    enter_call(frame, &mut index.called)?;
-    index.rows.put(frame, row)?;
+    hold(&row, index)?;
+    index.rows.put(row.frame, row)?;
     Ok(())
 }

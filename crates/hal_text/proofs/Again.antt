@@ -9,6 +9,7 @@ use Rattle.hal_model.specs.declared.event.HalEvent.TheVariants.{OpenBegin}
 use Rattle.hal_spelling.specs.Fits.{fits, has_begin, have_begins, is_count, is_typed, is_valid, is_well_made}
 use Rattle.hal_spelling.specs.Spelling.{event_line, event_words, first_words, text_of}
 use Rattle.hal_text.specs.declared.log.HalLog.{HalLog}
+use Rattle.hal_text.specs.Drafts.{longer}
 use Rattle.hal_lines.specs.Lines.{count_of, event_by_words}
 use Rattle.hal_text.specs.Meaning.{added, after, after_line, after_words, empty_log, log_from, log_of, said, text_limit}
 use Rattle.hal_lines.specs.Values.{◌>>=◌}
@@ -40,9 +41,6 @@ after-words : (n : ℕ) (log : HalLog) (e : HalEvent) → after_line n (Some log
 unfolding after_words
 after-words n log OpenBegin = refl
 after-words n log _ = refl
-
-abbrev longer : ℕ → HalLog → HalEvent → HalLog
-longer n log e = record log { events = log.events ++ e ∷ []; lines = log.lines ++ n ∷ [] }
 
 after-event : (n : ℕ) (log : HalLog) (e : HalEvent) → is_well_made e ≡ true → is_typed e ≡ true → has_begin log.events e ≡ true → after_line n (Some log) (event_words e) ≡ Ok (Some (longer n log e))
 after-event n log e h t b = after-words n log e ∙ rw (event-again e h t, b) refl

@@ -1,5 +1,5 @@
 -- What stands after some lines of a text.
-use Rattle.std.specs.Prelude.{ℕ, ◌==◌, Bool, true, ◌&&◌, List, length, nat_lt, Option, Some, None, [], IsTrue}
+use Rattle.std.specs.Prelude.{ℕ, ◌==◌, Bool, true, ◌&&◌, List, [], ◌∷◌, ◌++◌, length, nat_lt, Option, Some, None, IsTrue}
 use Rattle.hal_spelling.specs.Fits.{is_valid}
 use Rattle.hal_text.specs.Begun.{Knows}
 use Rattle.hal_text.specs.declared.begun.Begun.{Begun}
@@ -22,3 +22,7 @@ Stands log begun = IsTrue (is_sound log) × Knows begun (events_of log)
 -- it has fewer events than the number of the next line
 abbrev pub is_short : Option HalLog → ℕ → Bool
 is_short log line = nat_lt (length (events_of log)) line
+
+-- with one more event, on line n
+abbrev pub longer : ℕ → HalLog → HalEvent → HalLog
+longer n log e = record log { events = log.events ++ e ∷ []; lines = log.lines ++ n ∷ [] }

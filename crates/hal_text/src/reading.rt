@@ -1,12 +1,12 @@
 //! A hal log read from its text.
 
-ghost use Rattle.std.specs.Prelude.{◌≡◌, ◌<◌, ◌≤◌, ◌+◌, IfOk, IsTrue, length};
+ghost use Rattle.std.specs.Prelude.{◌≡◌, ◌<◌, ◌≤◌, ◌+◌, true, IfErr, IfOk, IsTrue, OnOk, length};
 ghost use Rattle.text_parts.specs.Words.{loose_words};
-ghost use Rattle.hal_spelling.specs.Fits.{is_valid, is_well_made};
+ghost use Rattle.hal_spelling.specs.Fits.{has_begin, is_valid, is_well_made};
 ghost use Rattle.hal_text.specs.Begun.{Knows};
-ghost use Rattle.hal_text.specs.Drafts.{Stands, is_short};
+ghost use Rattle.hal_text.specs.Drafts.{Stands, is_short, longer};
 ghost use Rattle.hal_text.specs.Meaning.{added, after, after_words, at_end, log_of};
-ghost use Rattle.hal_lines.specs.Reader.{GivesBy};
+ghost use Rattle.hal_lines.specs.Reader.{GivesBy, Refuses};
 ghost use Rattle.hal_text.specs.Reader.{Answers};
 
 use crate::begun::Begun;
@@ -29,6 +29,30 @@ pub struct Draft {
     pub ghost stands: { Stands log begun },
 }
 
+/// Puts an event behind those of a log. The log is of no use where there is an error.
+fn add_event(
+    log: &mut HalLog,
+    begun: &mut Begun,
+    line: u32,
+    event: HalEvent,
+) -> Result<(), LineRefused>
+    requires knows { Knows begun.old log.old.events }
+    requires few { length log.old.events < line }
+    requires same { length log.old.lines ≡ length log.old.events }
+    ensures begun { OnOk result (has_begin log.old.events event ≡ true) }
+    ensures log { OnOk result (log.new ≡ longer line log.old event) }
+    ensures knows { OnOk result (Knows begun.new log.new.events) }
+    ensures refused { IfErr result (λ why. Refuses why (added line log.old event)) }
+{
+    if !begun.has_begin(&event) {
+        return Err(LineRefused::Bad(Cause::BadLine));
+    }
+    begun.note(&event)?;
+    log.events.push(event)?;
+    log.lines.push(line)?;
+    Ok(())
+}
+
 /// A log with one more event.
 fn with_event(
     mut log: HalLog,
@@ -44,12 +68,7 @@ fn with_event(
     ensures value { GivesBy (λ d. d.log) result (added line log event) }
     ensures short { IfOk result (λ d. IsTrue (is_short d.log (line + 1))) }
 {
-    if !begun.has_begin(&event) {
-        return Err(LineRefused::Bad(Cause::BadLine));
-    }
-    begun.note(&event)?;
-    log.events.push(event)?;
-    log.lines.push(line)?;
+    add_event(&mut log, &mut begun, line, event)?;
     Ok(Draft {
         log: Some(log),
         begun,

@@ -1,5 +1,5 @@
 -- The streams that pass a test, one after the other.
-use Rattle.std.proofs.Common.{◌≡◌, ℕ, ◌==◌, ◌+◌, ◌-◌, ◌<◌, zero, suc, Bool, false, ◌&&◌, ◌||◌, not, List, [], ◌∷◌, Option, Some, None, refl, ◌∙◌, ap, arith, filter, find, inl, inr}
+use Rattle.std.proofs.Common.{◌≡◌, ℕ, ◌==◌, ◌+◌, ◌-◌, ◌<◌, ◌≤◌, zero, suc, Bool, false, ◌&&◌, ◌||◌, not, cond, List, [], ◌∷◌, Option, Some, None, refl, ◌∙◌, ap, arith, filter, find, inl, inr, length, subst, add-zero}
 use Rattle.std.specs.Prelude.{is_some, nat_le, nat_lt}
 use Rattle.std.specs.List.{list_all, list_any, range_with_len}
 use Rattle.std.proofs.lemmas.Bool.{cases_Bool, cases_order}
@@ -81,3 +81,20 @@ none_left p a (Some s) e = rw (left_next p a s e) refl
 pub any_in_range : (b a n : ℕ) → list_any (λ x. x == b) (range_with_len a n) ≡ (nat_le a b && nat_lt b (a + n))
 any_in_range b a zero = grind (arith, nat_tests)
 any_in_range b a (suc n) = let ih = any_in_range b (a + 1) n in grind (arith, nat_tests)
+
+-- how many of the numbers pass, with one more
+counted-next : (p : ℕ → Bool) (a n : ℕ) → length (filter p (range_with_len a (n + 1))) ≡ length (filter p (range_with_len a n)) + cond (p (a + n)) 1 0
+counted-next p a zero = elim (cases_Bool (p a)) [
+  | inl yes' ↦ rw (yes', add-zero) (rw yes' refl)
+  | inr no' ↦ rw (no', add-zero) (rw no' refl)
+]
+counted-next p a (suc n) = let ih = counted-next p (a + 1) n in elim (cases_Bool (p a)) [
+  | inl yes' ↦ rw yes' (grind (arith, ih))
+  | inr no' ↦ rw no' (grind (arith, ih))
+]
+
+pub counted-more : (p : ℕ → Bool) (a b : ℕ) → a ≤ b → length (filter p (range_with_len a (b + 1 - a))) ≡ length (filter p (range_with_len a (b - a))) + cond (p b) 1 0
+counted-more p a b h =
+    let more : b + 1 - a ≡ (b - a) + 1 = omega arith in
+    let last : a + (b - a) ≡ b = omega arith in
+    rw more (subst (λ k. length (filter p (range_with_len a (b - a + 1))) ≡ length (filter p (range_with_len a (b - a))) + cond (p k) 1 0) last (counted-next p a (b - a)))

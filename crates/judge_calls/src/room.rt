@@ -82,10 +82,13 @@ fn count_at_device(entries: &[Entry], made: Made) -> usize
         length (filter (λ b. is_at (place b (reverse entries.now)) Device) (range_with_len made.first.0 made.count)) }
 {
     let first = u64::from(made.first.0);
-    let end = first + u64::from(made.count);
-    (first..end)
-        .filter(|number| is_at_device(entries, *number))
-        .count()
+    let mut count = 0;
+    for number in first..first + u64::from(made.count) {
+        if is_at_device(entries, number) {
+            count += 1;
+        }
+    }
+    count
 }
 
 /// How many buffers of the stream are at the device.

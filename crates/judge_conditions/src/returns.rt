@@ -20,7 +20,7 @@ use rule_conditions::Condition;
 use trace_model::Entry;
 
 /// A buffer that comes back, as its entry says: for a frame and a stream.
-#[derive(Clone, Copy, Debug, PartialEq, Eq)]
+#[derive(Clone, Copy)]
 pub struct Return {
     pub frame: FrameNo,
     pub stream: StreamIx,

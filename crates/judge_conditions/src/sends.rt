@@ -21,7 +21,7 @@ use rule_conditions::Condition;
 use trace_model::{Entry, Sent};
 
 /// A send, as its entry says.
-#[derive(Clone, Copy, Debug, PartialEq, Eq)]
+#[derive(Clone, Copy)]
 pub struct Sending {
     pub frame: FrameNo,
     pub request: RequestId,

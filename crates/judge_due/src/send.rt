@@ -101,7 +101,6 @@ fn takes_where_there(tables: &JudgeTables, target: Option<Sent>) -> bool
 }
 
 /// Whether each target takes its buffer from the pool.
-#[tactic(auto, using(judge_entries::proofs::General::four_all))]
 fn all_take(tables: &JudgeTables, targets: Four<Sent>) -> bool
     ensures { result ≡ list_all (takes_in tables.now.state) (four_list targets) }
 {

@@ -71,7 +71,6 @@ fn is_pending_at(target: Option<OpenTarget>, fence: DeviceFenceNo) -> bool
 }
 
 /// Whether a buffer waits for the device fence.
-#[tactic(auto, using(crate::proofs::TargetLemmas::any_four))]
 pub(crate) fn has_pending(targets: &Four<OpenTarget>, fence: DeviceFenceNo) -> bool
     ensures { result ≡ list_any (is_pending fence.0) (as_targets targets.now) }
 {
@@ -116,7 +115,6 @@ fn note_target_at(entry: &Entry, frame: FrameNo, target: Option<OpenTarget>) -> 
 }
 
 /// The buffers after an entry.
-#[tactic(auto, using(crate::proofs::TargetLemmas::all_four, crate::proofs::TargetLemmas::targets_four))]
 pub(crate) fn note_targets(
     entry: &Entry,
     frame: FrameNo,
@@ -197,7 +195,6 @@ fn is_back_after(entry: &Entry, frame: FrameNo, target: Option<OpenTarget>) -> b
 }
 
 /// Whether the device is done with each buffer after the entry.
-#[tactic(auto, using(crate::proofs::TargetLemmas::back_four))]
 pub(crate) fn are_back_after(entry: &Entry, frame: FrameNo, targets: &Four<OpenTarget>) -> bool
     ensures { result ≡ list_all (λ s. s.settled) (map (target_after frame.0 entry.now) (as_targets targets.now)) }
 {

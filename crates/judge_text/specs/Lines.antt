@@ -1,10 +1,10 @@
 use Rattle.std.specs.Prelude.{ℕ, List, [], ◌∷◌, ◌++◌, codes, decimal}
-use Rattle.trace_check.specs.declared.verdict.MissingPart.{MissingPart}
-use Rattle.trace_check.specs.declared.verdict.MissingPart.TheVariants.{Calls, Open, Queued, Pool, Signal}
-use Rattle.trace_check.specs.declared.verdict.RuleName.{RuleName}
-use Rattle.trace_check.specs.declared.verdict.RuleName.TheVariants.{D9, D10, D11, D12, D13, D14, D15}
-use Rattle.trace_check.specs.declared.verdict.Verdict.{Verdict}
-use Rattle.trace_check.specs.declared.verdict.Verdict.TheVariants.{Legal, IllegalAt, Incomplete}
+use Rattle.trace_model.specs.declared.verdict.MissingPart.{MissingPart}
+use Rattle.trace_model.specs.declared.verdict.MissingPart.TheVariants.{Calls, Open, Queued, Pool, Signal}
+use Rattle.trace_model.specs.declared.verdict.RuleName.{RuleName}
+use Rattle.trace_model.specs.declared.verdict.RuleName.TheVariants.{D9, D10, D11, D12, D13, D14, D15}
+use Rattle.trace_model.specs.declared.verdict.Verdict.{Verdict}
+use Rattle.trace_model.specs.declared.verdict.Verdict.TheVariants.{Legal, IllegalAt, Incomplete}
 
 -- The judge's lines. (docs/FORMATS.md)
 

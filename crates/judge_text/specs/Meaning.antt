@@ -4,8 +4,8 @@ use Rattle.text_parts.specs.Causes.{number_of}
 use Rattle.script_text.specs.Grammar.{script_of}
 use Rattle.text_parts.specs.declared.cause.TextRefused.{TextRefused}
 use Rattle.text_parts.specs.declared.cause.TextRefused.TheVariants.{Bad, NoMemory}
-use Rattle.trace_check.specs.Verdict.{IsVerdict}
-use Rattle.trace_check.specs.declared.verdict.Verdict.{Verdict}
+use Rattle.trace_model.specs.Verdict.{IsVerdict}
+use Rattle.trace_model.specs.declared.verdict.Verdict.{Verdict}
 use Rattle.trace_model.specs.declared.entry.Entry.{Entry}
 use Rattle.trace_model.specs.declared.list.TraceList.{TraceList}
 use Rattle.trace_reader.specs.Causes.{number_of as trace_number_of}

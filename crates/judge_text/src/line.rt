@@ -4,7 +4,7 @@ ghost use Rattle.judge_text.specs.Lines.{line_and_cause, part_text, refused_scri
 
 use cam_types::NoMemory;
 use std::alloc::Global;
-use trace_check::{MissingPart, RuleName, Verdict};
+use trace_model::{MissingPart, RuleName, Verdict};
 
 fn rule_text(rule: RuleName) -> &'static str
     ensures { result.now ≡ rule_text rule }

@@ -255,7 +255,6 @@ fn is_header(bytes: &[u8]) -> bool
 }
 
 /// The entries that the bytes spell.
-#[tactic(auto, unfolding(crate::specs::Reading::list_of))]
 pub(crate) fn entries_from(alloc: Global, bytes: &[u8]) -> Result<Vec<Entry>, PackedRefused>
     ensures { AnswersPacked (λ entries. entries.items) result (list_of bytes.now) }
 {

@@ -141,7 +141,6 @@ fn put_data(out: &mut Vec<u8>, values: &Values) -> Result<(), NoMemory>
     put_filled(out, values, rounded(len))
 }
 
-#[tactic(auto, using(crate::proofs::Kept::area_front))]
 fn put_entries(out: &mut Vec<u8>, entries: &[Entry]) -> Result<(), NoMemory>
     requires { length (data_area entries.now) ≤ 4096 }
     ensures bytes { OnOk result (out.new.items ≡ out.old.items ++ entries_bytes 0 entries.now) }

@@ -18,8 +18,8 @@ use judge_text::{parts_of, profiles_agree, verdict_text};
 use run_model::a_complete_run_keeps_the_laws;
 use std::alloc::Global;
 use text_parts::TextRefused;
-use trace_check::{Verdict, check};
-use trace_model::TraceList;
+use trace_check::check;
+use trace_model::{TraceList, Verdict};
 use trace_reader::{TRACE_BYTES, TraceRefused};
 
 /// What `check` makes of its input.

@@ -31,6 +31,15 @@ home-at spec x y z hx hy hz (suc (suc (suc i))) l = absurd (omega arith)
 pub three-home : (spec : StreamSpec) (x y z : Option Place) → IsHomeWith spec x → IsHomeWith spec y → IsHomeWith spec z → AreHome spec (x ∷ y ∷ z ∷ [])
 three-home spec x y z hx hy hz = record { three = refl; each = home-at spec x y z hx hy hz }
 
+home-first : (plan : Plan) (p : Option Place) → IsHomeWith plan.input p → IsPlace plan None p
+home-first plan (Some (Home pixels)) room = room
+home-first plan (Some (Out ticket)) room = absurd room
+home-first plan None room = absurd room
+
+-- three buffers at home are where a run without lines has them
+pub first-places : (plan : Plan) (xs : List (Option Place)) → AreHome plan.input xs → ArePlaces plan [] xs
+first-places plan xs home = record { three = home.three; each = λ i low. home-first plan (get_or xs i None) (home.each i low) }
+
 -- ---- where a buffer is
 
 pub home-place : (plan : Plan) (o : Option ℕ) (p : Option Place) → o ≡ None → IsPlace plan o p → (is_home p ≡ true) × IsHomeWith plan.input p

@@ -1,8 +1,8 @@
 //! The device: a run with the pictures of its inputs and outputs.
-ghost use Rattle.std.specs.Prelude.{◌≡◌, ℕ, ◌<◌, [], IfOk, IsTrue, None, Some, length, reverse, slice_index_or};
+ghost use Rattle.std.specs.Prelude.{◌≡◌, ℕ, ◌<◌, ◌≤◌, [], IfOk, IsTrue, None, Some, length, reverse, slice_index_or, vec_capacity};
 ghost use Rattle.reprocess_model.specs.Due.{due};
 ghost use Rattle.reprocess_model.specs.Plan.{is_plan, is_yuv, requests};
-ghost use Rattle.reprocess_model.specs.Run.{IsRun, is_ready};
+ghost use Rattle.reprocess_model.specs.Run.{IsRun, is_ready, steps};
 ghost use Rattle.reprocess_core.specs.State.{with_line};
 ghost use Rattle.reprocess_core.specs.Device.{Steps};
 ghost use Rattle.reprocess_core.specs.Inputs.{AreHome, IsHomeWith};
@@ -90,6 +90,29 @@ fn make_blocks(alloc: Global) -> Result<Vec<OutputBlock>, NoMemory>
     Ok(blocks)
 }
 
+/// All steps of so many requests, and room for those that are ready.
+fn make_lists(alloc: Global, requests: u32) -> Result<(Vec<ReStepName>, Vec<ReStepName>), NoMemory>
+    ensures all { IfOk result (λ lists. lists.0.items ≡ steps requests) }
+    ensures room { IfOk result (λ lists. length lists.0.items ≤ vec_capacity lists.1) }
+{
+    let all = all_steps(alloc, requests)?;
+    let ready = Vec::with_capacity(alloc, all.len())?;
+    Ok((all, ready))
+}
+
+/// The memory of pictures: the sensor's readout, the output buffers and the digests of so many requests.
+fn make_pictures(
+    alloc: Global,
+    requests: u32,
+) -> Result<(Readout, Vec<OutputBlock>, OutputMemory), NoMemory>
+    ensures { IfOk result (λ made. length made.1.items ≡ 12) }
+{
+    let readout = Readout::new(alloc)?;
+    let blocks = make_blocks(alloc)?;
+    let memory = OutputMemory::with_room(alloc, requests)?;
+    Ok((readout, blocks, memory))
+}
+
 /// How many requests a plan has.
 fn request_count(plan: &Plan) -> u32
     requires { IsTrue (is_plan plan.now) }
@@ -113,11 +136,8 @@ impl Reprocess {
         ensures { IfOk result (λ device. device ≡ record { plan = plan; past = [] }) }
     {
         let requests = request_count(&plan);
-        let all = all_steps(alloc, requests)?;
-        let ready = Vec::with_capacity(alloc, all.len())?;
-        let readout = Readout::new(alloc)?;
-        let blocks = make_blocks(alloc)?;
-        let memory = OutputMemory::with_room(alloc, requests)?;
+        let (all, ready) = make_lists(alloc, requests)?;
+        let (readout, blocks, memory) = make_pictures(alloc, requests)?;
         let spec = plan.input;
         let course = Course::open(alloc, plan)?;
         let places = make_places(alloc, spec)?;

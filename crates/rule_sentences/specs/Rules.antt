@@ -1,6 +1,6 @@
 -- The rule that a condition is of: that of the entries that have to meet it (docs/CONTRACT.md, What each entry needs).
-use Rattle.trace_check.specs.declared.verdict.RuleName.{RuleName}
-use Rattle.trace_check.specs.declared.verdict.RuleName.TheVariants.{D9, D10, D11, D12, D13, D14, D15}
+use Rattle.trace_model.specs.declared.verdict.RuleName.{RuleName}
+use Rattle.trace_model.specs.declared.verdict.RuleName.TheVariants.{D9, D10, D11, D12, D13, D14, D15}
 use Rattle.rule_conditions.specs.declared.condition.Condition.{Condition}
 use Rattle.rule_conditions.specs.declared.condition.Condition.TheVariants.{SendNextNumber, SendNextItem, SendNothingStops, SendFromPool, SendFenceOfBuffer, SendStreamsOfItem, SendBelowDepth, SendBelowMaxBuffers, SendNothingHoldsBack, SendNotTooFarAhead, SendMark, DropSomethingStops, DropNextNumber, DropFirstOfQueue, ShutterOfSentFrame, ShutterOfFreshFrame, ShutterInOrder, ShutterNothingStops, ShutterWithoutDeviceFault, ShutterTime, PartialBehindShutter, PartialNextNumber, PartialOfFrame, PartialWithoutError, PartialWithoutRequestFault, LastPartWithoutResultFault, LastPartInOrder, DeliveryAtDevice, DeliveryBehindShutter, DeliveryWithoutFault, DeliveryWithoutError, DeliveryBehindFence, DeliveryInOrder, PictureOfFrame, EarlyInScript, EarlyNextFence, LateOfEarlyBuffer, LateToldOnce, LatePictureOfFrame, RequestErrorOfOpenFrame, RequestErrorOfBareFrame, RequestErrorHasCause, RequestErrorBehindShutter, ResultErrorBehindShutter, ResultErrorOfOpenMetadata, ResultErrorInOrder, ResultErrorHasCause, ResultErrorBehindSomething, BufferErrorOfTarget, BufferErrorBehindShutter, BufferErrorWithoutRequestError, BufferErrorToldOnce, BufferErrorOfMissingBuffer, BufferErrorHasCause, BufferErrorBehindSomething, PartErrorOfStoppedRequest, DeviceErrorNothingStops, DeviceErrorAtFault, FailedAtDevice, FailedBehindError, FailedFence, ReleaseAtClient, ReleaseBehindPicture, ReleaseNextFence, SignalBehindRelease, SignalToldOnce, BeginOfWaitingCommand, BeginWord, BeginToldOnce, CallNextIndex, CallWord, CallBehindBegin, CallReply, CallNoFrameOpen, CallQueueEmpty, CallAllInPool, CallAwaitedFrames}
 

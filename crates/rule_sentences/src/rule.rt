@@ -2,11 +2,11 @@
 ghost use Rattle.std.specs.Prelude.{◌≡◌, List, All};
 ghost use Rattle.rule_sentences.specs.Rules.{rule_of};
 ghost use Rattle.rule_conditions.specs.Conditions.{conditions_of};
-ghost use Rattle.trace_check.specs.Verdict.{rule_of as rule_of_entry};
+ghost use Rattle.trace_model.specs.Verdict.{rule_of as rule_of_entry};
 ghost use Rattle.trace_model.specs.declared.entry.Entry.{Entry as SomeEntry};
 
 use rule_conditions::Condition;
-use trace_check::RuleName;
+use trace_model::RuleName;
 
 /// The rule that the condition is of.
 pub fn rule_of(condition: Condition) -> RuleName

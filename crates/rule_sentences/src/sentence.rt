@@ -3,7 +3,7 @@ ghost use Rattle.std.specs.Prelude.{◌≡◌};
 ghost use Rattle.rule_sentences.specs.Sentences.{heading_of, section_of, sentence_of};
 
 use rule_conditions::Condition;
-use trace_check::RuleName;
+use trace_model::RuleName;
 
 /// The sentence of a condition, without its full stop. It is the condition's cell in docs/CONTRACT.md.
 #[tactic(auto, unfolding(crate::specs::Sentences::sentence_of))]

@@ -17,3 +17,4 @@ pub mod Exposing
 pub mod Rooms
 pub mod Planning
 pub mod Readiness
+pub mod Opening

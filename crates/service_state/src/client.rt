@@ -22,7 +22,7 @@ ghost use Rattle.request_checks.specs.Plan.{plan_of};
 ghost use Rattle.trace_model.specs.Configuration.{streams_of};
 ghost use Rattle.trace_model.specs.Entry.{is_stop_word};
 
-use crate::state::ServiceState;
+use crate::state::{ServiceState, is_quiet};
 use buffer_manager::BufferManager;
 use buffer_pool::Fences;
 use cam_types::{Command, Profile, Reply, Script, SpecList, Word};
@@ -105,7 +105,7 @@ impl ServiceState {
         ensures next { result.next_buffer ≡ self.now.parts.buffers.first + length self.now.parts.buffers.places }
     {
         Around {
-            quiet: self.device.len() == 0,
+            quiet: is_quiet(&self.device),
             waiting: self.captures.waiting(),
             is_repeating: self.captures.is_repeating(),
             requests: self.captures.requests(),

@@ -62,7 +62,7 @@ impl ServiceState {
 }
 
 /// Whether no frame is open.
-fn is_quiet(device: &Device) -> bool
+pub(crate) fn is_quiet(device: &Device) -> bool
     ensures { result ≡ is_no_row device.now.rows }
 {
     device.len() == 0

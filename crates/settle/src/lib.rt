@@ -16,4 +16,5 @@ pub use laws::{
     empty_hands_have_all_jobs_where_none_is_out, sends_go_first, the_picks_make_one_run,
 };
 pub use runs::{close, finish, play, settle};
+pub use service_core::Service;
 pub use stepping::{Stepped, pick_step, step_at};

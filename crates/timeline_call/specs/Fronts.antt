@@ -1,8 +1,8 @@
 -- The text of a trace that was judged.
 use Rattle.std.specs.Prelude.{ℕ, List, Option, None, reverse, slice_get, take}
 use Rattle.cam_types.specs.declared.script.Script.{Script}
-use Rattle.trace_check.specs.declared.verdict.Verdict.{Verdict}
-use Rattle.trace_check.specs.declared.verdict.Verdict.TheVariants.{IllegalAt}
+use Rattle.trace_model.specs.declared.verdict.Verdict.{Verdict}
+use Rattle.trace_model.specs.declared.verdict.Verdict.TheVariants.{IllegalAt}
 use Rattle.trace_model.specs.declared.entry.Entry.{Entry}
 use Rattle.timeline_model.specs.declared.chart.Chart.{Chart}
 use Rattle.timeline_model.specs.Charts.{chart_of}

@@ -5,12 +5,12 @@ use Rattle.rule_conditions.specs.Conditions.{first_failed}
 use Rattle.rule_conditions.specs.declared.condition.Condition.{Condition}
 use Rattle.rule_sentences.specs.Sentences.{sentence_of}
 use Rattle.trace_model.specs.declared.entry.Entry.{Entry}
-use Rattle.trace_check.specs.declared.verdict.MissingPart.{MissingPart}
-use Rattle.trace_check.specs.declared.verdict.MissingPart.TheVariants.{Calls, Open, Queued, Pool, Signal}
-use Rattle.trace_check.specs.declared.verdict.RuleName.{RuleName}
-use Rattle.trace_check.specs.declared.verdict.RuleName.TheVariants.{D9, D10, D11, D12, D13, D14, D15}
-use Rattle.trace_check.specs.declared.verdict.Verdict.{Verdict}
-use Rattle.trace_check.specs.declared.verdict.Verdict.TheVariants.{Legal, IllegalAt, Incomplete}
+use Rattle.trace_model.specs.declared.verdict.MissingPart.{MissingPart}
+use Rattle.trace_model.specs.declared.verdict.MissingPart.TheVariants.{Calls, Open, Queued, Pool, Signal}
+use Rattle.trace_model.specs.declared.verdict.RuleName.{RuleName}
+use Rattle.trace_model.specs.declared.verdict.RuleName.TheVariants.{D9, D10, D11, D12, D13, D14, D15}
+use Rattle.trace_model.specs.declared.verdict.Verdict.{Verdict}
+use Rattle.trace_model.specs.declared.verdict.Verdict.TheVariants.{Legal, IllegalAt, Incomplete}
 
 -- the rule that an entry breaks
 abbrev pub rule_note : RuleName → List ℕ

@@ -13,9 +13,9 @@ use Rattle.text_parts.specs.Causes.{number_of}
 use Rattle.text_parts.specs.declared.cause.TextRefused.{TextRefused}
 use Rattle.text_parts.specs.declared.cause.TextRefused.TheVariants.{Bad, NoMemory}
 use Rattle.script_text.specs.Grammar.{script_of}
-use Rattle.trace_check.specs.Verdict.{IsVerdict}
-use Rattle.trace_check.specs.declared.verdict.Verdict.{Verdict}
-use Rattle.trace_check.specs.declared.verdict.Verdict.TheVariants.{Legal}
+use Rattle.trace_model.specs.Verdict.{IsVerdict}
+use Rattle.trace_model.specs.declared.verdict.Verdict.{Verdict}
+use Rattle.trace_model.specs.declared.verdict.Verdict.TheVariants.{Legal}
 use Rattle.trace_model.specs.declared.list.TraceList.{TraceList}
 use Rattle.trace_model.specs.Complete.{IsComplete}
 use Rattle.trace_reader.specs.Causes.{number_of as trace_number_of}

@@ -6,7 +6,7 @@ ghost use Rattle.trace_reader.specs.Grammar.{trace_of};
 ghost use Rattle.judge_text.specs.Lines.{verdict_status};
 ghost use Rattle.call_parts.specs.Answers.{AnswersWithMemory, OnDone, Tells, TellsBy};
 ghost use Rattle.call_parts.specs.Ends.{KeepsEnds};
-ghost use Rattle.trace_check.specs.Verdict.{IsVerdict};
+ghost use Rattle.trace_model.specs.Verdict.{IsVerdict};
 ghost use Rattle.timeline_call.specs.Fronts.{text_of};
 ghost use Rattle.timeline_call.specs.Shown.{IsShown, Shows, ShowsBoth, ShowsTrace, ShowsWhole};
 ghost use Rattle.call_parts.specs.Status.{status_number};
@@ -24,8 +24,8 @@ use io_edge::{Sink, Source};
 use judge_text::{parts_of, profiles_agree};
 use std::alloc::Global;
 use text_parts::TextRefused;
-use trace_check::{Verdict, check};
-use trace_model::TraceList;
+use trace_check::check;
+use trace_model::{TraceList, Verdict};
 use trace_reader::{TRACE_BYTES, TraceRefused, read_is_spelled};
 
 /// What `timeline` makes of its input.

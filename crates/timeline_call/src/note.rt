@@ -7,8 +7,7 @@ use cam_types::{NoMemory, Script};
 use judge_conditions::first_failed;
 use rule_sentences::sentence_of;
 use std::alloc::Global;
-use trace_check::{MissingPart, RuleName, Verdict};
-use trace_model::Entry;
+use trace_model::{Entry, MissingPart, RuleName, Verdict};
 
 /// The rule that an entry breaks.
 fn rule_note(rule: RuleName) -> &'static str

@@ -1,7 +1,7 @@
 //! The text of a trace that was judged.
 ghost use Rattle.std.specs.Prelude.{◌≡◌, ◌<◌, ◌^◌, IfOk, length, true};
 ghost use Rattle.std.specs.List.{list_all};
-ghost use Rattle.trace_check.specs.Verdict.{IsVerdict};
+ghost use Rattle.trace_model.specs.Verdict.{IsVerdict};
 ghost use Rattle.trace_model.specs.Printable.{is_printable};
 ghost use Rattle.timeline_call.specs.Fronts.{fault_in, front, text_of};
 
@@ -10,8 +10,7 @@ use crate::note::note_text;
 use cam_types::{NoMemory, Script};
 use std::alloc::Global;
 use timeline_model::{chart_of, timeline_of};
-use trace_check::Verdict;
-use trace_model::Entry;
+use trace_model::{Entry, Verdict};
 
 /// The entries before the one that isn't allowed, or all.
 fn front(entries: &[Entry], verdict: Verdict) -> &[Entry]

@@ -1,5 +1,6 @@
 -- The parts of the text make up the text of the whole.
-use Rattle.std.proofs.Common.{◌≡◌, ℕ, true, List, [], ◌∷◌, ◌++◌, append_assoc, refl, sym, ap, ◌∙◌, codes, map, Option, Some, None}
+use Rattle.std.proofs.Common.{◌≡◌, ℕ, ◌+◌, ◌<◌, true, List, [], ◌∷◌, ◌++◌, append_assoc, refl, sym, ap, ◌∙◌, codes, get_or, length, map, take, Option, Some, None}
+use Rattle.std.proofs.lemmas.List.{flat_map_more, map_more, take_more}
 use Rattle.std.specs.List.{flat_map}
 use Rattle.serde_json.specs.Data.{Data}
 use Rattle.serde_json.specs.Written.{compact_text, items_text}
@@ -77,3 +78,13 @@ whole c =
     let ending : (items_text true (items_of events)) ++ 125 ∷ [] ≡ rest_text c = ap (λ (l : List ℕ). l ++ 125 ∷ []) (items events) ∙ (append_assoc (behind_commas events) (93 ∷ []) (125 ∷ []) ∙ more c) in
     let behind = append_assoc (compact_text camera_data) (items_text true (items_of events)) (125 ∷ []) ∙ ap (λ (l : List ℕ). compact_text camera_data ++ l) ending in
     joined (codes "{\"otherData\":") (compact_text (verdict_data (flat_map note_line c.notes))) (codes ",\"traceEvents\":[") (compact_text camera_data) (items_text true (items_of events)) (rest_text c) behind
+
+-- one item more is written
+pub one-more : {X : Type 0} (text_of : X → List ℕ) (text : List ℕ) (xs : List X) (i : ℕ) (d : X) → i < length xs → (text ++ flat_map text_of (take i xs)) ++ text_of (get_or xs i d) ≡ text ++ flat_map text_of (take (i + 1) xs)
+one-more text_of text xs i d less =
+    flat_map_more text_of text (take i xs) (get_or xs i d) ∙ ap (λ ys. text ++ flat_map text_of ys) (sym (take_more xs i d less))
+
+-- and one that stands for another
+pub one-more-of : {X Y : Type 0} (text_of : Y → List ℕ) (f : X → Y) (text : List ℕ) (xs : List X) (i : ℕ) (d : X) → i < length xs → (text ++ flat_map text_of (map f (take i xs))) ++ text_of (f (get_or xs i d)) ≡ text ++ flat_map text_of (map f (take (i + 1) xs))
+one-more-of text_of f text xs i d less =
+    flat_map_more text_of text (map f (take i xs)) (f (get_or xs i d)) ∙ ap (λ ys. text ++ flat_map text_of ys) (sym (map_more f xs i d less))

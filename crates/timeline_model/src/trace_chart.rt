@@ -1,5 +1,5 @@
 //! A timeline as a chart: the looks of its entries, their lines, and what is drawn of each.
-ghost use Rattle.std.specs.Prelude.{◌≡◌, ◌++◌, ◌∷◌, [], IfOk, IfSome, IsTrue, OnOk, map};
+ghost use Rattle.std.specs.Prelude.{◌≡◌, ◌++◌, ◌∷◌, [], IfOk, IfSome, IsTrue, OnOk, length, map};
 ghost use Rattle.std.specs.List.{list_all};
 ghost use Rattle.std.specs.Option.{option_map};
 ghost use Rattle.trace_model.specs.Printable.{is_printable};
@@ -124,6 +124,20 @@ fn group_of(alloc: Global, printer: &mut Printer, drawn: &Drawn) -> Result<Group
     })
 }
 
+/// Adds what is drawn of an entry.
+fn put_group(
+    alloc: Global,
+    printer: &mut Printer,
+    drawn: &Drawn,
+    groups: &mut Series<Group>,
+) -> Result<(), NoMemory>
+    requires { IsTrue (is_printable drawn.now.entry) }
+    ensures { OnOk result (groups.new ≡ groups.old ++ group_of drawn.now ∷ []) }
+{
+    let group = group_of(alloc, printer, drawn)?;
+    groups.push(group)
+}
+
 /// What is drawn of each entry.
 fn all_groups(
     alloc: Global,
@@ -135,7 +149,7 @@ fn all_groups(
 {
     let mut groups = Series::new(alloc);
     for one in drawn {
-        groups.push(group_of(alloc, printer, one)?)?;
+        put_group(alloc, printer, one, &mut groups)?;
     }
     Ok(groups)
 }
@@ -237,6 +251,39 @@ fn notes_of(alloc: Global, note: &[u8]) -> Result<Series<Series<u8>>, NoMemory>
     Ok(notes)
 }
 
+/// What is drawn of each entry, and of the one behind them that isn't allowed.
+fn groups_of(
+    alloc: Global,
+    timeline: &Timeline,
+    fault: Option<Entry>,
+) -> Result<(Series<Group>, Option<Group>), NoMemory>
+    requires drawn { IsTrue (list_all (λ one. is_printable one.entry) timeline.now.drawn) }
+    requires fault { IfSome fault (λ entry. IsTrue (is_printable entry)) }
+    ensures groups { IfOk result (λ drawn. drawn.0 ≡ map group_of timeline.now.drawn) }
+    ensures fault { IfOk result (λ drawn. drawn.1 ≡ option_map (fault_of (length timeline.now.drawn)) fault) }
+{
+    let mut printer = Printer::new(alloc, None)?;
+    let groups = all_groups(alloc, &mut printer, timeline.drawn.as_slice())?;
+    let fault = fault_in(alloc, &mut printer, timeline.drawn.len(), fault)?;
+    Ok((groups, fault))
+}
+
+/// What stands around the groups: the lanes, the bars of the buffers that aren't done, and the note.
+fn around(
+    alloc: Global,
+    timeline: &Timeline,
+    note: &[u8],
+) -> Result<(Series<Lane>, Series<Piece>, Series<Series<u8>>), NoMemory>
+    ensures lanes { IfOk result (λ drawn. drawn.0 ≡ lanes_of timeline.now.streams) }
+    ensures unfinished { IfOk result (λ drawn. drawn.1 ≡ map unfinished_of timeline.now.unfinished) }
+    ensures notes { IfOk result (λ drawn. drawn.2 ≡ note.now ∷ []) }
+{
+    let lanes = lanes_of(alloc, timeline.streams)?;
+    let unfinished = all_unfinished(alloc, timeline.unfinished.as_slice())?;
+    let notes = notes_of(alloc, note)?;
+    Ok((lanes, unfinished, notes))
+}
+
 /// The chart of a timeline, with the entry behind it that isn't allowed, if there is one, and with a note under it.
 pub fn chart_of(
     alloc: Global,
@@ -248,16 +295,16 @@ pub fn chart_of(
     requires fault { IfSome fault (λ entry. IsTrue (is_printable entry)) }
     ensures { IfOk result (λ chart. chart ≡ chart_of timeline.now fault note.now) }
 {
-    let mut printer = Printer::new(alloc, None)?;
-    let count = timeline.drawn.len();
+    let (groups, fault) = groups_of(alloc, timeline, fault)?;
+    let (lanes, unfinished, notes) = around(alloc, timeline, note)?;
     Ok(Chart {
         kind: Kind::Trace,
         rows: timeline.depth.min(16) as u8,
-        lanes: lanes_of(alloc, timeline.streams)?,
-        count,
-        groups: all_groups(alloc, &mut printer, timeline.drawn.as_slice())?,
-        unfinished: all_unfinished(alloc, timeline.unfinished.as_slice())?,
-        fault: fault_in(alloc, &mut printer, count, fault)?,
-        notes: notes_of(alloc, note)?,
+        lanes,
+        count: timeline.drawn.len(),
+        groups,
+        unfinished,
+        fault,
+        notes,
     })
 }

@@ -1,8 +1,8 @@
 -- What an accepted call of a legal past says of the command that it answers: the streams of an accepted configuration are
 -- offered, and the settings of an accepted request are in their range.
-use Rattle.std.proofs.Common.{◌≡◌, ℕ, zero, suc, ◌==◌, ◌+◌, Bool, true, false, ◌&&◌, not, List, [], ◌∷◌, Option, Some, None, refl, sym, ap, ◌∙◌, arith, find, nat_lt, length, slice_get, count_by, take, is_some, if◌then◌else◌, ◌≤◌, subst}
+use Rattle.std.proofs.Common.{◌≡◌, ℕ, zero, suc, ◌==◌, ◌+◌, Bool, true, false, ◌&&◌, not, List, [], ◌∷◌, Option, Some, None, refl, sym, ap, ◌∙◌, arith, find, nat_lt, length, slice_get, count_by, take, if◌then◌else◌, ◌≤◌, subst}
 use Rattle.std.specs.List.{list_any, position_from}
-use Rattle.std.proofs.lemmas.Bool.{cases_Bool, false≢true}
+use Rattle.std.proofs.lemmas.Bool.{false≢true}
 use Rattle.std.proofs.lemmas.Bool.Decides.{nat_tests}
 use Rattle.cam_types.specs.Metadata.{range_fault}
 use Rattle.cam_types.specs.Picture.{is_offered, is_size_of}

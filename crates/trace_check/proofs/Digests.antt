@@ -1,6 +1,5 @@
 -- What a frame's digest is drawn from: a stream that isn't there has none, and settings of zeros give the dark picture.
-use Rattle.std.proofs.Common.{◌≡◌, ℕ, ◌*◌, ◌/◌, ◌%◌, List, [], ◌∷◌, refl, sym, ap, ◌∙◌, map, Some, slice_get}
-use Rattle.std.specs.List.{range_with_len}
+use Rattle.std.proofs.Common.{◌≡◌, ℕ, List, sym, ap, ◌∙◌, Some, slice_get}
 use Rattle.cam_types.specs.Picture.{picture}
 use Rattle.cam_types.specs.declared.item.Settings.{Settings}
 use Rattle.cam_types.specs.declared.stream.StreamSpec.{StreamSpec}
@@ -9,7 +8,7 @@ use Rattle.cam_types.specs.declared.script.Script.{Script}
 use Rattle.trace_model.specs.declared.entry.Entry.{Entry}
 use Rattle.trace_model.specs.Configuration.{streams}
 use Rattle.trace_model.specs.Frames.{settings_of}
-use Rattle.trace_model.specs.Picture.{digest, digest_of, digest_on}
+use Rattle.trace_model.specs.Picture.{digest_of, digest_on}
 use Rattle.judge_due.proofs.Dark.{digest-picture}
 
 abbrev pub dark : Settings

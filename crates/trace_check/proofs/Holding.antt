@@ -1,11 +1,10 @@
 -- What the state of a legal past gives to the tables that hold it.
-use Rattle.std.proofs.Common.{◌≡◌, ◌↔◌, ◌∙◌, ◌<◌, ◌≤◌, ◌^◌, ℕ, zero, suc, ◌+◌, ◌==◌, Bool, true, false, ◌&&◌, ◌||◌, not, List, [], ◌∷◌, Option, Some, None, IsTrue, refl, sym, ap, subst, arith, length, map, filter, nat_lt, reverse, take, slice_get, if◌then◌else◌, inl, inr, add-one, get_or, take-suc, ◌++◌}
-use Rattle.std.specs.Prelude.{IsSome, is_none}
+use Rattle.std.proofs.Common.{◌≡◌, ◌↔◌, ◌∙◌, ◌<◌, ◌≤◌, ◌^◌, ℕ, suc, ◌+◌, ◌==◌, Bool, true, false, ◌&&◌, List, [], ◌∷◌, Option, Some, None, IsTrue, refl, sym, ap, subst, arith, length, map, slice_get, if◌then◌else◌, inl, inr}
+use Rattle.std.specs.Prelude.{IsSome}
 use Rattle.std.specs.List.{list_all}
 use Rattle.std.proofs.lemmas.Bool.{and_parts, cases_Bool, false≢true}
 use Rattle.std.proofs.lemmas.Bool.Decides.{nat_tests}
 use Rattle.basic_lemmas.proofs.Lists.{all-always, all-filtered, all-mapped}
-use Rattle.std.proofs.lemmas.List.{reverse-append}
 use Rattle.cam_types.specs.declared.number.BufferId.{BufferId}
 use Rattle.cam_types.specs.declared.number.DeviceFenceNo.{DeviceFenceNo}
 use Rattle.cam_types.specs.declared.number.FrameNo.{FrameNo}
@@ -53,7 +52,7 @@ use Rattle.judge_rows.specs.Views.{are_free, is_free, is_none_given}
 use Rattle.judge_rows.specs.Judged.{CanCapture, CanNote, CanTakeAt, Judged, TakesOne}
 use Rattle.judge_due.specs.Drawing.{CanDraw, is_drawable}
 use Rattle.trace_check.specs.Held.{held, missing_in}
-use Rattle.trace_check.specs.Verdict.{first_missing}
+use Rattle.trace_model.specs.Verdict.{first_missing}
 use Rattle.trace_check.proofs.Accepted.{answered, few-streams, frame-in-range, streams-offered}
 
 -- ---- pictures

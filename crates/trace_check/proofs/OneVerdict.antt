@@ -7,10 +7,10 @@ use Rattle.trace_model.specs.declared.entry.Entry.{Entry}
 use Rattle.trace_model.specs.Allowed.{IsAllowed}
 use Rattle.trace_model.specs.Complete.{IsComplete}
 use Rattle.trace_model.specs.Legal.{IsLegal}
-use Rattle.trace_check.specs.declared.verdict.RuleName.{RuleName}
-use Rattle.trace_check.specs.declared.verdict.Verdict.{Verdict}
-use Rattle.trace_check.specs.declared.verdict.Verdict.TheVariants.{Legal, IllegalAt, Incomplete}
-use Rattle.trace_check.specs.Verdict.{IsIllegalAt, IsVerdict, first_missing, rule_of}
+use Rattle.trace_model.specs.declared.verdict.RuleName.{RuleName}
+use Rattle.trace_model.specs.declared.verdict.Verdict.{Verdict}
+use Rattle.trace_model.specs.declared.verdict.Verdict.TheVariants.{Legal, IllegalAt, Incomplete}
+use Rattle.trace_model.specs.Verdict.{IsIllegalAt, IsVerdict, first_missing, rule_of}
 use Rattle.trace_check.proofs.Prefixes.{allowed-at, get-of-take, take-of-take}
 
 pub nothing-missing : (script : Script) (past : List Entry) → IsComplete script past → first_missing script past ≡ None

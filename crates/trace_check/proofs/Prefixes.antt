@@ -1,19 +1,14 @@
 -- A list up to a place and from it on, and what a legal trace says of an entry over those before it.
-use Rattle.std.proofs.Common.{◌≡◌, ℕ, zero, suc, ◌<◌, List, [], ◌∷◌, ◌++◌, Some, refl, sym, ap, ◌∙◌, arith, reverse, take, drop, slice_get, subst}
+use Rattle.std.proofs.Common.{◌≡◌, ℕ, zero, suc, ◌<◌, ◌+◌, List, [], ◌∷◌, ◌++◌, Some, refl, sym, ap, ◌∙◌, arith, reverse, take, drop, slice_get, subst, add-one, get_or, length}
 use Rattle.std.proofs.lemmas.List.{reverse-append}
+use Rattle.std.proofs.lemmas.Option.{slice_get-get_or}
 use Rattle.cam_types.specs.declared.script.Script.{Script}
 use Rattle.trace_model.specs.declared.entry.Entry.{Entry}
+use Rattle.basic_lemmas.proofs.Lists.{newest}
 use Rattle.trace_model.specs.Allowed.{IsAllowed}
 use Rattle.trace_model.specs.Legal.{IsLegal}
-
--- one entry more
-take-one-more : {X : Type 0} (xs : List X) (p : ℕ) (x : X) → slice_get xs p ≡ Some x → take (suc p) xs ≡ take p xs ++ (x ∷ [])
-take-one-more [] p x at = absurd (cc)
-take-one-more (y ∷ xs) zero x at = let same : y ≡ x = cc in rw same refl
-take-one-more (y ∷ xs) (suc p) x at = ap (λ l. y ∷ l) (take-one-more xs p x at)
-
-pub newest : {X : Type 0} (xs : List X) (p : ℕ) (x : X) → slice_get xs p ≡ Some x → reverse (take (suc p) xs) ≡ x ∷ reverse (take p xs)
-newest xs p x at = ap reverse (take-one-more xs p x at) ∙ reverse-append (take p xs) (x ∷ [])
+use Rattle.trace_model.specs.declared.verdict.RuleName.{RuleName}
+use Rattle.trace_model.specs.Verdict.{IsIllegalAt, rule_of}
 
 split-at : {X : Type 0} (xs : List X) (p : ℕ) → take p xs ++ drop p xs ≡ xs
 split-at [] zero = refl
@@ -47,3 +42,17 @@ take-of-take [] p (suc q) h = refl
 take-of-take (x ∷ xs) p zero h = absurd (omega arith)
 take-of-take (x ∷ xs) zero (suc q) h = refl
 take-of-take (x ∷ xs) (suc p) (suc q) h = ap (λ l. x ∷ l) (take-of-take xs p q (omega arith))
+
+-- ---- the entry at a place
+
+pub read-newest : {X : Type 0} (xs : List X) (p : ℕ) (d : X) → p < length xs → reverse (take (p + 1) xs) ≡ get_or xs p d ∷ reverse (take p xs)
+read-newest xs p d h = rw add-one (newest xs p (get_or xs p d) (slice_get-get_or xs p d h))
+
+pub illegal-at : (script : Script) (trace : List Entry) (p : ℕ) (d : Entry) (rule : RuleName) → p < length trace → IsLegal script (reverse (take p trace)) → (IsAllowed script (reverse (take p trace)) (get_or trace p d) → ⊥) → rule ≡ rule_of (get_or trace p d) → IsIllegalAt script trace p rule
+illegal-at script trace p d rule h legal refused named = record {
+  entry = get_or trace p d;
+  at = slice_get-get_or trace p d h;
+  before = legal;
+  refused = refused;
+  named = named;
+}

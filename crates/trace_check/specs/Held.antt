@@ -1,4 +1,4 @@
-use Rattle.std.specs.Prelude.{ℕ, ◌==◌, not, List, Option, Some, None, length, if◌then◌else◌}
+use Rattle.std.specs.Prelude.{◌==◌, not, List, Option, Some, None, length, if◌then◌else◌}
 use Rattle.cam_types.specs.declared.script.Script.{Script}
 use Rattle.trace_model.specs.declared.entry.Entry.{Entry}
 use Rattle.trace_model.specs.Client.{is_empty}
@@ -6,8 +6,8 @@ use Rattle.state_facts.specs.Homes.{all_home, all_signalled}
 use Rattle.state_facts.specs.FrameReadings.{is_none_left}
 use Rattle.state_facts.specs.States.{State, state}
 use Rattle.judge_rows.specs.Judged.{Judged}
-use Rattle.trace_check.specs.declared.verdict.MissingPart.{MissingPart}
-use Rattle.trace_check.specs.declared.verdict.MissingPart.TheVariants.{Calls, Open, Queued, Pool, Signal as SignalPart}
+use Rattle.trace_model.specs.declared.verdict.MissingPart.{MissingPart}
+use Rattle.trace_model.specs.declared.verdict.MissingPart.TheVariants.{Calls, Open, Queued, Pool, Signal as SignalPart}
 
 -- What the judge in one pass holds of the entries that it has passed (our own choice).
 

@@ -1,4 +1,3 @@
 pub mod Kinds
 pub mod Released
-pub mod Verdict
 pub mod Held

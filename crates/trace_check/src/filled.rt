@@ -19,7 +19,7 @@ use judge_rules::rule::{is_fill_due, late_due};
 use trace_model::Entry;
 
 /// A buffer that came back with its picture, as its entry says.
-#[derive(Clone, Copy, Debug, PartialEq, Eq)]
+#[derive(Clone, Copy)]
 pub struct Fill {
     pub frame: FrameNo,
     pub stream: StreamIx,

@@ -1,19 +1,18 @@
 //! The judge.
 ghost use Rattle.std.specs.Prelude.{◌≡◌, IfOk, reverse};
 ghost use Rattle.run_model.specs.Lawful.{KeepsLaws};
-ghost use Rattle.trace_check.specs.Verdict.{IsVerdict};
+ghost use Rattle.trace_model.specs.Verdict.{IsVerdict};
 ghost use Rattle.trace_model.specs.Legal.{IsLegal};
 
 use crate::allowed::is_allowed;
 use crate::missing::first_missing;
 use crate::passing::check_once;
 use crate::rule::rule_of;
-use crate::verdict::Verdict;
 use cam_types::{NoMemory, Script};
 use digest_memory::Canvas;
 use run_model::a_complete_run_keeps_the_laws;
 use std::alloc::Global;
-use trace_model::{Entry, TraceList};
+use trace_model::{Entry, TraceList, Verdict};
 
 /// Judges a trace: whether it is a complete legal run of the script, else its first entry that isn't allowed, else the
 /// first part that it lacks. The profile that the trace names plays no part. Each entry is looked at once, where the

@@ -12,9 +12,7 @@ mod laws;
 mod missing;
 mod passing;
 mod rule;
-mod verdict;
 
 pub use judge::{check, check_plain};
 pub use laws::a_trace_has_one_verdict;
 pub use passing::note_by;
-pub use verdict::{MissingPart, RuleName, Verdict};

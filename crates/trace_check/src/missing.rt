@@ -4,16 +4,15 @@ ghost use Rattle.std.specs.List.{list_all};
 ghost use Rattle.trace_model.specs.Complete.{is_all_called, is_all_signalled};
 ghost use Rattle.trace_model.specs.Fence.{is_signalled};
 ghost use Rattle.trace_check.specs.Released.{on_release};
-ghost use Rattle.trace_check.specs.Verdict.{first_missing};
+ghost use Rattle.trace_model.specs.Verdict.{first_missing};
 
-use crate::verdict::MissingPart;
 use cam_types::Script;
 use judge_calls::over::is_queue_empty;
 use judge_calls::pool::all_in_pool;
 use judge_entries::number::call_count;
 use judge_filters::fence::is_signalled;
 use judge_filters::open::is_quiet;
-use trace_model::Entry;
+use trace_model::{Entry, MissingPart};
 
 /// Whether every command of the script was called.
 fn is_all_called(script: &Script, entries: &[Entry]) -> bool

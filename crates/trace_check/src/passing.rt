@@ -1,22 +1,21 @@
 //! The judge in one pass: each entry is looked at once, over the tables of the state that those before it left.
-ghost use Rattle.std.specs.Prelude.{◌≡◌, ◌↔◌, ◌∷◌, true, IfOk, OnOk, IsTrue, reverse};
+ghost use Rattle.std.specs.Prelude.{◌≡◌, ◌↔◌, ◌∷◌, [], true, IfOk, OnOk, IsTrue, reverse};
 ghost use Rattle.cam_types.specs.Profile.{is_profile};
 ghost use Rattle.cam_types.specs.Script.{is_valid};
 ghost use Rattle.trace_laws.specs.Typed.{is_typed};
 ghost use Rattle.trace_model.specs.Allowed.{IsAllowed};
 ghost use Rattle.trace_model.specs.Legal.{IsLegal};
 ghost use Rattle.trace_check.specs.Held.{held, missing_in};
-ghost use Rattle.trace_check.specs.Verdict.{IsVerdict, first_missing};
+ghost use Rattle.trace_model.specs.Verdict.{IsVerdict, first_missing};
 
 use crate::rule::rule_of;
-use crate::verdict::{MissingPart, Verdict};
 use cam_types::{NoMemory, Script};
 use digest_memory::PictureDigests;
 use judge_due::is_due;
 use judge_rows::JudgeTables;
 use std::alloc::Global;
 use trace_laws::every_script_is_typed;
-use trace_model::{Entry, TraceList};
+use trace_model::{Entry, MissingPart, TraceList, Verdict};
 
 /// Whether the entry is allowed after the entries, whose state the tables hold. The entries aren't read.
 fn is_allowed_by(
@@ -93,6 +92,59 @@ fn judge_end_by(script: &Script, entries: &[Entry], tables: &JudgeTables) -> Ver
     }
 }
 
+/// Notes the entry in the tables if it is allowed after the entries, whose state they hold, and says whether it is. The
+/// entries aren't read.
+fn note_allowed_by(
+    script: &Script,
+    entries: &[Entry],
+    tables: &mut JudgeTables,
+    entry: &Entry,
+    memory: PictureDigests,
+) -> Result<(bool, PictureDigests), NoMemory>
+    requires valid { IsTrue (is_valid script.now) }
+    requires profile { IsTrue (is_profile script.now.profile) }
+    requires legal { IsLegal script.now (reverse entries.now) }
+    requires held { tables.old ≡ held script.now (reverse entries.now) }
+    ensures allowed { IfOk result (λ r. IsTrue r.0 ↔ IsAllowed script.now (reverse entries.now) entry.now) }
+    ensures held { IfOk result (λ r. IsTrue r.0 → tables.new ≡ held script.now (entry.now ∷ reverse entries.now)) }
+{
+    every_script_is_typed(script);
+    let (allowed, after) = is_allowed_by(script, entries, tables, entry, memory);
+    if allowed {
+        note_by(script, entries, tables, entry)?;
+    }
+    Ok((allowed, after))
+}
+
+/// Judges entry by entry, with tables that hold no entry's state yet.
+fn judge_each_by(
+    script: &Script,
+    trace: &TraceList,
+    tables: &mut JudgeTables,
+    memory: PictureDigests,
+) -> Result<Verdict, NoMemory>
+    requires valid { IsTrue (is_valid script.now) }
+    requires profile { IsTrue (is_profile script.now.profile) }
+    requires held { tables.old ≡ held script.now [] }
+    ensures { IfOk result (λ verdict. IsVerdict script.now trace.now.entries verdict) }
+{
+    let entries = trace.as_slice();
+    let mut memory = memory;
+    for position in 0..trace.len() {
+        let place = position as usize;
+        let entry = &entries[place];
+        let (allowed, after) = note_allowed_by(script, &entries[..place], tables, entry, memory)?;
+        memory = after;
+        if !allowed {
+            return Ok(Verdict::IllegalAt {
+                position,
+                rule: rule_of(entry),
+            });
+        }
+    }
+    Ok(judge_end_by(script, entries, tables))
+}
+
 /// Judges a trace of a valid script entry by entry.
 pub(crate) fn check_once(
     alloc: Global,
@@ -103,22 +155,7 @@ pub(crate) fn check_once(
     requires profile { IsTrue (is_profile script.now.profile) }
     ensures { IfOk result (λ verdict. IsVerdict script.now trace.now.entries verdict) }
 {
-    every_script_is_typed(script);
-    let mut memory = PictureDigests::with_room(alloc, trace.len() as usize)?;
+    let memory = PictureDigests::with_room(alloc, trace.len() as usize)?;
     let mut tables = JudgeTables::new(alloc, script.commands.len())?;
-    let entries = trace.as_slice();
-    for position in 0..trace.len() {
-        let place = position as usize;
-        let entry = &entries[place];
-        let (allowed, after) = is_allowed_by(script, &entries[..place], &tables, entry, memory);
-        memory = after;
-        if !allowed {
-            return Ok(Verdict::IllegalAt {
-                position,
-                rule: rule_of(entry),
-            });
-        }
-        note_by(script, &entries[..place], &mut tables, entry)?;
-    }
-    Ok(judge_end_by(script, entries, &tables))
+    judge_each_by(script, trace, &mut tables, memory)
 }

@@ -1,9 +1,8 @@
 //! The rule of an entry's kind.
 ghost use Rattle.std.specs.Prelude.{◌≡◌};
-ghost use Rattle.trace_check.specs.Verdict.{rule_of};
+ghost use Rattle.trace_model.specs.Verdict.{rule_of};
 
-use crate::verdict::RuleName;
-use trace_model::Entry;
+use trace_model::{Entry, RuleName};
 
 /// The rule that the entry has to keep.
 pub fn rule_of(entry: &Entry) -> RuleName

@@ -22,6 +22,7 @@ pub mod Client
 pub mod Allowed
 pub mod Legal
 pub mod Complete
+pub mod Verdict
 pub mod Printable
 pub mod Laws
 pub mod Summary

@@ -5,6 +5,7 @@
 mod entry;
 mod laws;
 mod list;
+mod verdict;
 
 pub use entry::{Entry, Sent};
 pub use laws::{
@@ -13,3 +14,4 @@ pub use laws::{
     one_send_is_due,
 };
 pub use list::TraceList;
+pub use verdict::{MissingPart, RuleName, Verdict};

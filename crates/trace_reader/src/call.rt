@@ -27,7 +27,9 @@ fn waiting_word(word: &[u8]) -> Result<Word, Cause>
 pub fn begin_of(rest: &[u8]) -> Result<Entry, Cause>
     ensures { result ≡ begin_of (strict_words_behind rest.now) }
 {
-    let word = one_strict_word(rest).ok_or(Cause::BadLine)?;
+    let Some(word) = one_strict_word(rest) else {
+        return Err(Cause::BadLine);
+    };
     let word = waiting_word(word)?;
     Ok(Entry::Begin { word })
 }
@@ -36,7 +38,9 @@ pub fn begin_of(rest: &[u8]) -> Result<Entry, Cause>
 fn refusal(rest: &[u8]) -> Result<Reply, Cause>
     ensures { result ≡ refusal (strict_words_behind rest.now) }
 {
-    let (code, rest) = next_strict_word(rest).ok_or(Cause::BadLine)?;
+    let Some((code, rest)) = next_strict_word(rest) else {
+        return Err(Cause::BadLine);
+    };
     let Some((first, rest)) = next_strict_word(rest) else {
         let (code, first, second) = (byte(code)?, None, None);
         return Ok(Reply::Refused {
@@ -110,7 +114,9 @@ fn plain_ok(rest: &[u8]) -> Result<Reply, Cause>
 fn submitted(rest: &[u8]) -> Result<Reply, Cause>
     ensures { result ≡ submission (strict_words_behind rest.now) }
 {
-    let word = one_strict_word(rest).ok_or(Cause::BadLine)?;
+    let Some(word) = one_strict_word(rest) else {
+        return Err(Cause::BadLine);
+    };
     Ok(Reply::Submitted(RequestId(numbered(b'r', word)?)))
 }
 
@@ -153,7 +159,9 @@ fn reply_of(word: Word, rest: &[u8]) -> Result<Reply, Cause>
 fn call_with(index: &[u8], word: &[u8], rest: &[u8]) -> Result<Entry, Cause>
     ensures { result ≡ call_with index.now (command_word word.now) (strict_words_behind rest.now) }
 {
-    let word = command_word(word).ok_or(Cause::BadLine)?;
+    let Some(word) = command_word(word) else {
+        return Err(Cause::BadLine);
+    };
     let (index, reply) = both(small(index), reply_of(word, rest))?;
     Ok(Entry::Call { index, word, reply })
 }
@@ -172,8 +180,9 @@ pub fn call_of(rest: &[u8]) -> Result<Entry, Cause>
     let Some((sign, rest)) = next_strict_word(rest) else {
         return Err(Cause::BadLine);
     };
-    match sign {
-        b"=" => call_with(index, word, rest),
-        _ => Err(Cause::BadLine),
+    if has_text(sign, "=") {
+        call_with(index, word, rest)
+    } else {
+        Err(Cause::BadLine)
     }
 }

@@ -40,11 +40,15 @@ fn profile_of(rest: &[u8]) -> Result<Option<Profile>, Cause>
 fn version_of(rest: &[u8]) -> Result<Option<Profile>, Cause>
     ensures { result ≡ version_of (strict_words_behind rest.now) }
 {
-    let (version, rest) = next_strict_word(rest).ok_or(Cause::BadLine)?;
-    match version {
-        b"1" => no_profile(rest),
-        b"2" => profile_of(rest),
-        _ => Err(Cause::BadLine),
+    let Some((version, rest)) = next_strict_word(rest) else {
+        return Err(Cause::BadLine);
+    };
+    if has_text(version, "1") {
+        no_profile(rest)
+    } else if has_text(version, "2") {
+        profile_of(rest)
+    } else {
+        Err(Cause::BadLine)
     }
 }
 
@@ -53,7 +57,9 @@ fn version_of(rest: &[u8]) -> Result<Option<Profile>, Cause>
 pub fn named_profile(line: &[u8]) -> Result<Option<Profile>, Cause>
     ensures { result ≡ named_profile line.now }
 {
-    let (word, rest) = plain_words(line).ok_or(Cause::BadLine)?;
+    let Some((word, rest)) = plain_words(line) else {
+        return Err(Cause::BadLine);
+    };
     if has_text(word, "trace") {
         version_of(rest)
     } else {

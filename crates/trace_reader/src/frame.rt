@@ -73,7 +73,9 @@ pub fn send_of(rest: &[u8]) -> Result<Entry, Cause>
 pub fn drop_of(rest: &[u8]) -> Result<Entry, Cause>
     ensures { result ≡ drop_of (strict_words_behind rest.now) }
 {
-    let (frame, name) = two_strict_words(rest).ok_or(Cause::BadLine)?;
+    let Some((frame, name)) = two_strict_words(rest) else {
+        return Err(Cause::BadLine);
+    };
     let (frame, (request, item)) = both(small(frame), item(name))?;
     Ok(Entry::Dropped {
         frame: FrameNo(frame),
@@ -86,7 +88,9 @@ pub fn drop_of(rest: &[u8]) -> Result<Entry, Cause>
 pub fn shutter_of(rest: &[u8]) -> Result<Entry, Cause>
     ensures { result ≡ shutter_of (strict_words_behind rest.now) }
 {
-    let (frame, time) = two_strict_words(rest).ok_or(Cause::BadLine)?;
+    let Some((frame, time)) = two_strict_words(rest) else {
+        return Err(Cause::BadLine);
+    };
     let (frame, time) = both(small(frame), large(time))?;
     Ok(Entry::Shutter {
         frame: FrameNo(frame),
@@ -98,9 +102,10 @@ pub fn shutter_of(rest: &[u8]) -> Result<Entry, Cause>
 fn no_fence(word: &[u8]) -> Result<Option<FenceNo>, Cause>
     ensures { result ≡ no_fence word.now }
 {
-    match word {
-        b"-" => Ok(None),
-        _ => Err(Cause::BadLine),
+    if has_text(word, "-") {
+        Ok(None)
+    } else {
+        Err(Cause::BadLine)
     }
 }
 
@@ -179,7 +184,9 @@ pub fn buffer_of(rest: &[u8]) -> Result<Entry, Cause>
 fn one_frame(rest: &[u8]) -> Result<FrameNo, Cause>
     ensures { result ≡ one_frame (strict_words_behind rest.now) }
 {
-    let word = one_strict_word(rest).ok_or(Cause::BadLine)?;
+    let Some(word) = one_strict_word(rest) else {
+        return Err(Cause::BadLine);
+    };
     Ok(FrameNo(small(word)?))
 }
 
@@ -234,7 +241,9 @@ pub fn error_of(rest: &[u8]) -> Result<Entry, Cause>
 pub fn release_of(rest: &[u8]) -> Result<Entry, Cause>
     ensures { result ≡ release_of (strict_words_behind rest.now) }
 {
-    let (name, fence) = two_strict_words(rest).ok_or(Cause::BadLine)?;
+    let Some((name, fence)) = two_strict_words(rest) else {
+        return Err(Cause::BadLine);
+    };
     let (buffer, fence) = both(numbered(b'b', name), numbered(b'f', fence))?;
     Ok(Entry::Release {
         buffer: BufferId(buffer),
@@ -246,7 +255,9 @@ pub fn release_of(rest: &[u8]) -> Result<Entry, Cause>
 pub fn signal_of(rest: &[u8]) -> Result<Entry, Cause>
     ensures { result ≡ signal_of (strict_words_behind rest.now) }
 {
-    let word = one_strict_word(rest).ok_or(Cause::BadLine)?;
+    let Some(word) = one_strict_word(rest) else {
+        return Err(Cause::BadLine);
+    };
     let fence = FenceNo(numbered(b'f', word)?);
     Ok(Entry::Signal { fence })
 }
@@ -288,7 +299,9 @@ pub fn early_of(rest: &[u8]) -> Result<Entry, Cause>
 pub fn late_of(rest: &[u8]) -> Result<Entry, Cause>
     ensures { result ≡ late_of (strict_words_behind rest.now) }
 {
-    let (fence, hex) = two_strict_words(rest).ok_or(Cause::BadLine)?;
+    let Some((fence, hex)) = two_strict_words(rest) else {
+        return Err(Cause::BadLine);
+    };
     let (fence, digest) = both(numbered(b'd', fence), digest(hex))?;
     Ok(Entry::Late {
         fence: DeviceFenceNo(fence),

@@ -32,7 +32,9 @@ fn metadata(alloc: Global, number: u8, bytes: &[u8]) -> Result<PartialResult, Li
 pub fn partial_of(alloc: Global, rest: &[u8]) -> Result<Entry, LineRefused>
     ensures { Gives result (partial_of (strict_words_behind rest.now)) }
 {
-    let (frame, number, hex) = three_strict_words(rest).ok_or(Cause::BadLine)?;
+    let Some((frame, number, hex)) = three_strict_words(rest) else {
+        return Err(LineRefused::Bad(Cause::BadLine));
+    };
     let frame = FrameNo(small(frame)?);
     let number = part_number(number)?;
     let bytes = hex_bytes(alloc, hex)?;

@@ -38,10 +38,10 @@ pub fn numbered(letter: u8, word: &[u8]) -> Result<u32, Cause>
 pub fn fence(word: &[u8]) -> Result<Option<FenceNo>, Cause>
     ensures { result ≡ fence word.now }
 {
-    match word {
-        b"-" => Ok(None),
-        _ => Ok(Some(FenceNo(numbered(b'f', word)?))),
+    if has_text(word, "-") {
+        return Ok(None);
     }
+    Ok(Some(FenceNo(numbered(b'f', word)?)))
 }
 
 /// `rR.I`.
@@ -138,10 +138,13 @@ pub fn mark(word: &[u8]) -> Result<bool, Cause>
 pub fn part_number(word: &[u8]) -> Result<u8, Cause>
     ensures { result ≡ part_number word.now }
 {
-    match word {
-        b"1" => Ok(1),
-        b"2" => Ok(2),
-        b"3" => Ok(3),
-        _ => Err(Cause::BadNumber),
+    if has_text(word, "1") {
+        Ok(1)
+    } else if has_text(word, "2") {
+        Ok(2)
+    } else if has_text(word, "3") {
+        Ok(3)
+    } else {
+        Err(Cause::BadNumber)
     }
 }

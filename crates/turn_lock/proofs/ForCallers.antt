@@ -2,12 +2,15 @@
 -- v is the seat's view before `enter`, w its view between, x its view after `leave`. The value was `value`, and became `left`.
 use Rattle.std.proofs.Common.{◌≡◌, List, [], ◌∷◌, ◌++◌, refl, ap, sym, ◌∙◌, subst, ⊎_elim, Contains, IsPermutation, length, arith}
 use Rattle.std.specs.List.{remove}
+use Rattle.std.proofs.lemmas.Bool.{eq-eqb}
 use Rattle.std.proofs.lemmas.List.Elements.{Contains-append_right}
 use Rattle.std.proofs.lemmas.List.Sorted.{IsPermutation-sym, IsPermutation-cons, IsPermutation-trans, IsPermutation-remove, IsPermutation-append_left, Contains-permutation, length_permutation}
 use mathlib.Core.List.{IsPrefix}
 use Rattle.turn_lock.specs.declared.view.View.{View}
 use Rattle.turn_lock.specs.Rule.{NoneTwice}
-use Rattle.turn_lock.specs.Turns.{Enters, MayLeave, Leaves}
+use Rattle.turn_lock.specs.Lending.{SameSeat}
+use Rattle.turn_lock.specs.Turns.{Enters, MayLeave, Leaves, Joins, splitting, split_off}
+use Rattle.turn_lock.specs.Views.{without}
 use Rattle.turn_lock.proofs.JobLists.{none_twice_permutation, none_twice_cons, none_twice_right, in_one_part, contains_more, contains_rest, same_rest}
 
 module _ {S F E J : Type 0} (fixed : S → F) (entries : S → List E) (jobs : S → List J) (start : F) (v w : View F E J) (value left : S)
@@ -58,6 +61,18 @@ module _ {S F E J : Type 0} (fixed : S → F) (entries : S → List E) (jobs : S
       IsPermutation-trans (job ∷ jobs left) (jobs value) (job ∷ (mine ++ w.rest)) (IsPermutation-sym (jobs value) (job ∷ jobs left) p) all in
       let own : IsPermutation x.jobs mine = leaves.own mine (same_rest job (jobs left) (mine ++ w.rest) once both) in
       IsPermutation-trans v.jobs (job ∷ mine) (job ∷ x.jobs) q (IsPermutation-cons job mine x.jobs (IsPermutation-sym x.jobs mine own))
+
+-- the seat is the same after two turns
+pub same_seat : {F E J : Type 0} (u v w : View F E J) → SameSeat u v → SameSeat v w → SameSeat u w
+same_seat u v w a b = (b.0 ∙ a.0, b.1 ∙ a.1, b.2 ∙ a.2)
+
+-- the root has the others again that it had before it split a seat off, which it has joined
+pub same_others : {F E J : Type 0} (v cut off r u w : View F E J) → cut ≡ splitting v → off ≡ split_off v → r.others ≡ cut.others → SameSeat off u → Joins r u w → w.others ≡ v.others
+same_others {F} {E} {J} v cut off r u w left right kept same joined =
+    let number : u.number ≡ v.made = same.0 ∙ ap (λ (x : View F E J). x.number) right in
+    let others : r.others ≡ v.made ∷ v.others = kept ∙ ap (λ (x : View F E J). x.others) left in
+    let is : w.others ≡ without u.number r.others = ap (λ (x : View F E J). x.others) joined.is in
+    is ∙ rw (number, others, eq-eqb v.made v.made refl) refl
 
 no_length : {J : Type 0} (jobs : List J) → length jobs ≡ 0 → jobs ≡ []
 no_length [] e = refl

@@ -1,6 +1,7 @@
 -- Places of numbers in a list that grows.
-use Rattle.std.proofs.Common.{Option, None, IfSome, ◌≡◌, ℕ, ◌+◌, ◌<◌, List, [], ◌∷◌, ◌++◌, length, Some, slice_get, get_or, sym, ap, ◌∙◌, subst, arith, length-append}
-use Rattle.std.proofs.lemmas.List.{get_or_push}
+use Rattle.std.proofs.Common.{Option, None, IfSome, Result, Ok, Err, IfOk, ◌≡◌, ℕ, ◌+◌, ◌<◌, List, [], ◌∷◌, ◌++◌, length, Some, slice_get, get_or, refl, sym, ap, ◌∙◌, subst, arith, length-append}
+use Rattle.std.proofs.lemmas.List.{get_or_push, length_push}
+use Rattle.std.proofs.lemmas.Option.{slice_get_read}
 use Rattle.std.proofs.Math.ListN.{get_or-append}
 use mathlib.Core.Logic.{dite}
 use mathlib.Core.List.{IsPrefix}
@@ -21,3 +22,13 @@ one_more seen more places place from count p long stand last k lt = dite (ℕ_di
 pub still_there : (r : Option ℕ) (seen all : List ℕ) (x : ℕ) → IsPrefix seen all → IfSome r (λ place. slice_get seen place ≡ Some x) → IfSome r (λ place. slice_get all place ≡ Some x)
 still_there None seen all x p told = told
 still_there (Some place) seen all x p told = begins_get seen all place x p told
+
+-- what was pushed on a list of so many stands at the end
+pub stands_last : {E : Type 0} (r : Result ℕ E) (old new seen : List ℕ) (n x : ℕ) → n ≡ length old → seen ≡ new → IfOk r (λ place. (new ≡ old ++ x ∷ []) × (place ≡ n))
+    → IfOk r (λ place. (slice_get seen place ≡ Some x) × (place + 1 ≡ length seen))
+stands_last (Err e) old new seen n x long is told = told
+stands_last (Ok place) old new seen n x long is told =
+    let all : seen ≡ old ++ x ∷ [] = is ∙ told.0 in
+    let more : length seen ≡ length old + 1 = ap length all ∙ length_push old x in
+    let at : get_or seen place x ≡ x = rw all (get_or_push old x x place (sym (told.1 ∙ long))) in
+    (slice_get_read seen (length seen) place x refl (omega (arith, told.1)) (sym at), omega (arith, told.1))

@@ -1,5 +1,5 @@
 -- A script that is refused for a bad word has a line with one.
-use Rattle.std.proofs.Common.{◌≡◌, ℕ, Bool, true, false, List, [], ◌∷◌, Option, Some, None, Result, Ok, Err, ap, sym, refl, ◌∙◌, cond, is_some, not}
+use Rattle.std.proofs.Common.{◌≡◌, ℕ, Bool, true, false, List, [], ◌∷◌, Option, Some, None, Result, Ok, Err, ap, sym, ◌∙◌, cond, is_some, not}
 use Rattle.std.specs.List.{list_all}
 use Rattle.text_parts.specs.LineReading.{is_comment, is_printable}
 use Rattle.text_parts.specs.declared.cause.Cause.{Cause}

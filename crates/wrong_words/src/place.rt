@@ -1,5 +1,5 @@
 //! Which kind the places of a line ask for.
-ghost use Rattle.std.specs.Prelude.{◌≡◌};
+ghost use Rattle.std.specs.Prelude.{◌≡◌, bytes_eq, if◌then◌else◌};
 ghost use Rattle.wrong_words.specs.WordPlaces.{buffer_kind, by_how, by_place, call_kind, is_item_word, script_kind, trace_kind};
 
 use crate::word_kind::WordKind;
@@ -93,6 +93,13 @@ fn buffer_kind(how: &[u8], place: usize) -> WordKind
     by_how(how, b"ok", FenceOrNone, Any, Digest, place)
 }
 
+/// The kind where the first word is this one, else the other.
+fn kind_where(first: &[u8], word: &[u8], kind: WordKind, other: WordKind) -> WordKind
+    ensures { result ≡ (if bytes_eq first.now word.now then kind else other) }
+{
+    if first == word { kind } else { other }
+}
+
 /// The kind at a place behind the first word of a trace's line, from 1 on, by the first word and the one at place 4.
 #[tactic(auto, unfolding(crate::specs::WordPlaces::trace_kind))]
 pub fn trace_kind(first: &[u8], how: &[u8], place: usize) -> WordKind
@@ -102,31 +109,28 @@ pub fn trace_kind(first: &[u8], how: &[u8], place: usize) -> WordKind
         Any, Buffer, Byte, Bytes, DeviceFence, Digest, Fence, ItemName, Number, PartNumber,
         ProfileNumber, Target, Time,
     };
-    if first == b"trace".as_slice() {
-        by_place(Any, ProfileNumber, ProfileNumber, ProfileNumber, place)
-    } else if first == b"call".as_slice() {
-        by_place(Number, Any, Any, call_kind(how, place), place)
-    } else if first == b"send".as_slice() {
-        by_place(Number, ItemName, Any, Target, place)
-    } else if first == b"drop".as_slice() {
-        by_place(Number, ItemName, Any, Any, place)
-    } else if first == b"shutter".as_slice() {
-        by_place(Number, Time, Any, Any, place)
-    } else if first == b"partial".as_slice() {
-        by_place(Number, PartNumber, Bytes, Any, place)
-    } else if first == b"buffer".as_slice() {
-        by_place(Number, Byte, Buffer, buffer_kind(how, place), place)
-    } else if first == b"early".as_slice() {
-        by_place(Number, Byte, Buffer, DeviceFence, place)
-    } else if first == b"filled".as_slice() {
-        by_place(DeviceFence, Digest, Any, Any, place)
-    } else if first == b"error".as_slice() {
-        by_place(Any, Number, Byte, Any, place)
-    } else if first == b"release".as_slice() {
-        by_place(Buffer, Fence, Any, Any, place)
-    } else if first == b"signal".as_slice() {
-        by_place(Fence, Any, Any, Any, place)
-    } else {
-        Any
-    }
+    let signal = by_place(Fence, Any, Any, Any, place);
+    let kind = kind_where(first, b"signal", signal, Any);
+    let release = by_place(Buffer, Fence, Any, Any, place);
+    let kind = kind_where(first, b"release", release, kind);
+    let error = by_place(Any, Number, Byte, Any, place);
+    let kind = kind_where(first, b"error", error, kind);
+    let filled = by_place(DeviceFence, Digest, Any, Any, place);
+    let kind = kind_where(first, b"filled", filled, kind);
+    let early = by_place(Number, Byte, Buffer, DeviceFence, place);
+    let kind = kind_where(first, b"early", early, kind);
+    let buffer = by_place(Number, Byte, Buffer, buffer_kind(how, place), place);
+    let kind = kind_where(first, b"buffer", buffer, kind);
+    let partial = by_place(Number, PartNumber, Bytes, Any, place);
+    let kind = kind_where(first, b"partial", partial, kind);
+    let shutter = by_place(Number, Time, Any, Any, place);
+    let kind = kind_where(first, b"shutter", shutter, kind);
+    let dropped = by_place(Number, ItemName, Any, Any, place);
+    let kind = kind_where(first, b"drop", dropped, kind);
+    let send = by_place(Number, ItemName, Any, Target, place);
+    let kind = kind_where(first, b"send", send, kind);
+    let call = by_place(Number, Any, Any, call_kind(how, place), place);
+    let kind = kind_where(first, b"call", call, kind);
+    let trace = by_place(Any, ProfileNumber, ProfileNumber, ProfileNumber, place);
+    kind_where(first, b"trace", trace, kind)
 }

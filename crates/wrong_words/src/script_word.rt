@@ -80,10 +80,7 @@ fn is_numbered_format(word: &[u8]) -> bool
 fn is_format(word: &[u8]) -> bool
     ensures { result ≡ is_some (format_of word.now) }
 {
-    match word {
-        b"raw16" | b"yuv" => true,
-        _ => is_numbered_format(word),
-    }
+    word == b"raw16".as_slice() || word == b"yuv".as_slice() || is_numbered_format(word)
 }
 
 /// Whether the word is a width or a height.

@@ -5,8 +5,8 @@ use super::changed::{Change, changed};
 use cam_types::{NoMemory, Script};
 use std::alloc::Global;
 use std::fmt::{self, Write};
-use trace_check::{Verdict, check, check_plain};
-use trace_model::TraceList;
+use trace_check::{check, check_plain};
+use trace_model::{TraceList, Verdict};
 
 /// The places of a trace that are changed, counted from 0.
 #[derive(Clone, Copy, Debug, PartialEq, Eq)]

@@ -1,4 +1,4 @@
-use Rattle.std.proofs.Common.{◌++◌, ◌∙◌, sym, ap, map, arith, length, List}
+use Rattle.std.proofs.Common.{◌++◌, ◌∙◌, sym, ap, map, arith, List}
 use Rattle.std.proofs.lemmas.List.{append-nil, take_all}
 use Rattle.allowed_entries.specs.Readings.{frames_in}
 use Rattle.judge_rows.specs.declared.row.OpenRow.{OpenRow}

@@ -1,3 +1,4 @@
+use Rattle.std.proofs.lemmas.Grind.{elements}
 use Rattle.std.proofs.Common.{◌≡◌, ◌∙◌, ◌+◌, Some, arith, slice_get, sym, take}
 use Rattle.service_core.specs.Candidates.{candidates_by}
 use Rattle.candidates_call.specs.Listing.{candidate_text, listed}
@@ -20,3 +21,6 @@ pub returns : goal.returns
 returns g c =
     let xs = candidates_by c.args.state.now.script c.args.state.now.parts in
     same_bytes _ _ c.args.teller.now c.loop-place.teller (g.K.Sink.state c.args.sink.now) (g.K.Sink.state c.loop-place.sink) (all_listed c.args.pick 0 xs c.loop-place.place (omega (arith, c.requires.count))) c.loop-place.invariant
+
+pub unreachable-requires : goal.unreachable-requires
+unreachable-requires c = grind (arith, elements)

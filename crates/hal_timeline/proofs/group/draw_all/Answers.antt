@@ -1,5 +1,6 @@
+use Rattle.std.proofs.lemmas.Grind.{common_steps}
 -- One event more is drawn.
-use Rattle.std.proofs.Common.{◌≡◌, reverse, take}
+use Rattle.std.proofs.Common.{◌≡◌, reverse, take, arith}
 use Rattle.std.proofs.lemmas.List.{take_all}
 use Rattle.hal_timeline.proofs.Drawn.{drawn_more, turned_item}
 use Rattle.hal_timeline.proofs.group.draw_all.Goals as goal
@@ -21,3 +22,9 @@ pub returns-clause-past : goal.returns-clause-past
 returns-clause-past c =
     let all : take c.loop-place.place c.args.events.now ≡ c.args.events.now = take_all c.loop-place.place c.args.events.now c.loop-place-test.false in
     rw all at c.loop-place.invariant.stands
+
+pub draw-requires : goal.draw-requires
+draw-requires c = grind (arith, common_steps)
+
+pub returns-clause-drawn : goal.returns-clause-drawn
+returns-clause-drawn c = grind (arith, common_steps)

@@ -1,3 +1,4 @@
+use Rattle.std.proofs.lemmas.Grind.{common_steps}
 use Rattle.std.proofs.Common.{rules, ◌+◌, ◌-◌, ◌*◌, ◌≤◌, arith, ◌∙◌, length}
 use Rattle.std.proofs.lemmas.Nat.{row_fits_turned}
 use Rattle.reprocess_core.proofs.Reduced.{row-within, row-more, rows-all}
@@ -44,3 +45,6 @@ slice_bounds-write_row-end-in-loop-y g c =
     let fits : c.loop-y.y * c.args.width + c.args.width ≤ c.args.width * c.args.height = row_fits_turned c.loop-y.y c.args.width c.args.width c.args.height c.loop-y-test.true (omega arith) in
     let room : c.loop-y.y * c.args.width + c.args.width ≤ length c.loop-y.bytes = omega (arith, c.loop-y.auto.bytes, c.requires.room, fits) in
     search (rules, room)
+
+pub overflow_mul-start : goal.overflow_mul-start
+overflow_mul-start c = grind (arith, common_steps)

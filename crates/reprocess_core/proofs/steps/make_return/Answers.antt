@@ -1,4 +1,5 @@
-use Rattle.std.proofs.Common.{sym, ◌∙◌}
+use Rattle.std.proofs.lemmas.Grind.{common_steps}
+use Rattle.std.proofs.Common.{sym, ◌∙◌, arith}
 use Rattle.reprocess_core.proofs.Finds.{returnable, returned-is, returned-line}
 use Rattle.reprocess_core.proofs.Places.{returned-places}
 use Rattle.reprocess_core.specs.Inputs.{HasRoom}
@@ -31,3 +32,9 @@ returns-clause-places c =
     let room : HasRoom state.plan.input c.into_buffer.result = rw ticket.spec at c.into_buffer.ensures.len in
     let back = returned-places state.plan state.past c.args.places.now c.in-Input.frame c.in-Input.input c.into_buffer.result c.requires.places found.low room in
     rw (c.add.ensures, c.put.ensures, c.take_ticket-ticket.ensures.places) back
+
+pub put-requires-clause-within : goal.put-requires-clause-within
+put-requires-clause-within c = grind (arith, common_steps)
+
+pub put-requires-clause-free : goal.put-requires-clause-free
+put-requires-clause-free c = grind (arith, common_steps)

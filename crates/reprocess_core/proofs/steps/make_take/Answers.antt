@@ -1,4 +1,5 @@
-use Rattle.std.proofs.Common.{sym, ◌∙◌}
+use Rattle.std.proofs.lemmas.Grind.{common_steps}
+use Rattle.std.proofs.Common.{sym, ◌∙◌, arith}
 use Rattle.reprocess_core.proofs.Finds.{takable, taken-is, taken-line}
 use Rattle.reprocess_core.proofs.steps.make_take.Goals as goal
 
@@ -31,3 +32,6 @@ draw_into-requires-clause-room c =
     let state = c.args.course.now in
     let line = taken-is state.plan state.past c.in-Take.frame c.in-Take.input c.in-Take.outputs c.take_due.result c.in-Some.line c.take_due.ensures c.in-Some.is c.in-Take.is in
     rw c.plan-plan.ensures.value (takable state.plan state.past c.args.places.now c.in-Take.frame c.in-Take.input c.in-Take.outputs c.plan-plan.ensures.run c.requires.places line).room
+
+pub returns-clause-places : goal.returns-clause-places
+returns-clause-places c = grind (arith, common_steps)

@@ -1,16 +1,11 @@
-use Rattle.std.proofs.Common.{rules, sym, subst, ◌∙◌, List, ℕ}
+use Rattle.std.proofs.Common.{rules, sym, subst, List, ℕ}
 use Rattle.std.proofs.lemmas.List.Sorted.{IsPermutation-trans}
-use Rattle.turn_lock.specs.declared.view.View.{View}
 use Rattle.turn_lock.specs.Seats.{view}
-use Rattle.turn_lock.specs.Lending.{SameSeat}
 use Rattle.turn_lock.proofs.Beginnings.{begins_through}
+use Rattle.turn_lock.proofs.ForCallers.{same_seat}
 use Rattle.turn_lock.specs.Tallies.{StandFrom}
 use Rattle.turn_lock.proofs.Places.{one_more}
 use Rattle.turn_lock.proofs.turns.add_all.Goals as goal
-
--- the seat is the same after two turns
-same_seat : {F E J : Type 0} (u v w : View F E J) → SameSeat u v → SameSeat v w → SameSeat u w
-same_seat u v w a b = (b.0 ∙ a.0, b.1 ∙ a.1, b.2 ∙ a.2)
 
 pub returns-in_err-place-clause-seat : goal.returns-in_err-place-clause-seat
 returns-in_err-place-clause-seat g c = (c.add_turn.ensures.seat.0, same_seat (view c.args.seat.now) (view c.loop-offset.seat) (view c.add_turn.new.seat) c.loop-offset.invariant.same c.add_turn.ensures.seat.1)

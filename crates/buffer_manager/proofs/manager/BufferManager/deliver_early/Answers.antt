@@ -8,7 +8,17 @@ use Rattle.buffer_manager.specs.Slots.{fence_of, held_of, picture_of, place_of}
 use Rattle.buffer_manager.proofs.Moves.{kept-same, owner, stocked-away}
 use Rattle.buffer_manager.proofs.Pictures.{timely-early}
 use Rattle.buffer_manager.proofs.Spots.{away-at}
+use Rattle.buffer_manager.proofs.Aways.{is-away}
 use Rattle.buffer_manager.proofs.manager.BufferManager.deliver_early.Goals as goal
+
+pub overflow_sub-place : goal.overflow_sub-place
+overflow_sub-place c = (away-at c.self.inside.first c.self.inside.slots.items c.args.buffer.0 (rw (← c.self.view_is) at c.requires.device)).low
+
+pub swap_slot-requires : goal.swap_slot-requires
+swap_slot-requires c = (away-at c.self.inside.first c.self.inside.slots.items c.args.buffer.0 (rw (← c.self.view_is) at c.requires.device)).within
+
+pub end_away-requires : goal.end_away-requires
+end_away-requires c = is-away c.self.inside.first c.self.inside.slots.items c.args.buffer.0 c.swap_slot.result (rw (← c.self.view_is) at c.requires.device) c.swap_slot.ensures.old
 
 pub invariant_of-self : goal.invariant_of-self
 invariant_of-self c =

@@ -15,6 +15,7 @@ use Rattle.buffer_manager.proofs.Lists.{map-set-same}
 use Rattle.buffer_manager.proofs.Moves.{Found, kept-moved, lent-set, owner, whole-at}
 use Rattle.buffer_manager.proofs.Pools.{may-give, stocked-given}
 use Rattle.buffer_manager.proofs.Spots.{away-at, place_at, timely-plain}
+use Rattle.buffer_manager.proofs.Aways.{is-away}
 use Rattle.buffer_manager.proofs.manager.BufferManager.give_back.Goals as goal
 
 -- the pool of a buffer that is at the device takes it
@@ -28,6 +29,15 @@ give_to-requires c =
     let m = c.self.inside in
     let found = owner m.streams.items c.args.stream.0 c.args.parked.pixels.id.0 (rw (← c.self.view_is) at c.requires.own) in
     may-come m c.args.stream.0 c.args.parked c.self.invariant.0 found (rw (← c.self.view_is) at c.requires.device)
+
+pub overflow_sub-place : goal.overflow_sub-place
+overflow_sub-place c = rw c.id.ensures (away-at c.self.inside.first c.self.inside.slots.items c.args.parked.pixels.id.0 (rw (← c.self.view_is) at c.requires.device)).low
+
+pub swap_slot-requires : goal.swap_slot-requires
+swap_slot-requires c = rw c.id.ensures (away-at c.self.inside.first c.self.inside.slots.items c.args.parked.pixels.id.0 (rw (← c.self.view_is) at c.requires.device)).within
+
+pub end_away-requires : goal.end_away-requires
+end_away-requires c = is-away c.self.inside.first c.self.inside.slots.items c.args.parked.pixels.id.0 c.swap_slot.result (rw (← c.self.view_is) at c.requires.device) (rw c.id.ensures at c.swap_slot.ensures.old)
 
 pub invariant_of-self : goal.invariant_of-self
 invariant_of-self c =

@@ -1,7 +1,8 @@
-use Rattle.std.proofs.Common.{Some, None, refl}
+use Rattle.std.proofs.Common.{arith, Some, None, refl}
 use Rattle.device_rows.specs.TableRows.{has_place, passes, row_of, with_parked, with_row}
 use Rattle.device_rows.proofs.Places.{absent, cond-false, cond-like, kept-set, passes-is, passes-none, present, sound-at, put-rows, same-rows}
 use Rattle.device_rows.proofs.Reach.{sound-put}
+use Rattle.device_rows.proofs.Within.{within}
 use Rattle.device_rows.proofs.table.Table.put_target.Goals as goal
 
 pub returns-in_default-clause-handed_back : goal.returns-in_default-clause-handed_back
@@ -28,3 +29,8 @@ pub returns-clause-parked : goal.returns-clause-parked
 returns-clause-parked g c =
     let there = present c.args.frame.0 c.self.inside.rows.items c.deref.result.now c.place_of.result c.in-Some.place c.index_mut-row.result.now c.deref.ensures.value c.place_of.ensures c.in-Some.is c.index_mut-row.ensures.value c.self.invariant.ordered in
     rw (← c.self.view_is) (same-rows c.self.inside.capacity _ _ (put-rows c.args.frame.0 c.args.stream.0 c.self.inside.rows.items c.in-Some.place c.index_mut-row.result.now c.args.parked c.put_parked.new.parked there c.put_parked.ensures.kept))
+
+pub index_mut-row-requires : goal.index_mut-row-requires
+index_mut-row-requires g c =
+    let low = within c.args.frame.0 c.deref.result.now c.place_of.result c.in-Some.place c.place_of.ensures c.in-Some.is in
+    omega (arith, low, c.deref.ensures.len)

@@ -1,9 +1,24 @@
-use Rattle.std.proofs.Common.{refl, sym}
+use Rattle.std.proofs.Common.{◌≡◌, false, None, refl, sym}
 use Rattle.service_state.proofs.Back.{filled_back}
+use Rattle.device_rows.specs.Ready.{is_delivery_ready}
 use Rattle.service_state.proofs.FrameSteps.{delivers}
-use Rattle.service_state.proofs.Made.{held, makes_as}
+use Rattle.run_model.specs.declared.step.StepName.TheVariants.{Deliver}
+use Rattle.service_parts.specs.Moves.{move_by}
+use Rattle.cam_types.specs.declared.number.FrameNo.{FrameNo}
+use Rattle.cam_types.specs.declared.number.StreamIx.{StreamIx}
+use Rattle.service_state.specs.Serving.{Serving}
+use Rattle.service_state.proofs.Made.{held, makes_as, not_true, stays_as}
 use Rattle.service_state.proofs.Outs.{delivery_place}
 use Rattle.service_state.proofs.state.ServiceState.deliver.Goals as goal
+
+not_delivered : (s : Serving) (n : FrameNo) (t : StreamIx) → is_delivery_ready s.script.faults s.parts.rows n.0 t.0 ≡ false → move_by s.script s.parts (Deliver n t) ≡ None
+not_delivered s n t may = rw may refl
+
+pub returns-in_err-pixels : goal.returns-in_err-pixels
+returns-in_err-pixels c =
+    let i = c.self.inside in
+    let no_more = not_true (is_delivery_ready i.device.faults i.device.rows c.args.frame.0 c.args.stream.0) c.in_err-pixels.ensures.ready.1 in
+    rw c.from_residual.ensures (stays_as (held i) c.args.self.now _ _ c.self.view_is (rw (c.in_err-pixels.ensures.unchanged refl) refl) (not_delivered (held i) c.args.frame c.args.stream (rw (sym c.self.invariant.faults) no_more)))
 
 pub deliver-requires-2 : goal.deliver-requires-2
 deliver-requires-2 c =

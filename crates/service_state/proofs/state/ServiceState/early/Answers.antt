@@ -1,11 +1,33 @@
-use Rattle.std.proofs.Common.{refl, length}
+use Rattle.std.proofs.Common.{◌≡◌, true, false, None, refl, sym, length}
 use Rattle.cam_types.specs.declared.number.DeviceFenceNo.{DeviceFenceNo}
+use Rattle.cam_types.specs.declared.number.FrameNo.{FrameNo}
+use Rattle.cam_types.specs.declared.number.StreamIx.{StreamIx}
+use Rattle.device_rows.specs.Ready.{is_early_ready}
+use Rattle.run_model.specs.declared.step.StepName.TheVariants.{Early}
+use Rattle.service_parts.specs.Moves.{move_by}
+use Rattle.service_state.specs.Serving.{Serving}
 use Rattle.service_state.proofs.Back.{early_back}
-use Rattle.service_state.proofs.Made.{held, makes_as}
+use Rattle.service_state.proofs.Made.{held, makes_as, not_true, stays_as}
 use Rattle.service_state.proofs.Outs.{early_place}
 use Rattle.service_state.proofs.Room.{early_has_room}
 use Rattle.service_state.proofs.Steps.{gone}
 use Rattle.service_state.proofs.state.ServiceState.early.Goals as goal
+
+never : (s : Serving) (n : FrameNo) (t : StreamIx) → s.script.early ≡ false → move_by s.script s.parts (Early n t) ≡ None
+never s n t off = rw off refl
+
+not_yet : (s : Serving) (n : FrameNo) (t : StreamIx) → s.script.early ≡ true → is_early_ready s.script.faults s.parts.rows n.0 t.0 ≡ false → move_by s.script s.parts (Early n t) ≡ None
+not_yet s n t on may = rw (on, may) refl
+
+pub returns-then-not-self : goal.returns-then-not-self
+returns-then-not-self c = stays_as (held c.self.inside) c.args.self.now _ _ c.self.view_is (sym c.self.view_is) (never (held c.self.inside) c.args.frame c.args.stream c.if-not-self.true)
+
+pub returns-in_err-buffer : goal.returns-in_err-buffer
+returns-in_err-buffer c =
+    let i = c.self.inside in
+    let may = not_true (is_early_ready i.device.faults i.device.rows c.args.frame.0 c.args.stream.0) c.in_err-buffer.ensures.ready.1 in
+    let none = not_yet (held i) c.args.frame c.args.stream c.if-not-self.false (rw (sym c.self.invariant.faults) may) in
+    rw c.from_residual.ensures (stays_as (held i) c.args.self.now _ _ c.self.view_is (rw (c.in_err-buffer.ensures.unchanged refl) refl) none)
 
 pub deliver_early-fence-requires : goal.deliver_early-fence-requires
 deliver_early-fence-requires c =

@@ -1,11 +1,26 @@
-use Rattle.std.proofs.Common.{◌≡◌, Some, refl, sym, ap, ◌∙◌}
+use Rattle.std.proofs.Common.{◌≡◌, false, None, Some, refl, sym, ap, ◌∙◌}
 use Rattle.cam_types.specs.declared.number.BufferId.{BufferId}
 use Rattle.state_facts.specs.Homes.{held_in}
 use Rattle.service_state.proofs.Back.{filled_back}
+use Rattle.device_rows.specs.Ready.{is_finish_ready}
+use Rattle.run_model.specs.declared.step.StepName.TheVariants.{Finish}
+use Rattle.service_parts.specs.Moves.{move_by}
+use Rattle.cam_types.specs.declared.number.FrameNo.{FrameNo}
+use Rattle.cam_types.specs.declared.number.StreamIx.{StreamIx}
+use Rattle.service_state.specs.Serving.{Serving}
 use Rattle.service_state.proofs.FrameSteps.{finishes}
-use Rattle.service_state.proofs.Made.{held, makes_as}
+use Rattle.service_state.proofs.Made.{held, makes_as, not_true, stays_as}
 use Rattle.service_state.proofs.Outs.{finish_place}
 use Rattle.service_state.proofs.state.ServiceState.finish.Goals as goal
+
+not_finished : (s : Serving) (n : FrameNo) (t : StreamIx) → is_finish_ready s.parts.rows n.0 t.0 ≡ false → move_by s.script s.parts (Finish n t) ≡ None
+not_finished s n t may = rw may refl
+
+pub returns-in_err-pixels : goal.returns-in_err-pixels
+returns-in_err-pixels c =
+    let s = held c.self.inside in
+    let none = not_finished s c.args.frame c.args.stream (not_true (is_finish_ready s.parts.rows c.args.frame.0 c.args.stream.0) c.in_err-pixels.ensures.ready.1) in
+    rw c.from_residual.ensures (stays_as s c.args.self.now _ _ c.self.view_is (rw (c.in_err-pixels.ensures.unchanged refl) refl) none)
 
 pub finish-fence-requires : goal.finish-fence-requires
 finish-fence-requires c =

@@ -4,6 +4,7 @@ use Rattle.trace_model.specs.Configuration.{streams_of}
 use Rattle.service_state.proofs.Calls.{buffers_have_room, can_take_at, client_fits, due_as, reconfiguring}
 use Rattle.request_checks.proofs.Accepted.{few_specs}
 use Rattle.service_state.proofs.Made.{held, makes_as, serving_as}
+use Rattle.service_state.proofs.Opening.{profile_of}
 use Rattle.service_state.proofs.Planning.{planned_specs}
 use Rattle.service_state.proofs.Room.{home_given}
 use Rattle.service_state.proofs.state.ServiceState.reconfigure.Goals as goal
@@ -12,6 +13,9 @@ pub configure-requires-clause-accepted : goal.configure-requires-clause-accepted
 configure-requires-clause-accepted c =
     let it = reconfiguring (held c.self.inside) c.args.index c.args.word c.args.reply c.requires.accepted (due_as _ _ c.self.view_is c.requires.serving _ c.requires.due) in
     rw it.1.command it.1.accepted
+
+pub configure-requires-clause-profile : goal.configure-requires-clause-profile
+configure-requires-clause-profile c = profile_of c.self.inside.script (serving_as (held c.self.inside) c.args.self.now c.self.view_is c.requires.serving).valid
 
 pub configure-requires-clause-rest : goal.configure-requires-clause-rest
 configure-requires-clause-rest c =

@@ -1,4 +1,4 @@
-use Rattle.std.proofs.Common.{◌≡◌, [], Some, None, refl, sym, ap, ◌∙◌}
+use Rattle.std.proofs.Common.{◌≡◌, [], false, Some, None, refl, sym, ap, subst, ◌∙◌}
 use Rattle.capture_queue.specs.Captures.{Captures}
 use Rattle.buffer_manager.specs.Managed.{homes_with}
 use Rattle.buffer_manager.specs.Taking.{least_targets_in}
@@ -7,10 +7,31 @@ use Rattle.run_rows.proofs.Sending.{fresh_is}
 use Rattle.state_facts.specs.States.{targets_in}
 use Rattle.trace_model.specs.Send.{targets_in_order}
 use Rattle.service_parts.specs.Parts.{base}
+use Rattle.service_parts.specs.Moves.{may_go_by, move_by}
+use Rattle.cam_types.specs.declared.request.Queued.{Queued}
+use Rattle.run_model.specs.declared.step.StepName.TheVariants.{Send}
+use Rattle.service_state.specs.Serving.{Serving}
 use Rattle.service_state.proofs.Made.{held, makes_as, stays_as}
 use Rattle.service_state.proofs.Sending.{frame_is, no_buffer, none_taken, parked_of, same_targets, sending}
 use Rattle.service_state.proofs.state.ServiceState.send.Goals as goal
 use Rattle.basic_lemmas.proofs.Options.{is-none}
+
+none_waits : (s : Serving) → next_of s.parts.queue ≡ None → move_by s.script s.parts Send ≡ None
+none_waits s at = rw at refl
+
+held_back : (s : Serving) (next : Queued) → next_of s.parts.queue ≡ Some next → may_go_by s.script s.parts next ≡ false → move_by s.script s.parts Send ≡ None
+held_back s next at may = rw at (rw may refl)
+
+pub returns-in_err-next : goal.returns-in_err-next
+returns-in_err-next c =
+    rw c.from_residual.ensures (stays_as (held c.self.inside) c.args.self.now _ _ c.self.view_is (sym c.self.view_is) (none_waits (held c.self.inside) (sym c.peek.ensures ∙ c.in_err-next.was)))
+
+pub returns-then-not-may_go : goal.returns-then-not-may_go
+returns-then-not-may_go c =
+    let s = held c.self.inside in
+    let next = c.in_ok-next.next in
+    let may : may_go_by s.script s.parts next ≡ false = subst (λ (x : Serving). may_go_by x.script x.parts next ≡ false) (sym c.self.view_is) (sym c.if-not-may_go.ensures) in
+    stays_as s c.args.self.now _ _ c.self.view_is (sym c.self.view_is) (held_back s next (sym c.in_ok-next.ensures) may)
 
 pub returns-in_err-targets : goal.returns-in_err-targets
 returns-in_err-targets c =

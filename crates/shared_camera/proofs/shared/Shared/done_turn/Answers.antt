@@ -1,4 +1,5 @@
-use Rattle.std.proofs.Common.{refl}
+use Rattle.std.proofs.lemmas.Grind.{common_steps}
+use Rattle.std.proofs.Common.{refl, arith}
 use Rattle.turn_lock.specs.Seats.{fixed_of, view}
 use Rattle.shared_camera.specs.Cameras.{script_of}
 use Rattle.shared_camera.proofs.Turning.{jobs-still, may-stay}
@@ -13,3 +14,12 @@ pub returns-clause-jobs : goal.returns-clause-jobs
 returns-clause-jobs g c =
     let old = c.enter-held.result.value.service in
     jobs-still (fixed_of script_of c.args.self.now.turnstile) (view c.args.seat.now) (view c.enter-held.new.seat) old old c.enter-held.ensures.turn (view c.leave.new.seat) c.leave.ensures.turn refl
+
+pub leave-requires-clause-count : goal.leave-requires-clause-count
+leave-requires-clause-count c = grind (arith, common_steps)
+
+pub returns-clause-turn : goal.returns-clause-turn
+returns-clause-turn c = grind (arith, common_steps)
+
+pub returns-clause-done : goal.returns-clause-done
+returns-clause-done c = grind (arith, common_steps)

@@ -1,0 +1,25 @@
+use Rattle.std.proofs.Common.{◌∙◌, ◌<◌, length, sym, ap, subst}
+use Rattle.std.proofs.lemmas.Bool.{false≢true}
+use Rattle.trace_model.specs.Legal.{IsLegal}
+use Rattle.trace_check.specs.Held.{held}
+use Rattle.trace_model.specs.Verdict.{IsVerdict}
+use Rattle.trace_check.proofs.Prefixes.{illegal-at, read-newest}
+use Rattle.trace_check.proofs.passing.judge_each_by.Goals as goal
+
+pub loop-position-preserved : goal.loop-position-preserved
+loop-position-preserved c =
+    let less : c.loop-position.position < length c.as_slice-entries.result.now = rw (c.as_slice-entries.ensures, ← c.len-position-end.ensures) c.loop-position-test.true in
+    let past = read-newest c.as_slice-entries.result.now c.loop-position.position _ less in
+    record {
+      legal = subst (IsLegal c.args.script.now) (sym past) (c.in_ok-allowed.ensures.allowed.0 c.if-not-allowed.false, c.loop-position.invariant.legal);
+      held = c.in_ok-allowed.ensures.held c.if-not-allowed.false ∙ ap (held c.args.script.now) (sym past);
+    }
+
+pub returns-then-not-allowed : goal.returns-then-not-allowed
+returns-then-not-allowed c =
+    let less : c.loop-position.position < length c.as_slice-entries.result.now = rw (c.as_slice-entries.ensures, ← c.len-position-end.ensures) c.loop-position-test.true in
+    rw (← c.as_slice-entries.ensures) (illegal-at c.args.script.now c.as_slice-entries.result.now c.loop-position.position _ c.rule_of.result less c.loop-position.invariant.legal (λ may. false≢true (sym c.if-not-allowed.true ∙ c.in_ok-allowed.ensures.allowed.1 may)) c.rule_of.ensures)
+
+pub returns : goal.returns
+returns c =
+    subst (λ trace. IsVerdict c.args.script.now trace c.judge_end_by.result) c.as_slice-entries.ensures c.judge_end_by.ensures
