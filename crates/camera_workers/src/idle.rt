@@ -42,7 +42,7 @@ pub(crate) struct Idle {
 }
 
 /// What a loop does next.
-#[derive(Clone, Copy, Debug, PartialEq, Eq)]
+#[derive(Clone, Copy)]
 pub(crate) enum Next {
     /// It asks for a turn: there may be work.
     Look,

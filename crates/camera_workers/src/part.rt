@@ -2,7 +2,7 @@
 use run_model::Kind;
 
 /// A part of the camera that a loop works for.
-#[derive(Clone, Copy, Debug, PartialEq, Eq)]
+#[derive(Clone, Copy)]
 pub(crate) enum Part {
     /// Begins the script's commands and answers them.
     Client,

@@ -12,7 +12,7 @@ use judge_entries::entry::{configures, is_closing_word, is_error_device, is_refu
 use trace_model::Entry;
 
 /// What stands: an accepted close or disconnect, a failure of the device, an accepted configuration.
-#[derive(Clone, Copy, Debug, PartialEq, Eq)]
+#[derive(Clone, Copy)]
 pub struct Standing {
     pub closed: bool,
     pub failed: bool,

@@ -6,7 +6,7 @@ use hal_model::HalEvent;
 use timeline_model::HalCall;
 
 /// Of each kind of call where the one began that is out.
-#[derive(Clone, Copy, Debug)]
+#[derive(Clone, Copy)]
 pub struct Calls {
     pub opening: Option<u32>,
     pub initializing: Option<u32>,
@@ -17,7 +17,7 @@ pub struct Calls {
 }
 
 /// A request in call, and the place where it began.
-#[derive(Clone, Copy, Debug)]
+#[derive(Clone, Copy)]
 pub struct Asked {
     pub frame: u32,
     pub place: u32,

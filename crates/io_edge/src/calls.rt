@@ -35,6 +35,13 @@ impl CallCount {
         }
     }
 
+    /// The calls so far.
+    pub(crate) fn made(&self) -> u64
+        ensures { result ≡ self.now.made }
+    {
+        self.made
+    }
+
     /// Counts a call. `Failed`, a fault that it counts, exactly where this call is to fail.
     pub(crate) fn begin(&mut self) -> Result<(), Failed>
         ensures fails { IsErr result ↔ Contains self.old.failing (one_more self.old.made) }

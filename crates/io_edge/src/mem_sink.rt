@@ -57,6 +57,13 @@ impl MemSink {
         })
     }
 
+    /// How often it was written to.
+    pub fn writes(&self) -> u64
+        ensures { result ≡ self.now.calls.made }
+    {
+        self.calls.made()
+    }
+
     /// What was written.
     pub fn bytes(&self) -> &[u8]
         ensures { result.now ≡ self.now.written }

@@ -44,6 +44,13 @@ impl MemSource {
             calls: CallCount::new(failing),
         }
     }
+
+    /// How often it was read.
+    pub fn reads(&self) -> u64
+        ensures { result ≡ self.now.calls.made }
+    {
+        self.calls.made()
+    }
 }
 
 impl Source for MemSource {

@@ -1,7 +1,6 @@
 //! A command of the camera over ends in memory whose calls fail in turn: the words are the command's, and the standard
 //! input is its input. It writes one line with what it tried.
 
-mod counted;
 mod once;
 mod tries;
 

@@ -7,7 +7,7 @@ use text_parts::TextRefused;
 use trace_reader::TraceRefused;
 
 /// Why nothing was tried.
-#[derive(Clone, Copy, Debug, PartialEq, Eq)]
+#[derive(Clone, Copy)]
 pub enum NotTried {
     /// The words name nothing that can be tried.
     Words,

@@ -9,7 +9,7 @@ use timeline_model::{HalCall, Kind, Look, Seat};
 
 /// A track: a thread of a process, as the trace events call them. Process 1 has what the whole camera does, and each
 /// stream has a process of its own, whose threads are its rows.
-#[derive(Clone, Copy, Debug, PartialEq, Eq)]
+#[derive(Clone, Copy)]
 pub struct Track {
     pub process: u64,
     pub thread: u64,

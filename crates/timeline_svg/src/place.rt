@@ -5,7 +5,7 @@ ghost use Rattle.timeline_svg.specs.Places.{bottom, call_y, height, lane_height,
 use timeline_model::{HalCall, Kind, Look, Piece, Seat};
 
 /// Which lanes there are, and how many rows that of a stream has.
-#[derive(Clone, Copy, Debug, PartialEq, Eq)]
+#[derive(Clone, Copy)]
 pub struct Layout {
     pub kind: Kind,
     pub rows: u8,

@@ -1,7 +1,6 @@
 //! One run of a command over ends in memory.
 ghost use Rattle.std.specs.Prelude.{◌<◌};
 
-use super::counted::{CountedSink, CountedSource};
 use camera_top::{OpenGate, camera_main};
 use io_edge::{MemSink, MemSource, NoMemory};
 use std::alloc::Global;
@@ -18,7 +17,7 @@ pub struct Command<'a> {
 }
 
 /// The call that fails, counted from 1.
-#[derive(Clone, Copy, Debug, PartialEq, Eq)]
+#[derive(Clone, Copy)]
 pub enum Failing {
     Nothing,
     Read(u32),
@@ -53,8 +52,8 @@ pub fn run_once<T: Threads + Wait + Clock + Sync>(
         Failing::Write(call) => failing_writes.push(call)?,
     }
     let input = command.input.to_vec(alloc)?;
-    let mut source = CountedSource::over(MemSource::new(input, piece, failing_reads));
-    let mut sink = CountedSink::over(MemSink::new(alloc, room, piece, failing_writes)?);
+    let mut source = MemSource::new(input, piece, failing_reads);
+    let mut sink = MemSink::new(alloc, room, piece, failing_writes)?;
     let status = if asks_for_a_tool(command.words) {
         tools_main(alloc, command.words, &mut source, &mut sink)
     } else {
@@ -70,9 +69,14 @@ pub fn run_once<T: Threads + Wait + Clock + Sync>(
     Ok(Ended {
         status: status.number(),
         text: sink.bytes().to_vec(alloc)?,
-        reads: source.reads(),
-        writes: sink.writes(),
+        reads: calls_of(source.reads()),
+        writes: calls_of(sink.writes()),
     })
+}
+
+/// The calls of an end, of which at most so many can be told to fail.
+fn calls_of(calls: u64) -> u32 {
+    u32::try_from(calls).unwrap_or(u32::MAX)
 }
 
 /// Whether the words are those of the second program alone. `help` is a word of both.

@@ -17,7 +17,7 @@ const ROOM: u32 = 1 << 24;
 const MOST_BYTES: usize = 300_000_000;
 
 /// What was tried.
-#[derive(Clone, Copy, Debug, PartialEq, Eq)]
+#[derive(Clone, Copy)]
 pub struct Tally {
     /// How the command ends where no call fails.
     pub status: u8,

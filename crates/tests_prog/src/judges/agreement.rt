@@ -9,7 +9,7 @@ use trace_check::{check, check_plain};
 use trace_model::{TraceList, Verdict};
 
 /// The places of a trace that are changed, counted from 0.
-#[derive(Clone, Copy, Debug, PartialEq, Eq)]
+#[derive(Clone, Copy)]
 pub struct Places {
     pub first: usize,
     /// How far each lies behind the one before.
@@ -17,7 +17,7 @@ pub struct Places {
 }
 
 /// What was judged.
-#[derive(Clone, Copy, Debug, PartialEq, Eq)]
+#[derive(Clone, Copy)]
 pub struct Tally {
     /// The entries of the trace.
     pub entries: u32,

@@ -6,7 +6,7 @@ use std::alloc::Global;
 use trace_model::{Entry, TraceList};
 
 /// What is done to a trace at a place.
-#[derive(Clone, Copy, Debug, PartialEq, Eq)]
+#[derive(Clone, Copy)]
 pub enum Change {
     LeftOut,
     Doubled,

@@ -15,7 +15,7 @@ const ROOM: u32 = 1 << 22;
 const IN_TIME: u64 = 3;
 
 /// What was seen of a run.
-#[derive(Clone, Copy, Debug, PartialEq, Eq)]
+#[derive(Clone, Copy)]
 pub struct Tried {
     /// How the run ended.
     pub status: u8,
