@@ -1,5 +1,5 @@
 -- What an answer says of the sink's count of faults.
-use Rattle.std.proofs.Common.{◌≡◌, ◌≢◌, ◌≤◌, ◌⊎◌, ℕ, List, Option, inl, inr, arith}
+use Rattle.std.proofs.Common.{◌≡◌, ◌≢◌, ◌≤◌, ◌⊎◌, ℕ, List, Option, Some, None, IfSome, inl, inr, arith, refl}
 use Rattle.io_edge.specs.States.{SinkState}
 use Rattle.call_parts.specs.Answers.{Answers, AreAnswers, TellsBy}
 use Rattle.call_parts.specs.Ends.{CountsSink, CountsSource, ReadsBy}
@@ -40,3 +40,8 @@ stays status before after other same = record { failed = λ is. absurd (other is
 pub reads_nothing : (limit status : ℕ) (before after : Option (List ℕ)) → (status ≡ 3) ⊎ (status ≡ 5) → ReadsBy limit status before after
 reads_nothing limit status before after (inl h) = record { done = λ is. absurd (omega (arith, h, is)); answered = λ three _. absurd (three h) }
 reads_nothing limit status before after (inr h) = record { done = λ is. absurd (omega (arith, h, is)); answered = λ _ five. absurd (five h) }
+
+-- where there is no memory, nothing is answered
+pub nothing_read : (most : Option ℕ) (before after : Option (List ℕ)) → IfSome most (λ limit. ReadsBy limit 5 before after)
+nothing_read None before after = tt
+nothing_read (Some limit) before after = reads_nothing limit 5 before after (inr refl)

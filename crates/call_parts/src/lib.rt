@@ -18,7 +18,7 @@ mod write;
 pub use input::{InputWork, answer_input};
 pub use output::{Output, named_profile};
 pub use own_script::{for_first_stream, plain_script, small_stream};
-pub use program::{code_of, words_of};
+pub use program::{as_words, code_of, words_of};
 pub use reading::{
     LineText, named_number, number_from_to, one_number_from_to, read_text, two_numbers,
 };

@@ -1,5 +1,5 @@
 //! What a program is called with, and the number that it ends with.
-ghost use Rattle.std.specs.Prelude.{◌≡◌, drop, IfOk};
+ghost use Rattle.std.specs.Prelude.{◌≡◌, drop, map, string_bytes, IfOk};
 ghost use Rattle.std.specs.Process.{exit_status};
 ghost use Rattle.call_parts.specs.Program.{number_of};
 
@@ -44,6 +44,17 @@ fn behind_the_name(alloc: Global, mut args: Args) -> Result<Vec<String>, NoMemor
     let _name = args.next();
     for text in args {
         words.push(text)?;
+    }
+    Ok(words)
+}
+
+/// The words of a process as a call takes them, in their order.
+pub fn as_words(alloc: Global, texts: &[String]) -> Result<Vec<&str>, NoMemory>
+    ensures { IfOk result (λ words. map (λ word. word.now) words.items ≡ map string_bytes texts.now) }
+{
+    let mut words = Vec::new(alloc);
+    for text in texts {
+        words.push(text.as_str())?;
     }
     Ok(words)
 }

@@ -1,22 +1,12 @@
 //! The program: it hands the words, standard input and standard output to the top call, and ends with its status.
 #![tactic(auto)]
 
-ghost use Rattle.std.specs.Prelude.{◌≡◌, ◌≢◌, ◌≤◌, ℕ, List, false, is_some, map, string_bytes, IfOk, IfSome};
-ghost use Rattle.std.specs.Borrow.{Bor};
-ghost use Rattle.call_parts.specs.Ends.{CountsSink, CountsSource, ReadsBy};
+ghost use Rattle.std.specs.Prelude.{◌≤◌};
 ghost use Rattle.call_parts.specs.Program.{number_of};
-ghost use Rattle.camera_top.specs.Commands.{TellsOf};
-ghost use Rattle.camera_top.specs.Words.{limit_of};
-ghost use Rattle.text_parts.specs.Forms.{form_of};
-ghost use Rattle.call_parts.specs.Status.{status_number};
-
-#[cfg(test)]
-mod gated;
 
 use call_parts::{code_of, words_of};
-use camera_top::{OpenGate, Status, camera_main};
-use io_edge::{NoMemory, Sink, Source, StdSink, StdSource};
-use std::alloc::Global;
+use camera_top::{Status, answer_texts};
+use io_edge::{NoMemory, StdSink, StdSource};
 use std::process::ExitCode;
 use std::sync::Wait;
 use std::thread::Threads;
@@ -33,44 +23,11 @@ fn run<T: Threads + Wait + Clock + Sync>(threads: &T, rt: &HostRuntime) -> Resul
     let mut source = StdSource::new(rt)?;
     let mut sink = StdSink::new(rt)?;
     let texts = words_of(rt)?;
-    answer(
+    answer_texts(
         threads,
         rt.alloc(),
         texts.as_slice(),
         &mut source,
         &mut sink,
     )
-}
-
-/// Runs the top call on the words. Where there is no memory to hand them over, nothing is written.
-fn answer<R: Threads + Wait + Clock + Sync, S: Source, K: Sink>(
-    rt: &R,
-    alloc: Global,
-    texts: &[String],
-    source: &mut S,
-    sink: &mut K,
-) -> Result<Status, NoMemory>
-    // What the top call says of words with these texts.
-    ensures tells { (words : List (Bor (List ℕ))) → map (λ word. word.now) words ≡ map string_bytes texts.now →
-        IfOk result (λ status. TellsOf (form_of words) (S.left source.old) (status_number status)
-        (K.state sink.old) (K.state sink.new)) }
-    // By the number that the program ends with: the source's count of faults rose at 3 alone, and the sink's at 4 alone;
-    // at 3 and 5, and so where there is no memory to hand the words over, nothing was written.
-    ensures source { CountsSource (number_of result) (S.faults source.old) (S.faults source.new) }
-    ensures sink { CountsSink (number_of result) (K.state sink.old) (K.state sink.new) }
-    // At 0 a form that reads has read the source to its end; where it has another answer, too, or there is more than the
-    // limit. Other words leave the source as it is.
-    ensures read { (words : List (Bor (List ℕ))) → map (λ word. word.now) words ≡ map string_bytes texts.now →
-        IfSome (limit_of (form_of words)) (λ limit. ReadsBy limit (number_of result) (S.left source.old)
-        (S.left source.new)) }
-    ensures unread { (words : List (Bor (List ℕ))) → map (λ word. word.now) words ≡ map string_bytes texts.now →
-        is_some (limit_of (form_of words)) ≡ false → (S.left source.new ≡ S.left source.old)
-        × (S.faults source.new ≡ S.faults source.old) × (number_of result ≢ 1) × (number_of result ≢ 3) }
-    ensures known { number_of result ≤ 5 }
-{
-    let mut words = Vec::new(alloc);
-    for text in texts {
-        words.push(text.as_str())?;
-    }
-    Ok(camera_main(alloc, rt, words.as_slice(), source, sink, &OpenGate))
 }

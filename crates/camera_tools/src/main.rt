@@ -2,20 +2,13 @@
 //! its status.
 #![tactic(auto)]
 
-ghost use Rattle.std.specs.Prelude.{◌≡◌, ◌≢◌, ◌≤◌, ℕ, List, false, is_some, map, string_bytes, IfOk, IfSome};
-ghost use Rattle.std.specs.Borrow.{Bor};
-ghost use Rattle.call_parts.specs.Ends.{CountsSink, CountsSource, ReadsBy};
+ghost use Rattle.std.specs.Prelude.{◌≤◌};
 ghost use Rattle.call_parts.specs.Program.{number_of};
-ghost use Rattle.tools_top.specs.Commands.{TellsOfTool};
-ghost use Rattle.tools_top.specs.Words.{limit_of};
-ghost use Rattle.tools_top.specs.Tools.{tool_of};
-ghost use Rattle.call_parts.specs.Status.{status_number};
 
 use call_parts::{code_of, words_of};
-use io_edge::{NoMemory, Sink, Source, StdSink, StdSource};
-use std::alloc::Global;
+use io_edge::{NoMemory, StdSink, StdSource};
 use std::process::ExitCode;
-use tools_top::{Status, tools_main};
+use tools_top::{Status, answer_texts};
 
 fn main(rt: HostRuntime) -> ExitCode {
     code_of(run(&rt))
@@ -28,37 +21,5 @@ fn run(rt: &HostRuntime) -> Result<Status, NoMemory>
     let mut source = StdSource::new(rt)?;
     let mut sink = StdSink::new(rt)?;
     let texts = words_of(rt)?;
-    answer(rt.alloc(), texts.as_slice(), &mut source, &mut sink)
-}
-
-/// Runs the top call on the words. Where there is no memory to hand them over, nothing is written.
-fn answer<S: Source, K: Sink>(
-    alloc: Global,
-    texts: &[String],
-    source: &mut S,
-    sink: &mut K,
-) -> Result<Status, NoMemory>
-    // What the top call says of words with these texts.
-    ensures tells { (words : List (Bor (List ℕ))) → map (λ word. word.now) words ≡ map string_bytes texts.now →
-        IfOk result (λ status. TellsOfTool (tool_of words) (S.left source.old) (status_number status)
-        (K.state sink.old) (K.state sink.new)) }
-    // By the number that the program ends with: the source's count of faults rose at 3 alone, and the sink's at 4 alone;
-    // at 3 and 5, and so where there is no memory to hand the words over, nothing was written.
-    ensures source { CountsSource (number_of result) (S.faults source.old) (S.faults source.new) }
-    ensures sink { CountsSink (number_of result) (K.state sink.old) (K.state sink.new) }
-    // At 0 a tool that reads has read the source to its end; where it has another answer, too, or there is more than the
-    // limit. Words that ask for none leave the source as it is.
-    ensures read { (words : List (Bor (List ℕ))) → map (λ word. word.now) words ≡ map string_bytes texts.now →
-        IfSome (limit_of (tool_of words)) (λ limit. ReadsBy limit (number_of result) (S.left source.old)
-        (S.left source.new)) }
-    ensures unread { (words : List (Bor (List ℕ))) → map (λ word. word.now) words ≡ map string_bytes texts.now →
-        is_some (limit_of (tool_of words)) ≡ false → (S.left source.new ≡ S.left source.old)
-        × (S.faults source.new ≡ S.faults source.old) × (number_of result ≢ 1) × (number_of result ≢ 3) }
-    ensures known { number_of result ≤ 5 }
-{
-    let mut words = Vec::new(alloc);
-    for text in texts {
-        words.push(text.as_str())?;
-    }
-    Ok(tools_main(alloc, words.as_slice(), source, sink))
+    answer_texts(rt.alloc(), texts.as_slice(), &mut source, &mut sink)
 }

@@ -2,6 +2,7 @@
 #![tactic(auto)]
 
 mod commands;
+mod texts;
 
 pub use arbiter_call::arbiter_call;
 pub use auto_call::auto_call;
@@ -11,3 +12,4 @@ pub use logical_call::logical_call;
 pub use play_calls::{check_call, convert_call, gen_call, play_call};
 pub use reprocess_call::reprocess_call;
 pub use run_calls::{Gate, OpenGate, finish_run, run_call};
+pub use texts::answer_texts;

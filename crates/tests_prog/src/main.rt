@@ -6,6 +6,7 @@ mod device;
 mod ends;
 mod failure;
 mod judges;
+mod meeting;
 mod workers;
 
 use failure::NotTried;

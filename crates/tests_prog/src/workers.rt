@@ -1,12 +1,12 @@
-//! `run` over ends in memory, at a gate where so many fills wait for one another. The words are how many workers there
-//! are and how many fills; standard input is the script. It writes one line with what it saw.
+//! `run` over ends in memory, at a gate where so many fills wait for one another, or the first waits for so many. The
+//! words are how many workers there are and how many fills, with `first` behind them where the first alone waits;
+//! standard input is the script. It writes one line with what it saw.
 
-mod meeting;
 mod tried;
 
 use crate::failure::NotTried;
 use crate::input_of;
-use meeting::Meeting;
+use crate::meeting::{Held, Meeting};
 use std::sync::Wait;
 use std::thread::Threads;
 use std::time::Clock;
@@ -21,12 +21,12 @@ pub fn try_script<T: Threads + Wait + Clock + Sync>(
     rt: &HostRuntime,
     words: &[String],
 ) -> Result<bool, NotTried> {
-    let [workers, fills] = words else {
+    let Some((workers, fills)) = words.split_first() else {
         return Err(NotTried::Words);
     };
-    let fills = fills.as_str().parse().map_err(|_| NotTried::Words)?;
+    let held = held_by(fills)?;
     let script = input_of(rt, SCRIPT_BYTES)?;
-    let gate = Meeting::of(threads, fills);
+    let gate = Meeting::of(threads, held);
     let tried = try_run(
         threads,
         rt.alloc(),
@@ -36,4 +36,14 @@ pub fn try_script<T: Threads + Wait + Clock + Sync>(
     )?;
     println!(rt; "{tried}")?;
     Ok(tried.is_right())
+}
+
+/// Which fills wait, by the words.
+fn held_by(words: &[String]) -> Result<Held, NotTried> {
+    let number = |fills: &String| fills.as_str().parse().map_err(|_| NotTried::Words);
+    match words {
+        [fills] => Ok(Held::Each(number(fills)?)),
+        [fills, first] if first.as_str() == "first" => Ok(Held::First(number(fills)?)),
+        _ => Err(NotTried::Words),
+    }
 }

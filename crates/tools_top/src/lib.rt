@@ -2,8 +2,10 @@
 #![tactic(auto)]
 
 mod commands;
+mod texts;
 mod tool;
 
 pub use call_parts::Status;
 pub use commands::{help_call, tools_main};
+pub use texts::answer_texts;
 pub use tool::{Tool, tool_of};

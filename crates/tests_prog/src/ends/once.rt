@@ -1,7 +1,8 @@
 //! One run of a command over ends in memory.
 ghost use Rattle.std.specs.Prelude.{◌<◌};
 
-use camera_top::{OpenGate, camera_main};
+use crate::meeting::{Held, Meeting};
+use camera_top::camera_main;
 use io_edge::{MemSink, MemSource, NoMemory};
 use std::alloc::Global;
 use std::sync::Wait;
@@ -63,7 +64,7 @@ pub fn run_once<T: Threads + Wait + Clock + Sync>(
             command.words,
             &mut source,
             &mut sink,
-            &OpenGate,
+            &Meeting::of(threads, Held::Nobody),
         )
     };
     Ok(Ended {

@@ -1,5 +1,5 @@
 //! One run on workers over ends in memory, and what is seen of it.
-use super::meeting::Meeting;
+use crate::meeting::Meeting;
 use camera_top::{Status, camera_main};
 use io_edge::{MemSink, MemSource, NoMemory};
 use std::alloc::Global;

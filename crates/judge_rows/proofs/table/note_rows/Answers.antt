@@ -1,3 +1,4 @@
+use Rattle.std.proofs.lemmas.Grind.{common_steps}
 use Rattle.std.proofs.Common.{◌∙◌, ◌<◌, ◌+◌, length, ap, arith}
 use Rattle.std.specs.List.{list_all}
 use Rattle.state_facts.specs.Row.{row_after}
@@ -25,3 +26,6 @@ loop-place-preserved c =
       within = omega arith;
       len = c.keep-kept.ensures.len ∙ inv.len;
     }
+
+pub returns : goal.returns
+returns c = grind (arith, common_steps)

@@ -1,4 +1,5 @@
-use Rattle.std.proofs.Common.{List, ℕ, subst}
+use Rattle.std.proofs.lemmas.Grind.{common_steps}
+use Rattle.std.proofs.Common.{List, ℕ, subst, arith}
 use Rattle.metadata.specs.Fitting.{LongFits}
 use Rattle.metadata.specs.Spelling.{data_of}
 use Rattle.metadata.specs.Values.{payload}
@@ -14,3 +15,9 @@ loop-entry-preserved c =
       written = wrote_more f c.args.out.now.items c.loop-entry.out.items c.put_data.new.out.items c.args.entries.now c.loop-entry.entry-index e e c.loop-entry.invariant.written c.loop-entry-test.true c.entry-item.is c.in_ok-put_data.ensures.bytes;
       fit = All_more LongFits c.args.entries.now c.loop-entry.entry-index e c.loop-entry-test.true c.loop-entry.invariant.fit (subst LongFits c.entry-item.is c.in_ok-put_data.ensures.fit);
     }
+
+pub returns-clause-bytes : goal.returns-clause-bytes
+returns-clause-bytes c = grind (arith, common_steps)
+
+pub returns-clause-fit : goal.returns-clause-fit
+returns-clause-fit c = grind (arith, common_steps)

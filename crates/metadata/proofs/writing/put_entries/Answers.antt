@@ -1,3 +1,4 @@
+use Rattle.std.proofs.lemmas.Grind.{common_steps}
 use Rattle.std.proofs.Common.{length, subst, ap, arith}
 use Rattle.metadata.specs.Fitting.{ShortFits}
 use Rattle.metadata.specs.Spelling.{data_of}
@@ -22,3 +23,9 @@ overflow_cast-place c = grind (arith, area_front)
 
 pub overflow_add-place : goal.overflow_add-place
 overflow_add-place c = grind (arith, area_front)
+
+pub returns-clause-bytes : goal.returns-clause-bytes
+returns-clause-bytes c = grind (arith, common_steps)
+
+pub returns-clause-fit : goal.returns-clause-fit
+returns-clause-fit c = grind (arith, common_steps)

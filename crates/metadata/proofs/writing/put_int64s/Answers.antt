@@ -1,4 +1,5 @@
-use Rattle.std.proofs.Common.{get_or, rules}
+use Rattle.std.proofs.lemmas.Grind.{common_steps}
+use Rattle.std.proofs.Common.{get_or, rules, arith}
 use Rattle.std.specs.Prelude.{FitsSigned, pos}
 use Rattle.std.specs.Int.{w64, cast_signed, cast_unsigned}
 use Rattle.std.proofs.lemmas.Int.{to_z-of_z}
@@ -14,3 +15,9 @@ loop-n-preserved c =
       written = wrote_more int64_bytes c.args.out.now.items c.loop-n.out.items c.put_int64.new.out.items c.args.numbers.now c.loop-n.n-index (pos 0) (cast_signed w64 (cast_unsigned w64 z)) c.loop-n.invariant.written c.loop-n-test.true (to_z-of_z w64 z fits) c.in_ok-put_int64.ensures.bytes;
       fit = All_more (FitsSigned w64) c.args.numbers.now c.loop-n.n-index (pos 0) c.loop-n-test.true c.loop-n.invariant.fit fits;
     }
+
+pub returns-clause-bytes : goal.returns-clause-bytes
+returns-clause-bytes c = grind (arith, common_steps)
+
+pub returns-clause-fit : goal.returns-clause-fit
+returns-clause-fit c = grind (arith, common_steps)

@@ -1,0 +1,22 @@
+use Rattle.std.proofs.Common.{rules, ◌≡◌, sym, ap, ◌∙◌}
+use Rattle.call_parts.proofs.Sinks.{nothing_read}
+use Rattle.call_parts.specs.Program.{number_of}
+use Rattle.tools_top.specs.Words.{limit_of}
+use Rattle.tools_top.specs.Tools.{tool_of}
+use Rattle.tools_top.proofs.Words.{same_tool}
+use Rattle.tools_top.proofs.texts.answer_texts.Goals as goal
+
+pub returns-in_err-words-clause-read : goal.returns-in_err-words-clause-read
+returns-in_err-words-clause-read g c words same =
+    let five : number_of c.from_residual.result ≡ 5 = search rules in
+    rw five (nothing_read (limit_of (tool_of words)) (g.S.Source.left c.args.source.now) (g.S.Source.left c.args.source.now))
+
+pub returns-clause-read : goal.returns-clause-read
+returns-clause-read g c words same =
+    rw (same_tool c.as_slice.result.now words (ap (λ items. map (λ word. word.now) items) c.as_slice.ensures.value ∙ (c.in_ok-words.ensures ∙ sym same))) at c.tools_main.ensures.read
+
+pub returns-clause-unread : goal.returns-clause-unread
+returns-clause-unread g c words same none =
+    let alike = same_tool c.as_slice.result.now words (ap (λ items. map (λ word. word.now) items) c.as_slice.ensures.value ∙ (c.in_ok-words.ensures ∙ sym same)) in
+    let told = c.tools_main.ensures.unread (rw alike none) in
+    (told.0, told.1, told.2, told.3)
