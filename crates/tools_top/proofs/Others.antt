@@ -1,5 +1,5 @@
 -- Which statuses a tool that reads nothing has not.
-use Rattle.std.proofs.Common.{◌≡◌, ◌≢◌, ℕ, List, inl, inr, sym, ◌∙◌}
+use Rattle.std.proofs.Common.{◌≢◌, ℕ, List, inl, inr, sym, ◌∙◌}
 use Rattle.io_edge.specs.States.{SinkState}
 use Rattle.call_parts.specs.Answers.{Answers}
 

@@ -1,4 +1,4 @@
-use Rattle.std.proofs.Common.{rules, ◌≡◌, sym, ap, ◌∙◌}
+use Rattle.std.proofs.Common.{rules, ◌≡◌, sym, ap, map, ◌∙◌}
 use Rattle.call_parts.proofs.Sinks.{nothing_read}
 use Rattle.call_parts.specs.Program.{number_of}
 use Rattle.camera_top.specs.Words.{limit_of}
