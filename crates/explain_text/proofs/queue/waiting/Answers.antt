@@ -1,4 +1,5 @@
-use Rattle.std.proofs.Common.{Bool, add-one, get_or, not, reverse, take}
+use Rattle.std.proofs.lemmas.Grind.{common_steps}
+use Rattle.std.proofs.Common.{Bool, add-one, get_or, not, reverse, take, arith}
 use Rattle.std.proofs.lemmas.Option.{slice_get-get_or}
 use Rattle.cam_types.specs.declared.request.WaitingItem.{WaitingItem}
 use Rattle.cam_types.specs.declared.script.Word.TheVariants.{Configure}
@@ -16,3 +17,6 @@ loop-entry-preserved c =
     let entry : Entry = get_or entries c.loop-entry.entry-index (Begin Configure) in
     let past = newest entries c.loop-entry.entry-index entry (slice_get-get_or entries c.loop-entry.entry-index (Begin Configure) c.loop-entry-test.true) in
     rw (add-one, past) (waits_more kept c.args.script.now (reverse (take c.loop-entry.entry-index entries)) entry _ _ c.loop-entry.invariant c.in_ok-put_waiting.ensures)
+
+pub returns : goal.returns
+returns c = grind (arith, common_steps)

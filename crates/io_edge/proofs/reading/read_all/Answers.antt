@@ -1,3 +1,4 @@
+use Rattle.std.proofs.lemmas.Grind.{common_steps}
 use Rattle.std.proofs.Common.{◌≡◌, ◌+◌, ◌≤◌, ◌++◌, arith, length, length-append, length-take, take}
 use Rattle.std.proofs.lemmas.Result.{err_from_is_err_and}
 use Rattle.std.proofs.KnownBytes.{Consumes-trans}
@@ -20,3 +21,9 @@ returns-in_err-extend_from_slice-clause-taken g c =
     simp (length-append, length-take) (omega (arith, c.in_ok-count.ensures.bound)) in
     let fault = err_from_is_err_and c.from_residual-in_err-extend_from_slice.result c.from_residual-in_err-extend_from_slice.ensures.1 in
     (kept ++ more, Consumes-trans _ _ _ kept more c.loop-bytes.invariant.taken c.in_ok-count.ensures.bytes.0, rw (fault.1) within)
+
+pub returns-then-count-spare-clause-answer : goal.returns-then-count-spare-clause-answer
+returns-then-count-spare-clause-answer c = grind (arith, common_steps)
+
+pub loop-bytes-preserved : goal.loop-bytes-preserved
+loop-bytes-preserved c = grind (arith, common_steps)

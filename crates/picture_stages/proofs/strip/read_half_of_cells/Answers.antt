@@ -1,3 +1,4 @@
+use Rattle.std.proofs.lemmas.Grind.{common_steps}
 use Rattle.std.proofs.Common.{◌≡◌, ◌+◌, ◌-◌, ◌*◌, ◌/◌, ◌%◌, get_or, refl, ap, ◌∙◌, arith}
 use Rattle.cam_types.specs.Picture.{scaled}
 use Rattle.picture_stages.proofs.PartLemmas.{in-slice, mean-above}
@@ -17,3 +18,6 @@ returns-clause-green c = λ k h.
 pub returns-clause-blue : goal.returns-clause-blue
 returns-clause-blue c = λ k h.
     c.colour_cells.ensures.blue k h ∙ ap scaled (c.part_half.ensures.right (k + 80) (omega arith) ∙ in-slice c.args.values.now (c.args.y * 160) (c.args.y * 160 + 960 - c.args.y * 160) (half_place (k + 80) + 1) ((k / 40 * 4 + c.args.y + 1) * 160 + (k % 40 * 4 + 1)) (omega arith) (omega arith))
+
+pub part_half-requires-clause-values : goal.part_half-requires-clause-values
+part_half-requires-clause-values c = grind (arith, common_steps)

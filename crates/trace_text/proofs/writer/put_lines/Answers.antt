@@ -1,4 +1,5 @@
-use Rattle.std.proofs.Common.{◌≡◌, ◌∙◌, ◌+◌, ◌++◌, List, ℕ, ap, take, drop, rules}
+use Rattle.std.proofs.lemmas.Grind.{common_steps}
+use Rattle.std.proofs.Common.{◌≡◌, ◌∙◌, ◌+◌, ◌++◌, List, ℕ, ap, take, drop, rules, arith}
 use Rattle.std.specs.List.{flat_map}
 use Rattle.trace_text.specs.Spelling.{line_of}
 use Rattle.io_edge.proofs.Gathering.{put, put-broken}
@@ -27,3 +28,9 @@ loop-entry-preserved g c =
       so_far = put _ _ _ _ _ before _ c.line.result.now c.loop-entry.invariant.so_far c.in_ok-put.ensures.text line;
       uncounted = search rules;
     }
+
+pub line-requires : goal.line-requires
+line-requires c = grind (arith, common_steps)
+
+pub returns-clause-text : goal.returns-clause-text
+returns-clause-text c = grind (arith, common_steps)

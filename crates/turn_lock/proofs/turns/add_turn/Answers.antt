@@ -1,3 +1,4 @@
+use Rattle.std.proofs.lemmas.Grind.{common_steps}
 use Rattle.std.proofs.Common.{ℕ, ap, arith, vec_len}
 use Rattle.turn_lock.specs.Seats.{view}
 use Rattle.turn_lock.specs.declared.view.View.{View}
@@ -20,3 +21,6 @@ returns-clause-added g c =
     let old = c.enter-held.result.value.entries in
     let seen = ap (λ (v : View ℕ ℕ ℕ). v.seen) c.leave.ensures.turn.is in
     stands_last c.add-place.result old.items c.add-place.new.self.entries.items (view c.leave.new.seat).seen (vec_len old) c.args.entry (omega arith) seen c.add-place.ensures.added
+
+pub returns-clause-begins : goal.returns-clause-begins
+returns-clause-begins c = grind (arith, common_steps)
