@@ -6,7 +6,7 @@ use cam_types::{BufferId, DeviceFenceNo, FrameNo, RequestId, StreamIx};
 use trace_model::Entry;
 
 /// An entry that is allowed, as far as the past determines it, without what nobody can be asked to read.
-#[derive(Clone, Copy, Debug, PartialEq, Eq)]
+#[derive(Clone, Copy)]
 pub enum AllowedEntry {
     /// All of it.
     Whole(Entry),

@@ -6,7 +6,7 @@ use camera_arbiter::ArbiterLine;
 pub type LineList = Listing<ArbiterLine>;
 
 /// What a text asks for: 128 lines at most, each within its ranges.
-#[derive(Debug, Drop)]
+#[derive(Drop)]
 pub struct ArbiterText {
     /// How many cameras there are, 1 to 4.
     pub cameras: u32,

@@ -12,7 +12,7 @@ use std::alloc::Global;
 const STEP: u64 = 100_000;
 
 /// A line in front of the trace.
-#[derive(Clone, Copy, Debug, PartialEq, Eq)]
+#[derive(Clone, Copy)]
 pub enum AutoLine {
     /// A frame, its exposure in nanoseconds and its mean brightness.
     Frame {

@@ -2,7 +2,7 @@
 use cam_types::Listing;
 
 /// A scene that stands still for some frames.
-#[derive(Clone, Copy, Debug, PartialEq, Eq)]
+#[derive(Clone, Copy)]
 pub struct Scene {
     /// The test pattern: 0 solid, 1 bars.
     pub pattern: u8,
@@ -16,7 +16,7 @@ pub struct Scene {
 pub type SceneList = Listing<Scene>;
 
 /// What a text of automatic exposure asks for. The scenes have at most 64 frames together.
-#[derive(Debug, Drop)]
+#[derive(Drop)]
 pub struct AutoText {
     /// The mean brightness that is to be reached, 16 to 240.
     pub target: u32,

@@ -5,7 +5,7 @@ ghost use Rattle.call_parts.specs.Texts.{named_profile};
 use cam_types::{Profile, Script};
 
 /// What is written of a run.
-#[derive(Clone, Copy, Debug, PartialEq, Eq)]
+#[derive(Clone, Copy, PartialEq, Eq)]
 pub enum Output {
     /// Its whole trace.
     Trace,

@@ -29,7 +29,7 @@ impl Refusal {
 }
 
 /// What a client is answered.
-#[derive(Clone, Copy, Debug, PartialEq, Eq)]
+#[derive(Clone, Copy, PartialEq, Eq)]
 pub enum Answer {
     /// It gets the camera.
     Granted,
@@ -42,7 +42,7 @@ pub enum Answer {
 }
 
 /// A line of the log.
-#[derive(Clone, Copy, Debug, PartialEq, Eq)]
+#[derive(Clone, Copy)]
 pub enum LogLine {
     /// A session begins.
     Grant(Session),

@@ -2,7 +2,7 @@
 use crate::session::{ClientId, Session};
 
 /// What a client asks.
-#[derive(Clone, Copy, Debug, PartialEq, Eq)]
+#[derive(Clone, Copy)]
 pub enum ArbiterLine {
     /// It asks for a camera.
     Connect(Session),

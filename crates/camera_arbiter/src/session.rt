@@ -9,7 +9,7 @@ pub struct ClientId(pub u32);
 pub struct CameraId(pub u32);
 
 /// A client at a camera: from its grant until it is evicted or leaves.
-#[derive(Clone, Copy, Debug, PartialEq, Eq)]
+#[derive(Clone, Copy)]
 pub struct Session {
     pub client: ClientId,
     pub camera: CameraId,

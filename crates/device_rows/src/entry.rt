@@ -2,7 +2,7 @@
 use cam_types::{FrameNo, StreamIx};
 
 /// An error message (camera3.h, camera3_error_msg).
-#[derive(Clone, Copy, Debug, PartialEq, Eq)]
+#[derive(Clone, Copy)]
 pub enum ErrorEntry {
     /// ERROR_REQUEST: the capture of the frame failed whole.
     Request(FrameNo),

@@ -5,7 +5,7 @@ ghost use Rattle.device_rows.specs.Marks.{as_announced, if_of_stream, in_state, 
 use cam_types::{Four, RowView, SensorPlace, StreamIx, TargetState, TargetView};
 
 /// What changes in a row: one field, or one field of one target.
-#[derive(Clone, Copy, Debug, PartialEq, Eq)]
+#[derive(Clone, Copy)]
 pub enum Mark {
     /// The time of the shutter, in nanoseconds.
     Shutter(u64),

@@ -5,7 +5,7 @@ ghost use Rattle.digest_memory.specs.Keys.{key_of, turn_of};
 use cam_types::{Format, FrameNo, Settings, StreamSpec};
 
 /// What a picture of a stream that is offered depends on. Pictures with equal keys are equal.
-#[derive(Clone, Copy, Debug, PartialEq, Eq, Hash)]
+#[derive(Clone, Copy, PartialEq, Eq, Hash)]
 pub struct PictureKey {
     /// Whether the format is RAW16; else it is YUV.
     pub raw: bool,

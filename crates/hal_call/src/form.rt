@@ -1,7 +1,7 @@
 //! The forms of a report.
 
 /// For whom a report is written.
-#[derive(Clone, Copy, Debug, PartialEq, Eq)]
+#[derive(Clone, Copy, PartialEq, Eq)]
 pub enum Form {
     /// For a person: each breach with its lines and sentences.
     Person,

@@ -63,7 +63,7 @@ fn is_unlit(event: &HalEvent, row: &Row) -> bool
 
 /// Which requests are meant: those in flight, those outstanding, those of them that a flush left, and those that are
 /// newly complete and lack the notice of a buffer in error, or their shutter.
-#[derive(Clone, Copy, Debug, PartialEq, Eq)]
+#[derive(Clone, Copy)]
 pub enum Which {
     InFlight,
     Outstanding,

@@ -7,7 +7,7 @@ use crate::device::HalDevice;
 use cam_types::{BufferId, Four, FrameNo, StreamIx, TargetView};
 
 /// A target of an open frame: the framework's buffer, and which of its steps are ready.
-#[derive(Clone, Copy, Debug, PartialEq, Eq)]
+#[derive(Clone, Copy)]
 pub struct ReadyTarget {
     pub buffer: BufferId,
     pub may_fill: bool,
@@ -17,7 +17,7 @@ pub struct ReadyTarget {
 }
 
 /// An open frame, and which of its steps are ready.
-#[derive(Clone, Copy, Debug, PartialEq, Eq)]
+#[derive(Clone, Copy)]
 pub struct ReadyRow {
     pub frame: FrameNo,
     /// Its exposure is the next one.

@@ -12,7 +12,7 @@ use cam_types::{BufferId, FrameNo, PartialResult, StreamIx};
 use request_checks::{Plan, PlanStream};
 
 /// A good buffer that comes back: its number, and the SHA-256 of its picture.
-#[derive(Clone, Copy, Debug, PartialEq, Eq)]
+#[derive(Clone, Copy)]
 pub struct Delivered {
     pub buffer: BufferId,
     pub digest: [u8; 32],

@@ -286,7 +286,7 @@ fn add_faults(
 }
 
 /// Where an event stands: its line, and the device's partial result count.
-#[derive(Clone, Copy, Debug, PartialEq, Eq)]
+#[derive(Clone, Copy, PartialEq, Eq)]
 pub struct Place {
     pub line: u32,
     pub parts: u32,

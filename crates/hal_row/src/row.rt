@@ -241,7 +241,7 @@ pub fn note_row(
 }
 
 /// What stands where a request begins.
-#[derive(Clone, Copy, Debug, PartialEq, Eq)]
+#[derive(Clone, Copy)]
 pub struct Start {
     pub frame: u32,
     pub rank: u32,

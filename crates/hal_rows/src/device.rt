@@ -4,7 +4,7 @@ use cam_types::Listing;
 use hal_model::{HalStream, StreamMax};
 
 /// A call: whether it is out, and whether the device was initialized and dead at its last begin.
-#[derive(Clone, Copy, Debug, PartialEq, Eq)]
+#[derive(Clone, Copy)]
 pub struct Call {
     pub out: bool,
     pub initialized: bool,
@@ -12,7 +12,7 @@ pub struct Call {
 }
 
 /// The device. `top`: one above the greatest number of an accepted request; `begun`: how many requests were begun.
-#[derive(Debug, Drop)]
+#[derive(Drop)]
 pub struct Device {
     pub initialized: bool,
     pub init_begun: bool,

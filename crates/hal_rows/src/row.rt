@@ -5,7 +5,7 @@ use hal_model::HalTarget;
 
 /// A target: whether it is back, ok, good, in error; orderly: back as one that the strict order counts; other: as such
 /// a one that isn't ok.
-#[derive(Clone, Copy, Debug, PartialEq, Eq)]
+#[derive(Clone, Copy)]
 pub struct TargetRow {
     pub target: HalTarget,
     pub back: bool,
@@ -17,7 +17,7 @@ pub struct TargetRow {
 }
 
 /// A part of a request's metadata: its number, and whether it was seen.
-#[derive(Clone, Copy, Debug, PartialEq, Eq)]
+#[derive(Clone, Copy)]
 pub struct PartRow {
     pub number: u32,
     pub seen: bool,
@@ -26,7 +26,7 @@ pub struct PartRow {
 /// The row of a request. `rank`: how many requests were begun before it. From `same` to `excused`: what stood at its
 /// begin; the rest: what stands since. `notices`: the streams of its errors of buffers, each once. `before_flush`,
 /// `flushed`: accepted before the flush that began last, before one that ended ok. `passed`: complete before a point.
-#[derive(Debug, Drop)]
+#[derive(Drop)]
 pub struct Row {
     pub frame: u32,
     pub rank: u32,

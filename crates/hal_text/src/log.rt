@@ -4,7 +4,7 @@ use cam_types::Listing;
 use hal_model::EventList;
 
 /// A hal log, read from its text.
-#[derive(Debug, Drop)]
+#[derive(Drop)]
 pub struct HalLog {
     /// The device's partial result count, 1 to 16.
     pub parts: u32,

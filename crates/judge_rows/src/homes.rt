@@ -16,7 +16,7 @@ use std::marker::Model;
 use trace_model::{Entry, Sent};
 
 /// Where a buffer is.
-#[derive(Clone, Copy, Debug, PartialEq, Eq)]
+#[derive(Clone, Copy, PartialEq, Eq)]
 pub enum Home {
     Pool,
     Device,

@@ -15,7 +15,7 @@ use trace_model::{Entry, Sent};
 
 /// An open frame: its settings and whether its request repeats, the time of its shutter and the parts it has, whether
 /// its request and its result failed, whether it was sent when the device stopped, and its buffers.
-#[derive(Clone, Copy, Debug, PartialEq, Eq)]
+#[derive(Clone, Copy)]
 pub struct OpenRow {
     pub frame: FrameNo,
     pub settings: Settings,

@@ -13,7 +13,7 @@ use trace_model::{Entry, Sent};
 
 /// A buffer that an open frame was sent with: whether it came back or its error is announced, the device fence with
 /// which it came back early, and whether the device is done with it.
-#[derive(Clone, Copy, Debug, PartialEq, Eq)]
+#[derive(Clone, Copy)]
 pub struct OpenTarget {
     pub sent: Sent,
     pub returned: bool,

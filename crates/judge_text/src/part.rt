@@ -5,7 +5,7 @@ ghost use Rattle.judge_text.specs.Parts.{first_line, is_trace_line, script_part,
 use text_parts::{next_loose_word, split_at_byte, without_return};
 
 /// An input in its two parts.
-#[derive(Clone, Copy, Debug)]
+#[derive(Clone, Copy)]
 pub struct Parts<'i> {
     /// The text of the script.
     pub script: &'i [u8],

@@ -31,7 +31,7 @@ pub enum LogicalRefused {
 }
 
 /// What became of a step.
-#[derive(Clone, Copy, Debug, PartialEq, Eq)]
+#[derive(Clone, Copy)]
 pub enum LogicalStep {
     /// The step was made, by camera 0 or by camera 1.
     Did {

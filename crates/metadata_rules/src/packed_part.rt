@@ -13,7 +13,7 @@ use metadata::Packed;
 pub const PART_BYTES: usize = 56;
 
 /// The packed form of a part: the first `used` of the bytes. Zeros follow it.
-#[derive(Clone, Copy, Debug, PartialEq, Eq)]
+#[derive(Clone, Copy, PartialEq, Eq)]
 pub struct PartBytes {
     pub used: u32,
     pub bytes: [u8; PART_BYTES],

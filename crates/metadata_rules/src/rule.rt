@@ -63,7 +63,7 @@ pub fn range_fault(settings: Settings) -> Option<u32>
 }
 
 /// Settings with a name.
-#[derive(Clone, Copy, Debug, PartialEq, Eq)]
+#[derive(Clone, Copy, PartialEq, Eq)]
 pub enum Template {
     Preview,
     Still,

@@ -22,7 +22,7 @@ use std::marker::Model;
 const OUTPUT_BUFFERS: u32 = 12;
 
 /// What a step did.
-#[derive(Clone, Copy, Debug, PartialEq, Eq)]
+#[derive(Clone, Copy)]
 pub enum ReStep {
     /// The step that the pick chose, which is this line.
     Did(ReEntry),

@@ -3,18 +3,18 @@
 use cam_types::{BufferId, Four, FrameNo, StreamIx};
 
 /// The number of an input buffer, from 0 on: there are three.
-#[derive(Clone, Copy, Debug, PartialEq, Eq)]
+#[derive(Clone, Copy, PartialEq, Eq)]
 pub struct InputId(pub u32);
 
 /// The buffer that a request has for an output.
-#[derive(Clone, Copy, Debug, PartialEq, Eq)]
+#[derive(Clone, Copy)]
 pub struct ReOut {
     pub stream: StreamIx,
     pub buffer: BufferId,
 }
 
 /// One line of a run. Requests are numbered from 0 on, as they are called; `frame` is a request's number.
-#[derive(Clone, Copy, Debug, PartialEq, Eq)]
+#[derive(Clone, Copy)]
 pub enum ReEntry {
     /// The command at this place, from 0 on, is called and waits: it is a request.
     Called {

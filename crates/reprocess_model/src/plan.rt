@@ -20,7 +20,7 @@ pub const PLAN_PICKS: u32 = 1_024;
 pub const PLAN_COMMANDS: u32 = 64;
 
 /// A client's command.
-#[derive(Clone, Copy, Debug, PartialEq, Eq)]
+#[derive(Clone, Copy)]
 pub enum ReCommand {
     /// A picture of these settings is to be made smaller.
     Request(Settings),
@@ -36,7 +36,7 @@ pub type ReList = Listing<ReCommand>;
 
 /// What a reprocessing device does: makes pictures of the input's size into pictures of the outputs' sizes, in pixels.
 /// Pick number j chooses step j.
-#[derive(Debug, Drop)]
+#[derive(Drop)]
 pub struct Plan {
     pub input: StreamSpec,
     pub outputs: Four<StreamSpec>,

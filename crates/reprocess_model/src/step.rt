@@ -4,7 +4,7 @@ use cam_types::{FrameNo, StreamIx};
 
 /// A step, by its kind and by the request and the output that it is of. The kinds stand in the order in which
 /// candidates are listed.
-#[derive(Clone, Copy, Debug, PartialEq, Eq)]
+#[derive(Clone, Copy)]
 pub enum ReStepName {
     /// The least request that waits is taken.
     TakeNext,

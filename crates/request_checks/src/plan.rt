@@ -8,7 +8,7 @@ use cam_types::{Four, Profile, StreamSpec};
 
 /// A stream of an accepted configuration, with the number of its buffers that may be at the device and the number of
 /// buffers in its pool.
-#[derive(Clone, Copy, Debug, PartialEq, Eq)]
+#[derive(Clone, Copy, PartialEq, Eq)]
 pub struct PlanStream {
     pub spec: StreamSpec,
     pub max_buffers: u32,
@@ -16,7 +16,7 @@ pub struct PlanStream {
 }
 
 /// The streams of an accepted configuration, in order.
-#[derive(Clone, Copy, Debug, PartialEq, Eq)]
+#[derive(Clone, Copy, PartialEq, Eq)]
 pub struct Plan {
     pub streams: Four<PlanStream>,
 }

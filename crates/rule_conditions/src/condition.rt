@@ -1,7 +1,7 @@
 //! The conditions of the rules: each is a row, or one reason of a row, of docs/CONTRACT.md, What each entry needs.
 /// What an entry has to meet to be allowed after those before it. The first word names the entries that it is a
 /// condition of, in the order of docs/CONTRACT.md.
-#[derive(Clone, Copy, Debug, PartialEq, Eq)]
+#[derive(Clone, Copy, PartialEq, Eq)]
 pub enum Condition {
     // ---- D9: a send
     /// The frame's number is the next.

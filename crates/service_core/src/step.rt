@@ -2,7 +2,7 @@
 use trace_model::Entry;
 
 /// What a step of the service answers that gives out no job.
-#[derive(Clone, Copy, Debug, PartialEq, Eq)]
+#[derive(Clone, Copy)]
 pub enum Step {
     /// The step was made, and added this entry.
     Did(Entry),

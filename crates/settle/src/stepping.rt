@@ -16,7 +16,7 @@ use service_core::{Service, candidate_at, candidate_count, candidates_are_read_f
 use service_state::ServiceState;
 
 /// What became of a step.
-#[derive(Clone, Copy, Debug, PartialEq, Eq)]
+#[derive(Clone, Copy)]
 pub enum Stepped {
     /// The step was made.
     Done(StepName),

@@ -13,7 +13,7 @@ use trace_model::Entry;
 
 /// A picture that a good buffer of a stream brought: of which frame, captured with which settings, and in which format
 /// and size.
-#[derive(Clone, Copy, Debug, PartialEq, Eq)]
+#[derive(Clone, Copy)]
 pub struct Shot {
     pub frame: FrameNo,
     pub settings: Settings,

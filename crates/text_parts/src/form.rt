@@ -13,7 +13,7 @@ const COUNT_LIMIT: u64 = 200;
 
 /// What the words ask for: `play`, `run --workers N`, `check`, `gen SEED COUNT`, `convert`, `arbiter`, `auto`, `logical`,
 /// `reprocess` or `help`.
-#[derive(Clone, Copy, Debug, PartialEq, Eq)]
+#[derive(Clone, Copy)]
 pub enum Form {
     Play,
     Run { workers: u32 },

@@ -9,7 +9,7 @@ use timeline_model::Chart;
 use timeline_svg::svg_text;
 
 /// The form of a timeline.
-#[derive(Clone, Copy, Debug, PartialEq, Eq)]
+#[derive(Clone, Copy, PartialEq, Eq)]
 pub enum Form {
     /// A picture, as SVG.
     Svg,

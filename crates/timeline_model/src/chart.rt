@@ -5,14 +5,14 @@ use crate::seat::Seat;
 use crate::series::Series;
 
 /// What was read.
-#[derive(Clone, Copy, Debug, PartialEq, Eq)]
+#[derive(Clone, Copy, PartialEq, Eq)]
 pub enum Kind {
     Trace,
     Hal,
 }
 
 /// Something that is drawn at a place.
-#[derive(Clone, Copy, Debug)]
+#[derive(Clone, Copy)]
 pub struct Piece {
     pub look: Look,
     /// The place where what ends here began.
@@ -24,7 +24,7 @@ pub struct Piece {
 }
 
 /// What is drawn of a line of the input.
-#[derive(Debug, Drop)]
+#[derive(Drop)]
 pub struct Group {
     /// How many entries or events stand before it.
     pub place: u32,
@@ -44,7 +44,7 @@ pub struct Group {
 }
 
 /// A stream that has a lane.
-#[derive(Clone, Copy, Debug, PartialEq, Eq)]
+#[derive(Clone, Copy, PartialEq, Eq)]
 pub struct Lane {
     /// How many lanes stand before it.
     pub place: u8,
@@ -53,7 +53,7 @@ pub struct Lane {
 }
 
 /// What is drawn.
-#[derive(Debug, Drop)]
+#[derive(Drop)]
 pub struct Chart {
     pub kind: Kind,
     /// How many rows the lane of a stream has.

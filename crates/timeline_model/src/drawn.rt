@@ -5,7 +5,7 @@ use cam_types::Listing;
 use trace_model::Entry;
 
 /// What is drawn of an entry at its place.
-#[derive(Clone, Copy, Debug)]
+#[derive(Clone, Copy)]
 pub struct Drawn {
     /// How many entries stand before it.
     pub place: u32,

@@ -3,7 +3,7 @@
 use cam_types::Word;
 
 /// A call of a framework, other than a request.
-#[derive(Clone, Copy, Debug, PartialEq, Eq)]
+#[derive(Clone, Copy)]
 pub enum HalCall {
     Open,
     Init,
@@ -15,7 +15,7 @@ pub enum HalCall {
 
 /// What a piece stands for. Up to Late they are entries of a trace, from CallBegin on events of a hal log; shutters,
 /// partial results, errors and buffers that come back belong to both.
-#[derive(Clone, Copy, Debug, PartialEq, Eq)]
+#[derive(Clone, Copy)]
 pub enum Look {
     /// A command of a script is begun.
     Begin,

@@ -9,7 +9,7 @@ use judge_entries::entry::is_early_with;
 use trace_model::Entry;
 
 /// A frame's target.
-#[derive(Clone, Copy, Debug, PartialEq, Eq)]
+#[derive(Clone, Copy)]
 pub struct Target {
     pub frame: FrameNo,
     pub stream: StreamIx,

@@ -6,7 +6,7 @@ ghost use Rattle.timeline_model.specs.Seats.{free_row, is_free, is_seat_of, take
 use cam_types::NoMemory;
 
 /// The row in which the bar of a buffer stands while it is out.
-#[derive(Clone, Copy, Debug, PartialEq, Eq)]
+#[derive(Clone, Copy)]
 pub struct Seat {
     pub frame: u32,
     /// By which number the frame's buffers are told apart: in a trace their stream's, in a hal log their own.

@@ -6,7 +6,7 @@ use std::alloc::Global;
 use std::marker::Model;
 
 /// A list that grows at its end. A contract sees it as the list of its entries.
-#[derive(Debug, Drop)]
+#[derive(Drop)]
 pub struct Series<T> {
     entries: Vec<T>,
 }

@@ -12,7 +12,7 @@ const FRAME_LIMIT: u64 = 4_294_967_295;
 
 /// What the words ask for: `hal`, with `--plain`, with `--strict` or with both behind it; `hal-of`, `candidates`,
 /// `explain`, `timeline`, with `--perfetto` or without, `video STREAM`, `picture FRAME STREAM` or `help`.
-#[derive(Clone, Copy, Debug, PartialEq, Eq)]
+#[derive(Clone, Copy)]
 pub enum Tool {
     /// Judge a hal log, and write the report for a person, or the plain one; `strict`: by the strict rules too.
     Hal { plain: bool, strict: bool },

@@ -2,7 +2,7 @@
 use cam_types::{FrameNo, StreamIx};
 
 /// What is wanted of a run.
-#[derive(Clone, Copy, Debug, PartialEq, Eq)]
+#[derive(Clone, Copy)]
 pub enum Wanted {
     /// The pictures of all good buffers of a stream, as one film.
     Film { stream: StreamIx },

@@ -5,7 +5,7 @@ ghost use Rattle.wrong_words.specs.Places.{is_of_kind};
 use text_parts::{command_word, next_loose_word};
 
 /// What a line of a script's text may be.
-#[derive(Clone, Copy, Debug, PartialEq, Eq)]
+#[derive(Clone, Copy, PartialEq, Eq)]
 pub enum LineKind {
     /// A command.
     Command,

@@ -1,7 +1,7 @@
 //! What a place of a line may ask for.
 
 /// What a place of a line may ask for (docs/FORMATS.md, Script text and Trace text).
-#[derive(Clone, Copy, Debug, PartialEq, Eq)]
+#[derive(Clone, Copy, PartialEq, Eq)]
 pub enum WordKind {
     /// A word that isn't looked at.
     Any,
