@@ -4,7 +4,7 @@ use crate::number::{BufferId, FrameNo, StreamIx};
 use crate::stream::StreamSpec;
 
 /// The buffer that a fill writes.
-#[derive(Clone, Copy, Debug, PartialEq, Eq)]
+#[derive(Clone, Copy)]
 pub struct FillTarget {
     pub stream: StreamIx,
     pub buffer: BufferId,
@@ -12,7 +12,7 @@ pub struct FillTarget {
 }
 
 /// What contracts see of a job of the sensor or of a stage: a fill has a target, an exposure has none.
-#[derive(Clone, Copy, Debug, PartialEq, Eq)]
+#[derive(Clone, Copy)]
 pub struct JobView {
     pub frame: FrameNo,
     pub settings: Settings,

@@ -3,7 +3,7 @@ use crate::item::Item;
 use crate::number::RequestId;
 
 /// An item that waits in the queue: the item at place `index`, from 0 on, of a `once` or a `burst`.
-#[derive(Clone, Copy, Debug, PartialEq, Eq)]
+#[derive(Clone, Copy)]
 pub struct WaitingItem {
     pub request: RequestId,
     pub index: u32,
@@ -11,7 +11,7 @@ pub struct WaitingItem {
 }
 
 /// An item whose turn it is: the item at place `index`, from 0 on, of its request.
-#[derive(Clone, Copy, Debug, PartialEq, Eq)]
+#[derive(Clone, Copy)]
 pub struct Queued {
     pub request: RequestId,
     pub index: u32,

@@ -8,7 +8,7 @@ use crate::limit::PARTIAL_RESULT_COUNT;
 use crate::number::{BufferId, FenceNo, FrameNo, RequestId, StreamIx};
 
 /// Where the sensor's work on a frame is.
-#[derive(Clone, Copy, Debug, PartialEq, Eq)]
+#[derive(Clone, Copy, PartialEq, Eq)]
 pub enum SensorPlace {
     /// The frame has no shutter yet.
     NotYet,
@@ -21,7 +21,7 @@ pub enum SensorPlace {
 }
 
 /// What became of a target's buffer.
-#[derive(Clone, Copy, Debug, PartialEq, Eq)]
+#[derive(Clone, Copy, PartialEq, Eq)]
 pub enum TargetState {
     /// At the device, not filled.
     Waiting,
@@ -40,7 +40,7 @@ pub enum TargetState {
 }
 
 /// A target of an open frame: its stream, the buffer, the fence that came with it, and how far it is.
-#[derive(Clone, Copy, Debug, PartialEq, Eq)]
+#[derive(Clone, Copy)]
 pub struct TargetView {
     pub stream: StreamIx,
     pub buffer: BufferId,
@@ -51,7 +51,7 @@ pub struct TargetView {
 }
 
 /// An open frame.
-#[derive(Clone, Copy, Debug, PartialEq, Eq)]
+#[derive(Clone, Copy)]
 pub struct RowView {
     pub frame: FrameNo,
     pub request: RequestId,
@@ -69,7 +69,7 @@ pub struct RowView {
 }
 
 /// The faults of an open frame; `buffers` has the order of the row's targets.
-#[derive(Clone, Copy, Debug, PartialEq, Eq)]
+#[derive(Clone, Copy)]
 pub struct RowFaults {
     pub request: bool,
     pub result: bool,
