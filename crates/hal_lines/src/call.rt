@@ -23,7 +23,9 @@ fn ending_of(words: &[u8]) -> Result<Ending, Cause>
     ensures value { result ≡ ending_of (loose_words words.now) }
     ensures valid { IfOk result (λ ending. IsTrue (is_ending_valid ending)) }
 {
-    let (how, rest) = next_loose_word(words).ok_or(Cause::BadLine)?;
+    let Some((how, rest)) = next_loose_word(words) else {
+        return Err(Cause::BadLine);
+    };
     let Some((name, rest)) = next_loose_word(rest) else {
         return if has_text(how, "ok") {
             Ok(Ending::Ok)
@@ -44,7 +46,9 @@ fn stage_of(words: &[u8]) -> Result<Option<Ending>, Cause>
     ensures value { result ≡ stage_of (loose_words words.now) }
     ensures valid { IfOk result (λ stage. IfSome stage (λ ending. IsTrue (is_ending_valid ending))) }
 {
-    let (stage, rest) = next_loose_word(words).ok_or(Cause::BadLine)?;
+    let Some((stage, rest)) = next_loose_word(words) else {
+        return Err(Cause::BadLine);
+    };
     if has_text(stage, "begin") && is_end(rest) {
         Ok(None)
     } else if has_text(stage, "end") {
@@ -96,7 +100,9 @@ pub fn close_of(words: &[u8]) -> Result<HalEvent, Cause>
     ensures value { result ≡ close_of (loose_words words.now) }
     ensures valid { IfOk result (λ event. IsTrue (is_well_made event)) }
 {
-    let (stage, rest) = next_loose_word(words).ok_or(Cause::BadLine)?;
+    let Some((stage, rest)) = next_loose_word(words) else {
+        return Err(Cause::BadLine);
+    };
     if !is_end(rest) {
         Err(Cause::BadLine)
     } else if has_text(stage, "begin") {
@@ -112,7 +118,9 @@ pub fn close_of(words: &[u8]) -> Result<HalEvent, Cause>
 fn template_end(words: &[u8]) -> Result<TemplateStage, Cause>
     ensures { result ≡ template_end (loose_words words.now) }
 {
-    let (how, rest) = next_loose_word(words).ok_or(Cause::BadLine)?;
+    let Some((how, rest)) = next_loose_word(words) else {
+        return Err(Cause::BadLine);
+    };
     if !is_end(rest) {
         Err(Cause::BadLine)
     } else if has_text(how, "ok") {
@@ -143,8 +151,12 @@ pub fn template_of(words: &[u8]) -> Result<HalEvent, Cause>
     ensures value { result ≡ template_of (loose_words words.now) }
     ensures valid { IfOk result (λ event. IsTrue (is_well_made event)) }
 {
-    let (template, rest) = next_loose_word(words).ok_or(Cause::BadLine)?;
-    let (word, rest) = next_loose_word(rest).ok_or(Cause::BadLine)?;
+    let Some((template, rest)) = next_loose_word(words) else {
+        return Err(Cause::BadLine);
+    };
+    let Some((word, rest)) = next_loose_word(rest) else {
+        return Err(Cause::BadLine);
+    };
     let (template, stage) = both(small(template), template_stage(word, rest))?;
     Ok(match stage {
         TemplateStage::Begin => HalEvent::TemplateBegin { template },
@@ -207,7 +219,9 @@ fn configure_end(alloc: Global, words: &[u8]) -> Result<HalEvent, LineRefused>
     ensures value { Gives result (configure_end (loose_words words.now)) }
     ensures valid { IfOk result (λ event. IsTrue (is_well_made event)) }
 {
-    let (how, rest) = next_loose_word(words).ok_or(Cause::BadLine)?;
+    let Some((how, rest)) = next_loose_word(words) else {
+        return Err(LineRefused::Bad(Cause::BadLine));
+    };
     if has_text(how, "ok") {
         return given_streams(alloc, rest);
     }
@@ -223,7 +237,9 @@ pub fn configure_of(alloc: Global, words: &[u8]) -> Result<HalEvent, LineRefused
     ensures value { Gives result (configure_of (loose_words words.now)) }
     ensures valid { IfOk result (λ event. IsTrue (is_well_made event)) }
 {
-    let (stage, rest) = next_loose_word(words).ok_or(Cause::BadLine)?;
+    let Some((stage, rest)) = next_loose_word(words) else {
+        return Err(LineRefused::Bad(Cause::BadLine));
+    };
     if has_text(stage, "begin") {
         asked_streams(alloc, rest)
     } else if has_text(stage, "end") {
@@ -238,7 +254,9 @@ fn asked_of(alloc: Global, frame: Result<u32, Cause>, words: &[u8]) -> Result<Ha
     ensures value { Gives result (asked_of frame (loose_words words.now)) }
     ensures valid { IfOk result (λ event. IsTrue (is_well_made event)) }
 {
-    let (settings, rest) = next_loose_word(words).ok_or(Cause::BadLine)?;
+    let Some((settings, rest)) = next_loose_word(words) else {
+        return Err(LineRefused::Bad(Cause::BadLine));
+    };
     let (targets, rest) = list_of(alloc, rest)?;
     let fields = both(
         frame,
@@ -257,8 +275,8 @@ fn asked_of(alloc: Global, frame: Result<u32, Cause>, words: &[u8]) -> Result<Ha
 }
 
 /// A request that ends, by its number and the words behind `end`.
-fn request_end(frame: Result<u32, Cause>, words: &[u8]) -> Result<HalEvent, Cause>
-    ensures value { result ≡ ended_of frame (loose_words words.now) }
+fn request_end(frame: Result<u32, Cause>, words: &[u8]) -> Result<HalEvent, LineRefused>
+    ensures value { Gives result (ended_of frame (loose_words words.now)) }
     ensures valid { IfOk result (λ event. IsTrue (is_well_made event)) }
 {
     let (frame, ending) = both(frame, ending_of(words))?;
@@ -274,12 +292,16 @@ pub fn request_of(alloc: Global, words: &[u8]) -> Result<HalEvent, LineRefused>
     ensures value { Gives result (request_of (loose_words words.now)) }
     ensures valid { IfOk result (λ event. IsTrue (is_well_made event)) }
 {
-    let (frame, rest) = next_loose_word(words).ok_or(Cause::BadLine)?;
-    let (stage, rest) = next_loose_word(rest).ok_or(Cause::BadLine)?;
+    let Some((frame, rest)) = next_loose_word(words) else {
+        return Err(LineRefused::Bad(Cause::BadLine));
+    };
+    let Some((stage, rest)) = next_loose_word(rest) else {
+        return Err(LineRefused::Bad(Cause::BadLine));
+    };
     if has_text(stage, "begin") {
         asked_of(alloc, small(frame), rest)
     } else if has_text(stage, "end") {
-        Ok(request_end(small(frame), rest)?)
+        request_end(small(frame), rest)
     } else {
         Err(LineRefused::Bad(Cause::BadLine))
     }

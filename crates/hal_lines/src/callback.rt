@@ -19,8 +19,12 @@ pub fn shutter_of(words: &[u8]) -> Result<HalEvent, Cause>
     ensures value { result ≡ shutter_of (loose_words words.now) }
     ensures valid { IfOk result (λ event. IsTrue (is_well_made event)) }
 {
-    let (frame, rest) = next_loose_word(words).ok_or(Cause::BadLine)?;
-    let (time, rest) = next_loose_word(rest).ok_or(Cause::BadLine)?;
+    let Some((frame, rest)) = next_loose_word(words) else {
+        return Err(Cause::BadLine);
+    };
+    let Some((time, rest)) = next_loose_word(rest) else {
+        return Err(Cause::BadLine);
+    };
     if !is_end(rest) {
         return Err(Cause::BadLine);
     }
@@ -51,7 +55,9 @@ pub fn notice_of(words: &[u8]) -> Result<HalEvent, Cause>
     ensures value { result ≡ notice_of (loose_words words.now) }
     ensures valid { IfOk result (λ event. IsTrue (is_well_made event)) }
 {
-    let (frame, rest) = next_loose_word(words).ok_or(Cause::BadLine)?;
+    let Some((frame, rest)) = next_loose_word(words) else {
+        return Err(Cause::BadLine);
+    };
     let Some((what, rest)) = next_loose_word(rest) else {
         return if has_text(frame, "device") {
             Ok(HalEvent::ErrorDevice)
@@ -96,10 +102,18 @@ pub fn result_of(alloc: Global, words: &[u8]) -> Result<HalEvent, LineRefused>
     ensures value { Gives result (result_of (loose_words words.now)) }
     ensures valid { IfOk result (λ event. IsTrue (is_well_made event)) }
 {
-    let (frame, rest) = next_loose_word(words).ok_or(Cause::BadLine)?;
-    let (sign, rest) = next_loose_word(rest).ok_or(Cause::BadLine)?;
-    let (partial, rest) = next_loose_word(rest).ok_or(Cause::BadLine)?;
-    let (pack, rest) = next_loose_word(rest).ok_or(Cause::BadLine)?;
+    let Some((frame, rest)) = next_loose_word(words) else {
+        return Err(LineRefused::Bad(Cause::BadLine));
+    };
+    let Some((sign, rest)) = next_loose_word(rest) else {
+        return Err(LineRefused::Bad(Cause::BadLine));
+    };
+    let Some((partial, rest)) = next_loose_word(rest) else {
+        return Err(LineRefused::Bad(Cause::BadLine));
+    };
+    let Some((pack, rest)) = next_loose_word(rest) else {
+        return Err(LineRefused::Bad(Cause::BadLine));
+    };
     if has_text(sign, "partial") {
         result_with(alloc, both(small(frame), small(partial)), pack, rest)
     } else {

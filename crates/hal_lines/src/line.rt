@@ -45,6 +45,18 @@ fn kind_of(word: &[u8]) -> Option<Kind>
     }
 }
 
+/// What a line gives that holds no list.
+fn plain(read: Result<HalEvent, Cause>) -> Result<HalEvent, LineRefused>
+    ensures value { Gives result read }
+    ensures valid { IfOk read (λ event. IsTrue (is_well_made event)) →
+        IfOk result (λ event. IsTrue (is_well_made event)) }
+{
+    match read {
+        Ok(event) => Ok(event),
+        Err(cause) => Err(LineRefused::Bad(cause)),
+    }
+}
+
 /// An event, by the kind of its line and the words behind the first.
 #[tactic(auto, unfolding(crate::specs::Lines::event_in))]
 fn event_in(alloc: Global, kind: Kind, words: &[u8]) -> Result<HalEvent, LineRefused>
@@ -52,16 +64,16 @@ fn event_in(alloc: Global, kind: Kind, words: &[u8]) -> Result<HalEvent, LineRef
     ensures valid { IfOk result (λ event. IsTrue (is_well_made event)) }
 {
     match kind {
-        Kind::Open => Ok(open_of(words)?),
-        Kind::Init => Ok(init_of(words)?),
-        Kind::Template => Ok(template_of(words)?),
+        Kind::Open => plain(open_of(words)),
+        Kind::Init => plain(init_of(words)),
+        Kind::Template => plain(template_of(words)),
         Kind::Configure => configure_of(alloc, words),
         Kind::Request => request_of(alloc, words),
-        Kind::Shutter => Ok(shutter_of(words)?),
-        Kind::Error => Ok(notice_of(words)?),
+        Kind::Shutter => plain(shutter_of(words)),
+        Kind::Error => plain(notice_of(words)),
         Kind::Result => result_of(alloc, words),
-        Kind::Flush => Ok(flush_of(words)?),
-        Kind::Close => Ok(close_of(words)?),
+        Kind::Flush => plain(flush_of(words)),
+        Kind::Close => plain(close_of(words)),
     }
 }
 
@@ -83,8 +95,12 @@ pub fn count_of(word: &[u8], words: &[u8]) -> Result<u32, Cause>
     ensures value { result ≡ count_of (word.now ∷ loose_words words.now) }
     ensures valid { IfOk result (λ parts. IsTrue (is_count parts)) }
 {
-    let (version, rest) = next_loose_word(words).ok_or(Cause::BadLine)?;
-    let (number, rest) = next_loose_word(rest).ok_or(Cause::BadLine)?;
+    let Some((version, rest)) = next_loose_word(words) else {
+        return Err(Cause::BadLine);
+    };
+    let Some((number, rest)) = next_loose_word(rest) else {
+        return Err(Cause::BadLine);
+    };
     if !is_end(rest) {
         return Err(Cause::BadLine);
     }

@@ -27,8 +27,12 @@ pub trait Word: Sized + Drop {
 fn size_of(word: &[u8]) -> Result<(HalFormat, (u32, u32)), Cause>
     ensures { result ≡ size_by (parts_at 120 word.now) }
 {
-    let (format, sides) = split_at_byte(word, b'x').ok_or(Cause::BadLine)?;
-    let (width, height) = split_in_two(sides, b'x').ok_or(Cause::BadLine)?;
+    let Some((format, sides)) = split_at_byte(word, b'x') else {
+        return Err(Cause::BadLine);
+    };
+    let Some((width, height)) = split_in_two(sides, b'x') else {
+        return Err(Cause::BadLine);
+    };
     both(format_of(format), both(small(width), small(height)))
 }
 
@@ -78,7 +82,9 @@ impl Word for HalStream {
     ghost means = { stream_of };
 
     fn read(word: &[u8]) -> Result<Self, Cause> {
-        let (stream, rest) = split_at_byte(word, b':').ok_or(Cause::BadLine)?;
+        let Some((stream, rest)) = split_at_byte(word, b':') else {
+            return Err(Cause::BadLine);
+        };
         let stream = small(stream);
         match split_at_byte(rest, b':') {
             None => stream_in(both(stream, both(size_of(rest), Ok((0, Direction::Output))))),
@@ -93,7 +99,9 @@ impl Word for StreamMax {
     ghost means = { max_of };
 
     fn read(word: &[u8]) -> Result<Self, Cause> {
-        let (stream, max) = split_in_two(word, b':').ok_or(Cause::BadLine)?;
+        let Some((stream, max)) = split_in_two(word, b':') else {
+            return Err(Cause::BadLine);
+        };
         let (stream, max) = both(small(stream), small(max))?;
         Ok(StreamMax { stream, max })
     }
@@ -123,8 +131,12 @@ impl Word for HalTarget {
     ghost means = { target_of };
 
     fn read(word: &[u8]) -> Result<Self, Cause> {
-        let (stream, rest) = split_at_byte(word, b':').ok_or(Cause::BadLine)?;
-        let (name, fence) = split_in_two(rest, b':').ok_or(Cause::BadLine)?;
+        let Some((stream, rest)) = split_at_byte(word, b':') else {
+            return Err(Cause::BadLine);
+        };
+        let Some((name, fence)) = split_in_two(rest, b':') else {
+            return Err(Cause::BadLine);
+        };
         let (stream, (buffer, fence)) = both(small(stream), both(buffer(name), acquire(fence)))?;
         Ok(HalTarget {
             stream,
@@ -178,9 +190,15 @@ impl Word for Returned {
     ghost means = { returned_of };
 
     fn read(word: &[u8]) -> Result<Self, Cause> {
-        let (stream, rest) = split_at_byte(word, b':').ok_or(Cause::BadLine)?;
-        let (name, rest) = split_at_byte(rest, b':').ok_or(Cause::BadLine)?;
-        let (status, fields) = split_at_byte(rest, b':').ok_or(Cause::BadLine)?;
+        let Some((stream, rest)) = split_at_byte(word, b':') else {
+            return Err(Cause::BadLine);
+        };
+        let Some((name, rest)) = split_at_byte(rest, b':') else {
+            return Err(Cause::BadLine);
+        };
+        let Some((status, fields)) = split_at_byte(rest, b':') else {
+            return Err(Cause::BadLine);
+        };
         returned_in(both(
             known(stream),
             both(
