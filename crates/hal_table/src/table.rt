@@ -161,13 +161,19 @@ impl HalTable {
         ensures { OnOk result (state_of self.new ≡ next_state parts event.now (state_of self.old)) }
     {
         if is_open_ok(event) {
-            *self = HalTable::new(self.alloc)?;
-            return Ok(());
+            return self.clear();
         }
         if self.is_stray(event) {
             return Ok(());
         }
-        self.note_heard(parts, event, excused)?;
+        self.note_heard(parts, event, excused)
+    }
+
+    /// Goes back to the state of the empty log.
+    fn clear(&mut self) -> Result<(), NoMemory>
+        ensures { (k : ℕ) → OnOk result (state_of self.new ≡ first_state k) }
+    {
+        *self = HalTable::new(self.alloc)?;
         Ok(())
     }
 
