@@ -1,5 +1,5 @@
 //! The last line of the report: the sum.
-ghost use Rattle.std.specs.Prelude.{◌≡◌, ◌++◌, ◌∷◌, [], OnOk, IfOk, codes, count_by, filter, string_bytes};
+ghost use Rattle.std.specs.Prelude.{◌≡◌, ◌++◌, ◌∷◌, [], OnOk, IfOk, codes, count_by, filter, length, string_bytes};
 ghost use Rattle.std.specs.List.{flat_map, list_any};
 ghost use Rattle.hal_model.specs.Names.{rule_name, side_of};
 ghost use Rattle.hal_person.specs.Sum.{breaches_sum, by_side, counted, is_accepted, is_same_rule, is_same_side, names_text, other_side, rules_behind, side_sum, sides_sum, sum_text, whose_first, with_rule};
@@ -145,6 +145,24 @@ fn write_rules(alloc: Global, out: &mut String, breaches: &[Breach]) -> Result<(
     write_names(out, rules.as_slice())
 }
 
+/// Writes how many breaches there are, whose rules they break, and the names of the rules.
+fn write_some(
+    alloc: Global,
+    out: &mut String,
+    bound: &str,
+    breaches: &[Breach],
+) -> Result<(), NoMemory>
+    ensures { OnOk result (string_bytes out.new ≡ string_bytes out.old
+        ++ (counted (length breaches.now) (codes "breach") (codes "breaches")
+        ++ (codes " by the "
+        ++ (bound.now ++ (codes " (" ++ (names_text (rules_behind [] breaches.now) ++ codes ")")))))) }
+{
+    write_counted(out, breaches.len(), "breach", "breaches")?;
+    write!(out, " by the {bound} (")?;
+    write_rules(alloc, out, breaches)?;
+    out.push_str(")")
+}
+
 /// Writes how many of a side's rules' breaches there are, and the names of the rules.
 #[tactic(auto, unfolding(crate::specs::Sum::side_sum))]
 fn write_side(
@@ -159,10 +177,7 @@ fn write_side(
     if breaches.is_empty() {
         return write!(out, "none by the {bound}");
     }
-    write_counted(out, breaches.len(), "breach", "breaches")?;
-    write!(out, " by the {bound} (")?;
-    write_rules(alloc, out, breaches)?;
-    out.push_str(")")
+    write_some(alloc, out, bound, breaches)
 }
 
 /// Writes the same of those of the breaches whose rule binds the side.
