@@ -1,7 +1,7 @@
 //! Settings as a packed list, and back.
 ghost use Rattle.std.specs.Prelude.{◌≡◌, ◌∷◌, [], ◌<◌, ◌^◌, pos, None, Ok, OnOk, IfOk};
 ghost use Rattle.metadata.specs.Entries.{add_refusal, with_entry};
-ghost use Rattle.metadata_rules.specs.Numbers.{settings_entries, settings_in, pattern_in, level_in, exposure_in, sensitivity_in};
+ghost use Rattle.metadata_rules.specs.Numbers.{byte_entry, int32_entry, int64_entry, settings_entries, settings_in, pattern_in, level_in, exposure_in, sensitivity_in};
 ghost use Rattle.cam_types.specs.Metadata.{range_fault};
 
 use crate::number::{byte_at, int32_at, int64_at};
@@ -111,30 +111,36 @@ fn put(packed: &mut Packed, tag: u32, values: Values) -> Result<(), NoMemory>
     }
 }
 
-fn byte_values(alloc: Global, number: u8) -> Result<Values, NoMemory>
-    ensures { IfOk result (λ values. values ≡ Values.Bytes (number ∷ [])) }
+/// Adds a number as a BYTE, for which there is room.
+fn put_byte(alloc: Global, packed: &mut Packed, tag: u32, number: u8) -> Result<(), NoMemory>
+    requires { add_refusal tag (Values.Bytes (number ∷ [])) packed.old ≡ None }
+    ensures { OnOk result (packed.new ≡ with_entry (byte_entry tag number) packed.old) }
 {
     let mut list = ByteList::new(alloc);
     list.push(number)?;
-    Ok(Values::Bytes(list))
+    put(packed, tag, Values::Bytes(list))
 }
 
-fn int32_values(alloc: Global, number: u32) -> Result<Values, NoMemory>
-    requires { number < 2 ^ 31 }
-    ensures { IfOk result (λ values. values ≡ Values.Int32 (pos number ∷ [])) }
+/// Adds a number as an INT32, for which there is room.
+fn put_int32(alloc: Global, packed: &mut Packed, tag: u32, number: u32) -> Result<(), NoMemory>
+    requires fits { number < 2 ^ 31 }
+    requires room { add_refusal tag (Values.Int32 (pos number ∷ [])) packed.old ≡ None }
+    ensures { OnOk result (packed.new ≡ with_entry (int32_entry tag number) packed.old) }
 {
     let mut list = Int32List::new(alloc);
     list.push(number as i32)?;
-    Ok(Values::Int32(list))
+    put(packed, tag, Values::Int32(list))
 }
 
-fn int64_values(alloc: Global, number: u64) -> Result<Values, NoMemory>
-    requires { number < 2 ^ 63 }
-    ensures { IfOk result (λ values. values ≡ Values.Int64 (pos number ∷ [])) }
+/// Adds a number as an INT64, for which there is room.
+fn put_int64(alloc: Global, packed: &mut Packed, tag: u32, number: u64) -> Result<(), NoMemory>
+    requires fits { number < 2 ^ 63 }
+    requires room { add_refusal tag (Values.Int64 (pos number ∷ [])) packed.old ≡ None }
+    ensures { OnOk result (packed.new ≡ with_entry (int64_entry tag number) packed.old) }
 {
     let mut list = Int64List::new(alloc);
     list.push(number as i64)?;
-    Ok(Values::Int64(list))
+    put(packed, tag, Values::Int64(list))
 }
 
 /// The packed list of settings that are in range.
@@ -144,13 +150,9 @@ pub fn packed_of(alloc: Global, settings: Settings) -> Result<Packed, NoMemory>
     ensures again { IfOk result (λ packed. settings_in packed ≡ Ok settings) }
 {
     let mut packed = Packed::new(alloc);
-    put(&mut packed, PATTERN, byte_values(alloc, settings.pattern)?)?;
-    put(&mut packed, LEVEL, int32_values(alloc, settings.level)?)?;
-    put(
-        &mut packed,
-        EXPOSURE,
-        int64_values(alloc, settings.exposure)?,
-    )?;
-    put(&mut packed, SENSITIVITY, int32_values(alloc, settings.iso)?)?;
+    put_byte(alloc, &mut packed, PATTERN, settings.pattern)?;
+    put_int32(alloc, &mut packed, LEVEL, settings.level)?;
+    put_int64(alloc, &mut packed, EXPOSURE, settings.exposure)?;
+    put_int32(alloc, &mut packed, SENSITIVITY, settings.iso)?;
     Ok(packed)
 }
