@@ -7,7 +7,6 @@ use cam_types::Profile;
 use io_edge::{ROOM, Room};
 
 /// Writes the first line of a trace, with the profile where one is named.
-#[tactic(auto, unfolding(crate::specs::Spelling::first_line_of))]
 pub fn put_first(room: &mut Room, profile: Option<Profile>)
     requires { length room.old + 50 ≤ ROOM }
     ensures { room.new ≡ room.old ++ first_line_of profile }
