@@ -54,6 +54,12 @@ impl Model for Reprocess {
     ghost invariant = { λ d. IsDevice d.course d.all.items (vec_capacity d.ready) d.places d.readout d.blocks.items };
 }
 
+/// All steps, and room for those that are ready.
+type Lists = (Vec<ReStepName>, Vec<ReStepName>);
+
+/// The sensor's readout, the output buffers and the memory of their pictures.
+type Pictures = (Readout, Vec<OutputBlock>, OutputMemory);
+
 /// An input buffer over a block, at home.
 fn make_home(block: Vec<u8>, spec: StreamSpec) -> Option<Place>
     requires yuv { IsTrue (is_yuv spec) }
@@ -91,7 +97,7 @@ fn make_blocks(alloc: Global) -> Result<Vec<OutputBlock>, NoMemory>
 }
 
 /// All steps of so many requests, and room for those that are ready.
-fn make_lists(alloc: Global, requests: u32) -> Result<(Vec<ReStepName>, Vec<ReStepName>), NoMemory>
+fn make_lists(alloc: Global, requests: u32) -> Result<Lists, NoMemory>
     ensures all { IfOk result (λ lists. lists.0.items ≡ steps requests) }
     ensures room { IfOk result (λ lists. length lists.0.items ≤ vec_capacity lists.1) }
 {
@@ -101,16 +107,32 @@ fn make_lists(alloc: Global, requests: u32) -> Result<(Vec<ReStepName>, Vec<ReSt
 }
 
 /// The memory of pictures: the sensor's readout, the output buffers and the digests of so many requests.
-fn make_pictures(
-    alloc: Global,
-    requests: u32,
-) -> Result<(Readout, Vec<OutputBlock>, OutputMemory), NoMemory>
+fn make_pictures(alloc: Global, requests: u32) -> Result<Pictures, NoMemory>
     ensures { IfOk result (λ made. length made.1.items ≡ 12) }
 {
     let readout = Readout::new(alloc)?;
     let blocks = make_blocks(alloc)?;
     let memory = OutputMemory::with_room(alloc, requests)?;
     Ok((readout, blocks, memory))
+}
+
+/// The memory of a device with so many requests and this input, but for its course: the lists of steps, the pictures and
+/// the input buffers.
+fn make_memory(
+    alloc: Global,
+    requests: u32,
+    spec: StreamSpec,
+) -> Result<(Lists, Pictures, Places), NoMemory>
+    requires { IsTrue (is_yuv spec) }
+    ensures all { IfOk result (λ made. made.0.0.items ≡ steps requests) }
+    ensures room { IfOk result (λ made. length made.0.0.items ≤ vec_capacity made.0.1) }
+    ensures outputs { IfOk result (λ made. length made.1.1.items ≡ 12) }
+    ensures places { IfOk result (λ made. AreHome spec made.2) }
+{
+    let lists = make_lists(alloc, requests)?;
+    let pictures = make_pictures(alloc, requests)?;
+    let places = make_places(alloc, spec)?;
+    Ok((lists, pictures, places))
 }
 
 /// How many requests a plan has.
@@ -136,11 +158,9 @@ impl Reprocess {
         ensures { IfOk result (λ device. device ≡ record { plan = plan; past = [] }) }
     {
         let requests = request_count(&plan);
-        let (all, ready) = make_lists(alloc, requests)?;
-        let (readout, blocks, memory) = make_pictures(alloc, requests)?;
         let spec = plan.input;
         let course = Course::open(alloc, plan)?;
-        let places = make_places(alloc, spec)?;
+        let ((all, ready), (readout, blocks, memory), places) = make_memory(alloc, requests, spec)?;
         Ok(Reprocess {
             course,
             all,
