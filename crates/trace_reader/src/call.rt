@@ -1,6 +1,6 @@
 //! The lines of the client's commands.
 
-ghost use Rattle.std.specs.Prelude.{◌≡◌, ◌<◌};
+ghost use Rattle.std.specs.Prelude.{◌≡◌, ◌∷◌, ◌<◌};
 ghost use Rattle.text_parts.specs.Words.{strict_words_behind};
 ghost use Rattle.trace_reader.specs.Values.{made};
 ghost use Rattle.text_parts.specs.CommandWords.{command_word};
@@ -34,21 +34,10 @@ pub fn begin_of(rest: &[u8]) -> Result<Entry, Cause>
     Ok(Entry::Begin { word })
 }
 
-/// The code of a refusal and its numbers.
-fn refusal(rest: &[u8]) -> Result<Reply, Cause>
-    ensures { result ≡ refusal (strict_words_behind rest.now) }
+/// A refusal by its code, its first number and what stands behind this.
+fn refusal_with(code: &[u8], first: &[u8], rest: &[u8]) -> Result<Reply, Cause>
+    ensures { result ≡ refusal (code.now ∷ first.now ∷ strict_words_behind rest.now) }
 {
-    let Some((code, rest)) = next_strict_word(rest) else {
-        return Err(Cause::BadLine);
-    };
-    let Some((first, rest)) = next_strict_word(rest) else {
-        let (code, first, second) = (byte(code)?, None, None);
-        return Ok(Reply::Refused {
-            code,
-            first,
-            second,
-        });
-    };
     let Some((second, rest)) = next_strict_word(rest) else {
         let (code, first) = both(byte(code), small(first))?;
         let (first, second) = (Some(first), None);
@@ -63,6 +52,24 @@ fn refusal(rest: &[u8]) -> Result<Reply, Cause>
     }
     let (code, (first, second)) = both(byte(code), both(small(first), small(second)))?;
     let (first, second) = (Some(first), Some(second));
+    Ok(Reply::Refused {
+        code,
+        first,
+        second,
+    })
+}
+
+/// The code of a refusal and its numbers.
+fn refusal(rest: &[u8]) -> Result<Reply, Cause>
+    ensures { result ≡ refusal (strict_words_behind rest.now) }
+{
+    let Some((code, rest)) = next_strict_word(rest) else {
+        return Err(Cause::BadLine);
+    };
+    if let Some((first, rest)) = next_strict_word(rest) {
+        return refusal_with(code, first, rest);
+    }
+    let (code, first, second) = (byte(code)?, None, None);
     Ok(Reply::Refused {
         code,
         first,
