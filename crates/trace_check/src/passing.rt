@@ -145,6 +145,22 @@ fn judge_each_by(
     Ok(judge_end_by(script, entries, tables))
 }
 
+/// Judges entry by entry, with tables that hold no entry's state yet, and takes the memory for the pictures' digests.
+fn judge_with_room(
+    alloc: Global,
+    script: &Script,
+    trace: &TraceList,
+    tables: &mut JudgeTables,
+) -> Result<Verdict, NoMemory>
+    requires valid { IsTrue (is_valid script.now) }
+    requires profile { IsTrue (is_profile script.now.profile) }
+    requires held { tables.old ≡ held script.now [] }
+    ensures { IfOk result (λ verdict. IsVerdict script.now trace.now.entries verdict) }
+{
+    let memory = PictureDigests::with_room(alloc, trace.len() as usize)?;
+    judge_each_by(script, trace, tables, memory)
+}
+
 /// Judges a trace of a valid script entry by entry.
 pub(crate) fn check_once(
     alloc: Global,
@@ -155,7 +171,6 @@ pub(crate) fn check_once(
     requires profile { IsTrue (is_profile script.now.profile) }
     ensures { IfOk result (λ verdict. IsVerdict script.now trace.now.entries verdict) }
 {
-    let memory = PictureDigests::with_room(alloc, trace.len() as usize)?;
     let mut tables = JudgeTables::new(alloc, script.commands.len())?;
-    judge_each_by(script, trace, &mut tables, memory)
+    judge_with_room(alloc, script, trace, &mut tables)
 }
