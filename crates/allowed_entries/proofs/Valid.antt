@@ -1,5 +1,7 @@
 -- What a valid script and a legal past give to the list.
-use Rattle.std.proofs.Common.{◌≡◌, ◌∙◌, ◌<◌, ◌^◌, ℕ, ◌+◌, true, List, sym, ap, subst, arith, length}
+use Rattle.std.proofs.Common.{◌≡◌, ◌∙◌, ◌<◌, ◌^◌, ℕ, ◌+◌, ◌==◌, true, ◌&&◌, List, inl, inr, refl, sym, ap, subst, arith, length}
+use Rattle.std.proofs.lemmas.Bool.{and_parts, cases_Bool, eqb-true}
+use Rattle.cam_types.specs.Profile.{is_profile, profile_fits}
 use Rattle.cam_types.specs.Script.{is_valid}
 use Rattle.cam_types.specs.declared.script.Script.{Script}
 use Rattle.trace_model.specs.declared.entry.Entry.{Entry}
@@ -17,6 +19,20 @@ use Rattle.allowed_entries.proofs.Readings.{allowed_are}
 use Rattle.service_parts.proofs.Room.{buffers_fit}
 
 -- ---- a valid script has a profile
+
+pub valid_profile : (script : Script) → is_valid script ≡ true → is_profile script.profile ≡ true
+valid_profile script h =
+    let p = script.profile in
+    let fits = (and_parts (profile_fits script.version p) _ h).0 in
+    elim (cases_Bool (script.version == 1)) [
+      | inl first ↦ (
+          let plain = rw first at fits in
+          let sizes = and_parts (p.depth == 6) ((p.raw == 3) && (p.yuv == 4)) plain in
+          let both = and_parts (p.raw == 3) (p.yuv == 4) sizes.1 in
+          rw (eqb-true p.depth 6 sizes.0, eqb-true p.raw 3 both.0, eqb-true p.yuv 4 both.1) refl
+          )
+      | inr later ↦ (let named = rw later at fits in (and_parts (script.version == 2) (is_profile p) named).1)
+    ]
 
 -- ---- numbers
 

@@ -1,8 +1,11 @@
 use Rattle.std.proofs.Common.{◌++◌, ◌∙◌, ap, reverse}
 use Rattle.allowed_entries.specs.Readings.{all_in}
 use Rattle.allowed_entries.proofs.Joins.{on_ok}
-use Rattle.allowed_entries.proofs.Valid.{all_told, numbered_held}
+use Rattle.allowed_entries.proofs.Valid.{all_told, numbered_held, valid_profile}
 use Rattle.allowed_entries.proofs.after.add_allowed.Goals as goal
+
+pub add_all-requires-clause-profile : goal.add_all-requires-clause-profile
+add_all-requires-clause-profile c = valid_profile c.args.script.now c.requires.valid
 
 pub add_all-requires-clause-numbered : goal.add_all-requires-clause-numbered
 add_all-requires-clause-numbered c =
