@@ -1,6 +1,6 @@
 -- A send: when it is ready, what it leaves, and what the device asks of its row.
-use Rattle.std.proofs.Common.{◌≡◌, ◌<◌, ◌^◌, ℕ, ◌+◌, true, false, List, [], ◌∷◌, ◌++◌, Option, Some, None, refl, sym, ap, subst, ◌∙◌, inl, inr, length}
-use Rattle.std.proofs.lemmas.Bool.{cases_Bool}
+use Rattle.std.proofs.Common.{◌≡◌, ◌<◌, ◌^◌, ℕ, ◌+◌, Bool, ◌&&◌, true, false, List, [], ◌∷◌, ◌++◌, Option, Some, None, refl, sym, ap, subst, ◌∙◌, inl, inr, length, slice_get}
+use Rattle.std.proofs.lemmas.Bool.{and_parts, cases_Bool, ltb-true}
 use Rattle.cam_types.specs.Four.{four_list, four_of}
 use Rattle.cam_types.specs.declared.four.Four.{Four}
 use Rattle.cam_types.specs.declared.number.FrameNo.{FrameNo}
@@ -23,7 +23,6 @@ use Rattle.state_facts.specs.Turns.{settings_next}
 use Rattle.state_facts.specs.States.{targets_in}
 use Rattle.state_facts.proofs.Fits.{numbers_fit}
 use Rattle.run_rows.specs.Changes.{fresh_row, fresh_target, fresh_targets}
-use Rattle.std.proofs.Common.{slice_get}
 use Rattle.std.specs.Option.{option_map}
 use Rattle.cam_types.specs.declared.request.WaitingItem.{WaitingItem}
 use Rattle.cam_types.specs.declared.stream.StreamSpec.{StreamSpec}
@@ -88,6 +87,12 @@ no_buffer s next at took = elim (cases_Bool (may_go_by s.script s.parts next)) [
 ]
 
 -- ---- what the device asks of the row
+
+second_of : (a b c d : Bool) → (a && ((b && c) && d)) ≡ true → b ≡ true
+second_of a b c d all = (and_parts b c (and_parts (b && c) d (and_parts a ((b && c) && d) all).1).0).0
+
+has_room : (s : Serving) (next : Queued) → may_go_by s.script s.parts next ≡ true → length s.parts.rows < s.script.profile.depth
+has_room s next may = ltb-true (length s.parts.rows) s.script.profile.depth (second_of _ _ _ _ may)
 
 row_sound : (s : Serving) → IsServing s → (next : Queued) (targets : Four Sent) → next_of s.parts.queue ≡ Some next → move_by s.script s.parts Send ≡ Some (move_with Send (Some (send_entry s.parts next targets))) → IsSound (length s.parts.client.streams) (fresh_row next.item.settings (record { 0 = s.parts.queue.numbers }) next.request targets)
 row_sound s serving next targets at ready =
@@ -165,6 +170,7 @@ parked_of specs targets parked taken = record {
 -- ---- a send whose item may go and whose buffers are taken
 
 pub record IsSending (s : Serving) (next : Queued) (targets : Four Sent) : Type 0 where
+  pub room : length s.parts.rows < s.script.profile.depth
   pub above : are_below s.parts.queue.numbers s.parts.rows ≡ true
   pub sound : IsSound (length s.parts.client.streams) (fresh_row next.item.settings (record { 0 = s.parts.queue.numbers }) next.request targets)
   pub numbered : s.parts.queue.numbers + 1 < 2 ^ 32
@@ -181,6 +187,7 @@ sending s t same serving' next targets at' may' takes =
     let ready' = send_ready s next it.0 at may took in
     let ready : move_by s.script s.parts Send ≡ Some (move_with Send (Some (send_entry s.parts next targets))) = rw it.2 ready' in
     record {
+      room = has_room s next may;
       above = row_above s serving next targets ready;
       sound = row_sound s serving next targets at ready;
       numbered = send_numbered s serving next targets ready;

@@ -43,6 +43,15 @@ returns-in_err-targets c =
     let took : targets_in (base s.parts) (targets_in_order next.item) ≡ None = same_targets s.parts (targets_in_order next.item) ∙ none_taken (least_targets_in (homes_with [] i.buffers) (targets_in_order next.item)) told.targets in
     rw c.from_residual-in_err-targets.ensures (stays_as s c.args.self.now _ _ c.self.view_is (rw (told.unchanged refl) refl) (no_buffer s next at took))
 
+pub invariant_of-self : goal.invariant_of-self
+invariant_of-self c = rw (c.in_err-targets.ensures.unchanged refl) c.self.invariant
+
+pub admit-requires-clause-room : goal.admit-requires-clause-room
+admit-requires-clause-room c =
+    let i = c.self.inside in
+    let h = sending (held i) c.args.self.now c.self.view_is c.requires c.in_ok-next.next c.in_ok-targets.targets c.in_ok-next.ensures c.if-not-may_go.ensures c.in_ok-targets.ensures.targets in
+    rw c.self.invariant.depth h.room
+
 pub admit-requires-clause-later : goal.admit-requires-clause-later
 admit-requires-clause-later c =
     let i = c.self.inside in
@@ -74,6 +83,9 @@ pub admit-requires-clause-parked : goal.admit-requires-clause-parked
 admit-requires-clause-parked c =
     let v = c.self.invariant in
     rw (c.fresh_row.ensures, v.plan, sym v.specs) (parked_of c.self.inside.buffers.specs c.in_ok-targets.targets c.in_ok-targets.parked c.in_ok-targets.ensures.parked)
+
+pub send-requires-clause-some : goal.send-requires-clause-some
+send-requires-clause-some c = rw (← c.in_ok-next.ensures) refl
 
 pub send-requires-clause-numbered : goal.send-requires-clause-numbered
 send-requires-clause-numbered c =
