@@ -1,4 +1,4 @@
-use Rattle.std.proofs.Common.{◌≡◌, ℕ, zero, suc, ◌+◌, ◌<◌, ◌≤◌, Bool, true, false, ◌&&◌, not, nat_lt, cond, List, [], ◌∷◌, ◌++◌, length, Some, None, slice_set, get_or, refl, arith, ap, inl, inr}
+use Rattle.std.proofs.Common.{◌≡◌, ℕ, zero, suc, ◌<◌, ◌≤◌, Bool, true, false, ◌&&◌, not, nat_lt, cond, List, [], ◌∷◌, ◌++◌, length, Some, None, slice_set, get_or, refl, arith, ap, inl, inr}
 use Rattle.basic_lemmas.proofs.Lists.{all-where}
 use Rattle.std.specs.List.{find, list_all, position, position_or_len, remove}
 use Rattle.std.proofs.lemmas.Bool.{and_parts, cases_Bool}

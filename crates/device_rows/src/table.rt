@@ -8,7 +8,7 @@ use crate::mark::{Mark, marked};
 use crate::parked::{put_parked, take_parked};
 use crate::table_row::Row;
 use cam_types::{Four, FrameNo, NoMemory, RowView, StreamIx};
-use std::alloc::{AllocFailed, Global};
+use std::alloc::Global;
 use std::marker::Model;
 
 /// The rows of the open frames, in order of frames, each with what is parked for its targets. A contract sees the list
@@ -58,13 +58,8 @@ impl<B> Table<B> {
         if self.rows.len() >= self.capacity as usize {
             return Err(parked);
         }
-        match self.rows.push(Row { view: row, parked }) {
-            Ok(()) => Ok(()),
-            Err(AllocFailed { value }) => {
-                let Row { view: _, parked } = value;
-                Err(parked)
-            }
-        }
+        self.rows.push_reserved(Row { view: row, parked });
+        Ok(())
     }
 
     /// How many rows stand.

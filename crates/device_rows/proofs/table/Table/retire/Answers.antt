@@ -60,3 +60,14 @@ pub index-row-requires : goal.index-row-requires
 index-row-requires g c =
     let low = within c.args.frame.0 c.deref.result.now c.place_of.result c.in-Some.place c.place_of.ensures c.in-Some.is in
     omega (arith, low, c.deref.ensures.len)
+
+pub returns-in_default-clause-fewer : goal.returns-in_default-clause-fewer
+returns-in_default-clause-fewer g c = λ h. absurd (cc h)
+
+pub returns-then-not-is_cleared-clause-fewer : goal.returns-then-not-is_cleared-clause-fewer
+returns-then-not-is_cleared-clause-fewer g c = λ h. absurd (cc h)
+
+pub remove-requires : goal.remove-requires
+remove-requires g c =
+    let low = within c.args.frame.0 c.deref.result.now c.place_of.result c.in-Some.place c.place_of.ensures c.in-Some.is in
+    omega (arith, low, c.deref.ensures.len)
