@@ -1,11 +1,13 @@
-use Rattle.std.proofs.Common.{◌≡◌, ◌==◌, ℕ, Bool, [], if◌then◌else◌, Option, None, Some, sym, ap, ◌∙◌, arith}
-use Rattle.std.specs.Prelude.{take}
+use Rattle.std.proofs.Common.{◌≡◌, ◌==◌, ℕ, Bool, [], ◌∷◌, ◌&&◌, true, if◌then◌else◌, Option, None, Some, sym, ap, ◌∙◌, arith}
+use Rattle.std.specs.Prelude.{is_some, take}
+use Rattle.std.proofs.lemmas.Bool.{and_parts}
 use Rattle.std.specs.List.{list_any}
 use Rattle.cam_types.specs.Four.{four_list}
 use Rattle.cam_types.specs.declared.four.Four.{Four}
 use Rattle.trace_model.specs.declared.entry.Sent.{Sent}
+use Rattle.state_facts.specs.Homes.{Homes}
 use Rattle.buffer_manager.specs.Managed.{Managed, homes_with, sent_away, sent_if}
-use Rattle.buffer_manager.specs.Taking.{least_target_in, no_four, put_before, target_if}
+use Rattle.buffer_manager.specs.Taking.{has_each, has_one, least_target_in, no_four, put_before, target_if}
 use Rattle.buffer_manager.proofs.Targets.{none-parked, room-one, room-three, room-two, sent-all, targets-are}
 use Rattle.buffer_manager.proofs.manager.BufferManager.take.Goals as goal
 
@@ -22,6 +24,50 @@ sent-next m now asked s after known same is sent =
     sent
     ∙ (ap (λ (t : Option Sent). sent_if (if asked then t else None) now) same
     ∙ ap (λ (x : Managed). sent_if (target_if asked (homes_with [] m) s) x) is)
+
+-- each stream that is asked for has a buffer at home
+there-of : (homes : Homes) (stream : ℕ) (asked : Bool) → has_one homes asked stream ≡ true → asked ≡ true → is_some (least_target_in homes stream) ≡ true
+there-of homes stream asked one wanted = rw wanted at one
+
+each-of : (homes : Homes) (a b c d : Bool) → has_each homes (a ∷ b ∷ c ∷ d ∷ []) ≡ true → (has_one homes a 0 ≡ true) × (has_one homes b 1 ≡ true) × (has_one homes c 2 ≡ true) × (has_one homes d 3 ≡ true)
+each-of homes a b c d all =
+    let first = and_parts (has_one homes a 0) (has_one homes b 1 && (has_one homes c 2 && has_one homes d 3)) all in
+    let second = and_parts (has_one homes b 1) (has_one homes c 2 && has_one homes d 3) first.1 in
+    let third = and_parts (has_one homes c 2) (has_one homes d 3) second.1 in
+    (first.0, second.0, third.0, third.1)
+
+pub take_before-last-requires-clause-there : goal.take_before-last-requires-clause-there
+take_before-last-requires-clause-there c =
+    let each = each-of (homes_with [] c.args.self.now) c.asks.result c.asks-2.result c.asks-3.result c.asks-4.result (sym c.has_each.ensures ∙ c.if-not-has_each.false) in
+    there-of (homes_with [] c.args.self.now) 3 c.asks-4.result each.3
+
+pub take_before-third-requires-clause-there : goal.take_before-third-requires-clause-there
+take_before-third-requires-clause-there c =
+    let each = each-of (homes_with [] c.args.self.now) c.asks.result c.asks-2.result c.asks-3.result c.asks-4.result (sym c.has_each.ensures ∙ c.if-not-has_each.false) in
+    λ wanted. rw (c.take_before-last.ensures.rest 2 (λ e. omega (arith, e))) (there-of (homes_with [] c.args.self.now) 2 c.asks-3.result each.2 wanted)
+
+pub take_before-second-requires-clause-there : goal.take_before-second-requires-clause-there
+take_before-second-requires-clause-there c =
+    let each = each-of (homes_with [] c.args.self.now) c.asks.result c.asks-2.result c.asks-3.result c.asks-4.result (sym c.has_each.ensures ∙ c.if-not-has_each.false) in
+    λ wanted. rw (c.take_before-third.ensures.rest 1 (λ e. omega (arith, e)), c.take_before-last.ensures.rest 1 (λ e. omega (arith, e))) (there-of (homes_with [] c.args.self.now) 1 c.asks-2.result each.1 wanted)
+
+pub take_before-requires-clause-there : goal.take_before-requires-clause-there
+take_before-requires-clause-there c =
+    let each = each-of (homes_with [] c.args.self.now) c.asks.result c.asks-2.result c.asks-3.result c.asks-4.result (sym c.has_each.ensures ∙ c.if-not-has_each.false) in
+    λ wanted. rw (c.take_before-second.ensures.rest 0 (λ e. omega (arith, e)), c.take_before-third.ensures.rest 0 (λ e. omega (arith, e)), c.take_before-last.ensures.rest 0 (λ e. omega (arith, e))) (there-of (homes_with [] c.args.self.now) 0 c.asks.result each.0 wanted)
+
+pub take_before-third-requires-clause-taken : goal.take_before-third-requires-clause-taken
+take_before-third-requires-clause-taken c = c.take_before-last.ensures.taken
+
+pub take_before-second-requires-clause-taken : goal.take_before-second-requires-clause-taken
+take_before-second-requires-clause-taken c = c.take_before-third.ensures.taken
+
+pub take_before-requires-clause-taken : goal.take_before-requires-clause-taken
+take_before-requires-clause-taken c = c.take_before-second.ensures.taken
+
+pub returns-clause-parked : goal.returns-clause-parked
+returns-clause-parked c =
+    rw (← c.take_before-last.ensures.specs, ← c.take_before-third.ensures.specs, ← c.take_before-second.ensures.specs, ← c.take_before.ensures.specs) c.take_before.ensures.taken
 
 pub take_before-third-requires-clause-room : goal.take_before-third-requires-clause-room
 take_before-third-requires-clause-room c =
