@@ -1,5 +1,5 @@
 //! The script of a seed and a count.
-ghost use Rattle.std.specs.Prelude.{◌≡◌, ◌≤◌, IfOk};
+ghost use Rattle.std.specs.Prelude.{◌≡◌, ◌≤◌, [], IfOk, OnOk};
 ghost use Rattle.generated_scripts.specs.Generated.{commands_of, faults_of, generated};
 
 use crate::command::{command_of, two_streams};
@@ -12,19 +12,33 @@ use rand_core::utils::NextWord;
 use rand_xoshiro::SplitMix64;
 use std::alloc::Global;
 
-/// A configuration, the commands of the words, and a `close`.
-fn commands_of(alloc: Global, seed: u64, count: u32) -> Result<CommandList, NoMemory>
-    requires { count ≤ 200 }
-    ensures { IfOk result (λ list. list ≡ commands_of seed count) }
+/// Adds a configuration, the commands of the words, and a `close`.
+fn put_commands(
+    commands: &mut CommandList,
+    alloc: Global,
+    seed: u64,
+    count: u32,
+) -> Result<(), NoMemory>
+    requires few { count ≤ 200 }
+    requires empty { commands.old ≡ [] }
+    ensures { OnOk result (commands.new ≡ commands_of seed count) }
 {
-    let mut commands = CommandList::new(alloc);
     commands.push(Command::Configure(two_streams(alloc)?))?;
     let mut generator = SplitMix64::seed_from_u64(seed);
     for _ in 0..count {
         let word = generator.next_word();
         commands.push(command_of(alloc, word)?)?;
     }
-    commands.push(Command::Close)?;
+    commands.push(Command::Close)
+}
+
+/// A configuration, the commands of the words, and a `close`.
+fn commands_of(alloc: Global, seed: u64, count: u32) -> Result<CommandList, NoMemory>
+    requires { count ≤ 200 }
+    ensures { IfOk result (λ list. list ≡ commands_of seed count) }
+{
+    let mut commands = CommandList::new(alloc);
+    put_commands(&mut commands, alloc, seed, count)?;
     Ok(commands)
 }
 

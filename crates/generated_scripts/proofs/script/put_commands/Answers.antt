@@ -1,7 +1,7 @@
 use Rattle.std.proofs.Common.{arith, rules}
 use Rattle.generated_scripts.specs.Words.{state_after}
 use Rattle.generated_scripts.proofs.Steps.{word-step, commands-step, commands-length}
-use Rattle.generated_scripts.proofs.script.commands_of.Goals as goal
+use Rattle.generated_scripts.proofs.script.put_commands.Goals as goal
 
 pub loop-init : goal.loop-init
 unfolding state_after

@@ -2,7 +2,7 @@ use Rattle.std.proofs.Common.{◌≡◌, ◌∷◌, map}
 use Rattle.cam_types.specs.declared.script.Command.TheVariants.{Configure}
 use Rattle.generated_scripts.specs.Generated.{command_of, numbers, two_streams}
 use Rattle.generated_scripts.specs.Words.{state_after, word}
-use Rattle.generated_scripts.proofs.script.commands_of.Given as goal
+use Rattle.generated_scripts.proofs.script.put_commands.Given as goal
 
 abbrev pub invariant-loop : goal.invariant-loop
 invariant-loop l = record {
