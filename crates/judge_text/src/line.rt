@@ -32,44 +32,49 @@ fn part_text(part: MissingPart) -> &'static str
     }
 }
 
-/// The line of a verdict: `legal`, `illegal POSITION RULE` or `incomplete PART`.
-pub fn verdict_text(alloc: Global, verdict: Verdict) -> Result<Vec<u8>, NoMemory>
-    ensures { IfOk result (λ text. text.items ≡ verdict_text verdict) }
+/// Appends the line of an entry that isn't allowed.
+fn put_illegal(
+    text: &mut Vec<u8>,
+    alloc: Global,
+    position: u32,
+    rule: RuleName,
+) -> Result<(), NoMemory>
+    ensures { OnOk result (text.new.items ≡ text.old.items ++ verdict_text (Verdict.IllegalAt position rule)) }
 {
-    match verdict {
-        Verdict::Legal => legal_text(alloc),
-        Verdict::IllegalAt { position, rule } => illegal_text(alloc, position, rule),
-        Verdict::Incomplete { part } => incomplete_text(alloc, part),
-    }
-}
-
-fn legal_text(alloc: Global) -> Result<Vec<u8>, NoMemory>
-    ensures { IfOk result (λ text. text.items ≡ verdict_text Verdict.Legal) }
-{
-    let mut text = Vec::new(alloc);
-    text.extend_from_slice(b"legal\n")?;
-    Ok(text)
-}
-
-fn illegal_text(alloc: Global, position: u32, rule: RuleName) -> Result<Vec<u8>, NoMemory>
-    ensures { IfOk result (λ text. text.items ≡ verdict_text (Verdict.IllegalAt position rule)) }
-{
-    let mut text = Vec::new(alloc);
     text.extend_from_slice(b"illegal ")?;
     text.extend_from_slice(position.to_string(alloc)?.as_bytes())?;
     text.extend_from_slice(b" ")?;
     text.extend_from_slice(rule_text(rule).as_bytes())?;
-    text.extend_from_slice(b"\n")?;
-    Ok(text)
+    text.extend_from_slice(b"\n")
 }
 
-fn incomplete_text(alloc: Global, part: MissingPart) -> Result<Vec<u8>, NoMemory>
-    ensures { IfOk result (λ text. text.items ≡ verdict_text (Verdict.Incomplete part)) }
+/// Appends the line of a part that is missing.
+fn put_incomplete(text: &mut Vec<u8>, part: MissingPart) -> Result<(), NoMemory>
+    ensures { OnOk result (text.new.items ≡ text.old.items ++ verdict_text (Verdict.Incomplete part)) }
 {
-    let mut text = Vec::new(alloc);
     text.extend_from_slice(b"incomplete ")?;
     text.extend_from_slice(part_text(part).as_bytes())?;
     text.extend_from_slice(b"\n")?;
+    Ok(())
+}
+
+/// Appends the line of a verdict.
+fn put_verdict(text: &mut Vec<u8>, alloc: Global, verdict: Verdict) -> Result<(), NoMemory>
+    ensures { OnOk result (text.new.items ≡ text.old.items ++ verdict_text verdict) }
+{
+    match verdict {
+        Verdict::Legal => text.extend_from_slice(b"legal\n"),
+        Verdict::IllegalAt { position, rule } => put_illegal(text, alloc, position, rule),
+        Verdict::Incomplete { part } => put_incomplete(text, part),
+    }
+}
+
+/// The line of a verdict: `legal`, `illegal POSITION RULE` or `incomplete PART`.
+pub fn verdict_text(alloc: Global, verdict: Verdict) -> Result<Vec<u8>, NoMemory>
+    ensures { IfOk result (λ text. text.items ≡ verdict_text verdict) }
+{
+    let mut text = Vec::new(alloc);
+    put_verdict(&mut text, alloc, verdict)?;
     Ok(text)
 }
 
@@ -85,8 +90,7 @@ fn put_line_and_cause(
     text.extend_from_slice(line.to_string(alloc)?.as_bytes())?;
     text.extend_from_slice(b" ")?;
     text.extend_from_slice(cause.to_string(alloc)?.as_bytes())?;
-    text.extend_from_slice(b"\n")?;
-    Ok(())
+    text.extend_from_slice(b"\n")
 }
 
 /// The line that refuses a script: `refused script LINE CAUSE`.
