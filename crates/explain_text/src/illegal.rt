@@ -3,7 +3,7 @@ ghost use Rattle.std.specs.Prelude.{◌≡◌, ◌+◌, ◌≤◌, ◌++◌, IfO
 ghost use Rattle.std.specs.List.{list_all};
 ghost use Rattle.allowed_entries.specs.Entries.{allowed_entries};
 ghost use Rattle.allowed_entries.specs.Known.{prints};
-ghost use Rattle.explain_text.specs.Explained.{illegal_head, illegal_text};
+ghost use Rattle.explain_text.specs.Explained.{failed_text, illegal_head, illegal_text};
 ghost use Rattle.judge_conditions.specs.Mentions.{mentions};
 ghost use Rattle.trace_model.specs.Printable.{is_printable};
 
@@ -48,9 +48,42 @@ fn put_head(text: &mut Vec<u8>, alloc: Global, number: u64, position: u32) -> Re
     text.extend_from_slice(b")\n")
 }
 
+/// Writes the condition that an entry doesn't meet behind those before it, and the last of these of which it speaks.
+#[tactic(auto, unfolding(crate::specs::Explained::failed_text))]
+fn put_failed(
+    text: &mut Vec<u8>,
+    alloc: Global,
+    printer: &mut Printer,
+    script: &Script,
+    part: &[u8],
+    rule: RuleName,
+    number: u64,
+    before: &[Entry],
+    faulty: &Entry,
+    failed: Condition,
+) -> Result<(), NoMemory>
+    requires long { length part.now ≤ 134217728 }
+    requires printable { IsTrue (list_all is_printable before.now) }
+    requires numbers { number + length before.now ≤ LINE_LIMIT }
+    ensures { OnOk result
+        (text.new.items ≡ text.old.items
+        ++ failed_text script.now part.now rule number before.now faulty.now (Some failed)) }
+{
+    put_reason(text, rule, failed)?;
+    put_command_part(text, alloc, script, part, before, faulty)?;
+    let mut lines = Vec::new(alloc);
+    let choice = Mentioned {
+        condition: failed,
+        before,
+        faulty: *faulty,
+    };
+    put_last_lines(&mut lines, alloc, printer, &choice, number, before)?;
+    put_headed(text, b"It speaks of:\n", lines.as_slice())
+}
+
 /// The text of an entry that isn't allowed behind those before it, whose first has its line at the number. `failed` is
 /// the condition that the entry doesn't meet, `allowed` what is allowed in its place.
-#[tactic(auto, unfolding(crate::specs::Explained::illegal_text, crate::specs::Explained::failed_text))]
+#[tactic(auto, unfolding(crate::specs::Explained::illegal_text))]
 pub fn illegal_text(
     alloc: Global,
     printer: &mut Printer,
@@ -79,16 +112,9 @@ pub fn illegal_text(
     put_head(&mut text, alloc, number, position)?;
     text.extend_from_slice(b"    ")?;
     text.extend_from_slice(printer.line(*faulty))?;
-    put_reason(&mut text, rule, failed)?;
-    put_command_part(&mut text, alloc, script, part, before, faulty)?;
-    let mut lines = Vec::new(alloc);
-    let choice = Mentioned {
-        condition: failed,
-        before,
-        faulty: *faulty,
-    };
-    put_last_lines(&mut lines, alloc, printer, &choice, number, before)?;
-    put_headed(&mut text, b"It speaks of:\n", lines.as_slice())?;
+    put_failed(
+        &mut text, alloc, printer, script, part, rule, number, before, faulty, failed,
+    )?;
     put_allowed_part(&mut text, alloc, printer, allowed)?;
     Ok(text)
 }
