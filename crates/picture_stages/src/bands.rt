@@ -9,7 +9,6 @@ use crate::wide::write_band;
 use std::thread::{Threads, join_mut};
 
 /// Writes what `write_band` writes, in so many bands side by side.
-#[cycle(bands)]
 pub fn write_bands<R: Threads + Sync>(
     rt: &R,
     bands: u32,
@@ -34,60 +33,32 @@ pub fn write_bands<R: Threads + Sync>(
         write_band(values, first, pairs, luma, blue, red);
         return;
     }
-    let front = pairs / bands as usize;
+    let before = bands / 2;
+    let after = bands - before;
+    let front = pairs / bands as usize * before as usize;
     let (front_luma, back_luma) = luma.split_at_mut(front * 320);
     let (front_blue, back_blue) = blue.split_at_mut(front * 80);
     let (front_red, back_red) = red.split_at_mut(front * 80);
-    write_beside(
-        rt,
-        bands - 1,
-        values,
-        first,
-        front,
-        front_luma,
-        front_blue,
-        front_red,
-        pairs - front,
-        back_luma,
-        back_blue,
-        back_red,
-    );
-}
-
-/// Writes a band of so many pairs of rows, and beside it those behind it in so many bands.
-#[cycle(bands)]
-fn write_beside<R: Threads + Sync>(
-    rt: &R,
-    bands: u32,
-    values: &[u16],
-    first: usize,
-    front: usize,
-    front_luma: &mut [u8],
-    front_blue: &mut [u8],
-    front_red: &mut [u8],
-    back: usize,
-    back_luma: &mut [u8],
-    back_blue: &mut [u8],
-    back_red: &mut [u8],
-)
-    requires values { IsReadout values.now }
-    requires within { first + front + back ≤ 60 }
-    requires front { HaveRoomFor front front_luma.old front_blue.old front_red.old }
-    requires back { HaveRoomFor back back_luma.old back_blue.old back_red.old }
-    ensures front { IsBand values.now first front_luma.new front_blue.new front_red.new }
-    ensures back { IsBand values.now (first + front) back_luma.new back_blue.new back_red.new }
-{
     let middle = first + front;
+    let back = pairs - front;
     join_mut(
         rt,
-        &mut || write_band(values, first, front, front_luma, front_blue, front_red),
+        &mut ||
+            requires { IsSync R.row × IsReadout values.now × (first + front ≤ 60)
+                × HaveRoomFor front front_luma.now front_blue.now front_red.now }
+            ensures { IsBand values.entry.now first front_luma.exit.now front_blue.exit.now front_red.exit.now }
+        {
+            write_bands(
+                rt, before, values, first, front, front_luma, front_blue, front_red,
+            )
+        },
         &mut ||
             requires { IsSync R.row × IsReadout values.now × (middle + back ≤ 60)
                 × HaveRoomFor back back_luma.now back_blue.now back_red.now }
             ensures { IsBand values.entry.now middle back_luma.exit.now back_blue.exit.now back_red.exit.now }
         {
             write_bands(
-                rt, bands, values, middle, back, back_luma, back_blue, back_red,
+                rt, after, values, middle, back, back_luma, back_blue, back_red,
             )
         },
     );

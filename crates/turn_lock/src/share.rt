@@ -65,7 +65,6 @@ fn side_by_side<R: Threads + Wait + Sync>(
 
 /// So many threads add the number `entry`, each `count` times, and so many of them it was added in all.
 /// Each thread but the last works on a seat of its own, which is joined when it has ended.
-#[cycle(threads)]
 pub fn add_by_many<R: Threads + Wait + Sync>(
     rt: &R,
     turnstile: &Turnstile<Tally>,
@@ -82,44 +81,19 @@ pub fn add_by_many<R: Threads + Wait + Sync>(
         return add_often(rt, turnstile, root, entry, count);
     }
     let mut other = turnstile.split(root);
-    let (by_other, by_more) = add_beside(
+    let (by_other, by_more) = join_mut(
         rt,
-        turnstile,
-        &mut other,
-        root,
-        threads - 1,
-        entry,
-        count,
+        &mut || -> u64
+            requires { IsIdle name_of turnstile.now other }
+        { add_often(rt, turnstile, &mut other, entry, count) },
+        &mut || -> u64
+            requires { IsSync R.row × IsIdle name_of turnstile.now root.now × ((view root.now).number ≡ 0)
+                × (2 ≤ threads) }
+            ensures { IsRootAgain name_of turnstile.entry.now (view root.entry.now) root.exit.now }
+        { add_by_many(rt, turnstile, root, threads - 1, entry, count) },
     );
     turnstile.join(root, other);
     by_other.saturating_add(by_more)
-}
-
-// One thread adds the number with a seat of its own, beside so many others.
-#[cycle(threads)]
-fn add_beside<R: Threads + Wait + Sync>(
-    rt: &R,
-    turnstile: &Turnstile<Tally>,
-    seat: &mut Seat<Tally>,
-    root: &mut Seat<Tally>,
-    threads: u32,
-    entry: u64,
-    count: u32,
-) -> (u64, u64)
-    requires seat { IsIdle name_of turnstile.now seat.old }
-    requires idle { IsIdle name_of turnstile.now root.old }
-    requires root { (view root.old).number ≡ 0 }
-    ensures seat { IsDone name_of turnstile.now (view seat.old) seat.new }
-    ensures root { IsRootAgain name_of turnstile.now (view root.old) root.new }
-{
-    join_mut(
-        rt,
-        &mut || add_often(rt, turnstile, seat, entry, count),
-        &mut || -> u64
-            requires { IsSync R.row × IsIdle name_of turnstile.now root.now × ((view root.now).number ≡ 0) }
-            ensures { IsRootAgain name_of turnstile.entry.now (view root.entry.now) root.exit.now }
-        { add_by_many(rt, turnstile, root, threads, entry, count) },
-    )
 }
 
 // Adds the number so often, each time in a turn of its own, until memory runs out.
