@@ -10,7 +10,8 @@ ghost use Rattle.text_parts.specs.Reader.{GivesBy};
 use cam_types::{Four, FrameNo, PickList, StreamSpec};
 use reprocess_model::{FrameList, PLAN_COMMANDS, PLAN_FAULTS, PLAN_PICKS, Plan, ReCommand, ReList};
 use std::alloc::Global;
-use text_parts::{Cause, LineRefused, next_loose_word, with_picks as more_picks};
+use std::mem;
+use text_parts::{Cause, LineRefused, next_loose_word, with_picks};
 
 /// A plan that may still grow, within the limits of a plan.
 #[derive(Drop)]
@@ -100,82 +101,77 @@ impl Draft {
         self.has_outputs() && self.commands.len() == 0
     }
 
-    /// The draft with its input.
-    pub fn with_input(mut self, spec: StreamSpec) -> Draft
-        requires first { self.input ≡ None }
+    /// Sets its input.
+    pub fn set_input(&mut self, spec: StreamSpec)
+        requires first { self.old.input ≡ None }
         requires yuv { IsTrue (is_yuv spec) }
-        ensures { begun result.input result.outputs result.faults result.picks result.commands ≡
-            begun (Some spec) self.outputs self.faults self.picks self.commands }
+        ensures { begun self.new.input self.new.outputs self.new.faults self.new.picks self.new.commands ≡
+            begun (Some spec) self.old.outputs self.old.faults self.old.picks self.old.commands }
     {
         self.input = Some(spec);
-        self
     }
 
-    /// The draft with one more output.
-    pub fn with_output(mut self, input: StreamSpec, spec: StreamSpec) -> Result<Draft, LineRefused>
-        requires input { self.input ≡ Some input }
+    /// Adds an output.
+    pub fn add_output(&mut self, input: StreamSpec, spec: StreamSpec) -> Result<(), LineRefused>
+        requires input { self.old.input ≡ Some input }
         requires fits { IsTrue (is_output input spec) }
-        ensures { GivesBy (λ d. begun d.input d.outputs d.faults d.picks d.commands) result
-            (added_output (begun self.input self.outputs self.faults self.picks self.commands) spec) }
+        ensures { GivesBy
+            (λ _. begun self.new.input self.new.outputs self.new.faults self.new.picks self.new.commands) result
+            (added_output (begun self.old.input self.old.outputs self.old.faults self.old.picks self.old.commands)
+            spec) }
     {
         match with_output(self.outputs, spec) {
             Some(outputs) => {
                 self.outputs = outputs;
-                Ok(self)
+                Ok(())
             }
             None => Err(LineRefused::Bad(Cause::Limit)),
         }
     }
 
-    /// The draft with one more fault.
-    pub fn with_fault(mut self, frame: u32) -> Result<Draft, LineRefused>
-        ensures { GivesBy (λ d. begun d.input d.outputs d.faults d.picks d.commands) result
-            (added_fault (begun self.input self.outputs self.faults self.picks self.commands) frame) }
+    /// Adds a fault.
+    pub fn add_fault(&mut self, frame: u32) -> Result<(), LineRefused>
+        ensures { GivesBy
+            (λ _. begun self.new.input self.new.outputs self.new.faults self.new.picks self.new.commands) result
+            (added_fault (begun self.old.input self.old.outputs self.old.faults self.old.picks self.old.commands)
+            frame) }
     {
         if self.faults.len() >= PLAN_FAULTS {
             return Err(LineRefused::Bad(Cause::Limit));
         }
         self.faults.push(FrameNo(frame))?;
-        Ok(self)
+        Ok(())
     }
 
-    /// The draft with the picks of one more line.
+    /// Adds the picks of a line.
     #[tactic(auto, unfolding(text_parts::specs::LineWords::picks_of))]
-    pub fn with_picks(self, words: &[u8]) -> Result<Draft, LineRefused>
-        ensures { GivesBy (λ d. begun d.input d.outputs d.faults d.picks d.commands) result
-            (added_picks (begun self.input self.outputs self.faults self.picks self.commands) (loose_words words.now)) }
+    pub fn add_picks(&mut self, alloc: Global, words: &[u8]) -> Result<(), LineRefused>
+        ensures { GivesBy
+            (λ _. begun self.new.input self.new.outputs self.new.faults self.new.picks self.new.commands) result
+            (added_picks (begun self.old.input self.old.outputs self.old.faults self.old.picks self.old.commands)
+            (loose_words words.now)) }
     {
         if next_loose_word(words).is_none() {
             return Err(LineRefused::Bad(Cause::Missing));
         }
-        let Draft {
-            input,
-            outputs,
-            faults,
-            picks,
-            commands,
-        } = self;
-        let picks = more_picks(picks, words, PLAN_PICKS)?;
-        Ok(Draft {
-            input,
-            outputs,
-            faults,
-            picks,
-            commands,
-        })
+        let picks = mem::replace(&mut self.picks, PickList::new(alloc));
+        self.picks = with_picks(picks, words, PLAN_PICKS)?;
+        Ok(())
     }
 
-    /// The draft with one more command.
-    pub fn with_command(mut self, command: ReCommand) -> Result<Draft, LineRefused>
+    /// Adds a command.
+    pub fn add_command(&mut self, command: ReCommand) -> Result<(), LineRefused>
         requires { IsTrue (command_fits command) }
-        ensures { GivesBy (λ d. begun d.input d.outputs d.faults d.picks d.commands) result
-            (added_command (begun self.input self.outputs self.faults self.picks self.commands) command) }
+        ensures { GivesBy
+            (λ _. begun self.new.input self.new.outputs self.new.faults self.new.picks self.new.commands) result
+            (added_command (begun self.old.input self.old.outputs self.old.faults self.old.picks self.old.commands)
+            command) }
     {
         if self.commands.len() >= PLAN_COMMANDS {
             return Err(LineRefused::Bad(Cause::Limit));
         }
         self.commands.push(command)?;
-        Ok(self)
+        Ok(())
     }
 
     /// The plan, where the input and an output stand.

@@ -13,22 +13,25 @@ use reprocess_model::{Plan, ReCommand};
 use std::alloc::Global;
 use text_parts::{Cause, LineRefused, TextRefused, is_end, one_number};
 
-fn with_input(draft: Draft, words: &[u8]) -> Result<Draft, LineRefused>
-    ensures { GivesBy (λ d. begun d.input d.outputs d.faults d.picks d.commands) result
-        (input_line (begun draft.input draft.outputs draft.faults draft.picks draft.commands)
+fn set_input(draft: &mut Draft, words: &[u8]) -> Result<(), LineRefused>
+    ensures { GivesBy
+        (λ _. begun draft.new.input draft.new.outputs draft.new.faults draft.new.picks draft.new.commands) result
+        (input_line (begun draft.old.input draft.old.outputs draft.old.faults draft.old.picks draft.old.commands)
         (loose_words words.now)) }
 {
     if draft.input.is_some() {
         return Err(LineRefused::Bad(Cause::UnknownWord));
     }
     let spec = one_size(words)?;
-    Ok(draft.with_input(spec))
+    draft.set_input(spec);
+    Ok(())
 }
 
-fn with_output(draft: Draft, words: &[u8]) -> Result<Draft, LineRefused>
-    ensures { GivesBy (λ d. begun d.input d.outputs d.faults d.picks d.commands) result
-        (output_with (begun draft.input draft.outputs draft.faults draft.picks draft.commands) draft.input
-        (loose_words words.now)) }
+fn add_output(draft: &mut Draft, words: &[u8]) -> Result<(), LineRefused>
+    ensures { GivesBy
+        (λ _. begun draft.new.input draft.new.outputs draft.new.faults draft.new.picks draft.new.commands) result
+        (output_with (begun draft.old.input draft.old.outputs draft.old.faults draft.old.picks draft.old.commands)
+        draft.old.input (loose_words words.now)) }
 {
     let Some(input) = draft.input else {
         return Err(LineRefused::Bad(Cause::UnknownWord));
@@ -37,47 +40,51 @@ fn with_output(draft: Draft, words: &[u8]) -> Result<Draft, LineRefused>
         return Err(LineRefused::Bad(Cause::UnknownWord));
     }
     let spec = one_output(input, words)?;
-    draft.with_output(input, spec)
+    draft.add_output(input, spec)
 }
 
-fn with_fault(draft: Draft, words: &[u8]) -> Result<Draft, LineRefused>
-    ensures { GivesBy (λ d. begun d.input d.outputs d.faults d.picks d.commands) result
-        (fault_line (begun draft.input draft.outputs draft.faults draft.picks draft.commands)
+fn add_fault(draft: &mut Draft, words: &[u8]) -> Result<(), LineRefused>
+    ensures { GivesBy
+        (λ _. begun draft.new.input draft.new.outputs draft.new.faults draft.new.picks draft.new.commands) result
+        (fault_line (begun draft.old.input draft.old.outputs draft.old.faults draft.old.picks draft.old.commands)
         (loose_words words.now)) }
 {
     if !draft.may_prepare() {
         return Err(LineRefused::Bad(Cause::UnknownWord));
     }
     let frame = one_number(words)?;
-    draft.with_fault(frame)
+    draft.add_fault(frame)
 }
 
-fn with_picks(draft: Draft, words: &[u8]) -> Result<Draft, LineRefused>
-    ensures { GivesBy (λ d. begun d.input d.outputs d.faults d.picks d.commands) result
-        (pick_line (begun draft.input draft.outputs draft.faults draft.picks draft.commands)
+fn add_picks(alloc: Global, draft: &mut Draft, words: &[u8]) -> Result<(), LineRefused>
+    ensures { GivesBy
+        (λ _. begun draft.new.input draft.new.outputs draft.new.faults draft.new.picks draft.new.commands) result
+        (pick_line (begun draft.old.input draft.old.outputs draft.old.faults draft.old.picks draft.old.commands)
         (loose_words words.now)) }
 {
     if !draft.may_prepare() {
         return Err(LineRefused::Bad(Cause::UnknownWord));
     }
-    draft.with_picks(words)
+    draft.add_picks(alloc, words)
 }
 
-fn with_request(draft: Draft, words: &[u8]) -> Result<Draft, LineRefused>
-    ensures { GivesBy (λ d. begun d.input d.outputs d.faults d.picks d.commands) result
-        (request_line (begun draft.input draft.outputs draft.faults draft.picks draft.commands)
+fn add_request(draft: &mut Draft, words: &[u8]) -> Result<(), LineRefused>
+    ensures { GivesBy
+        (λ _. begun draft.new.input draft.new.outputs draft.new.faults draft.new.picks draft.new.commands) result
+        (request_line (begun draft.old.input draft.old.outputs draft.old.faults draft.old.picks draft.old.commands)
         (loose_words words.now)) }
 {
     if !draft.has_outputs() {
         return Err(LineRefused::Bad(Cause::UnknownWord));
     }
     let settings = one_request(words)?;
-    draft.with_command(ReCommand::Request(settings))
+    draft.add_command(ReCommand::Request(settings))
 }
 
-fn with_flush(draft: Draft, words: &[u8]) -> Result<Draft, LineRefused>
-    ensures { GivesBy (λ d. begun d.input d.outputs d.faults d.picks d.commands) result
-        (flush_line (begun draft.input draft.outputs draft.faults draft.picks draft.commands)
+fn add_flush(draft: &mut Draft, words: &[u8]) -> Result<(), LineRefused>
+    ensures { GivesBy
+        (λ _. begun draft.new.input draft.new.outputs draft.new.faults draft.new.picks draft.new.commands) result
+        (flush_line (begun draft.old.input draft.old.outputs draft.old.faults draft.old.picks draft.old.commands)
         (loose_words words.now)) }
 {
     if !draft.has_outputs() {
@@ -86,42 +93,49 @@ fn with_flush(draft: Draft, words: &[u8]) -> Result<Draft, LineRefused>
     if !is_end(words) {
         return Err(LineRefused::Bad(Cause::Extra));
     }
-    draft.with_command(ReCommand::Flush)
+    draft.add_command(ReCommand::Flush)
 }
 
-/// A draft with one more line of what comes after the outputs, by its first word and what stands behind it.
+/// Adds a line of what comes after the outputs, by its first word and what stands behind it.
 #[tactic(auto, unfolding(crate::specs::Grammar::later_line))]
-fn with_later_line(draft: Draft, word: &[u8], rest: &[u8]) -> Result<Draft, LineRefused>
-    ensures { GivesBy (λ d. begun d.input d.outputs d.faults d.picks d.commands) result
-        (later_line (begun draft.input draft.outputs draft.faults draft.picks draft.commands) word.now
-        (loose_words rest.now)) }
+fn add_later_line(
+    alloc: Global,
+    draft: &mut Draft,
+    word: &[u8],
+    rest: &[u8],
+) -> Result<(), LineRefused>
+    ensures { GivesBy
+        (λ _. begun draft.new.input draft.new.outputs draft.new.faults draft.new.picks draft.new.commands) result
+        (later_line (begun draft.old.input draft.old.outputs draft.old.faults draft.old.picks draft.old.commands)
+        word.now (loose_words rest.now)) }
 {
     if word == b"pick".as_slice() {
-        with_picks(draft, rest)
+        add_picks(alloc, draft, rest)
     } else if word == b"request".as_slice() {
-        with_request(draft, rest)
+        add_request(draft, rest)
     } else if word == b"flush".as_slice() {
-        with_flush(draft, rest)
+        add_flush(draft, rest)
     } else {
         Err(LineRefused::Bad(Cause::UnknownWord))
     }
 }
 
-/// A draft with one more line.
+/// Adds a line.
 #[tactic(auto, unfolding(crate::specs::Grammar::with_line))]
-fn add_line(draft: Draft, word: &[u8], rest: &[u8]) -> Result<Draft, LineRefused>
-    ensures { GivesBy (λ d. begun d.input d.outputs d.faults d.picks d.commands) result
-        (with_line (begun draft.input draft.outputs draft.faults draft.picks draft.commands) word.now
-        (loose_words rest.now)) }
+fn add_line(alloc: Global, draft: &mut Draft, word: &[u8], rest: &[u8]) -> Result<(), LineRefused>
+    ensures { GivesBy
+        (λ _. begun draft.new.input draft.new.outputs draft.new.faults draft.new.picks draft.new.commands) result
+        (with_line (begun draft.old.input draft.old.outputs draft.old.faults draft.old.picks draft.old.commands)
+        word.now (loose_words rest.now)) }
 {
     if word == b"input".as_slice() {
-        with_input(draft, rest)
+        set_input(draft, rest)
     } else if word == b"output".as_slice() {
-        with_output(draft, rest)
+        add_output(draft, rest)
     } else if word == b"fault".as_slice() {
-        with_fault(draft, rest)
+        add_fault(draft, rest)
     } else {
-        with_later_line(draft, word, rest)
+        add_later_line(alloc, draft, word, rest)
     }
 }
 
@@ -149,8 +163,9 @@ impl LineText for Draft {
         Draft::new(alloc)
     }
 
-    fn with_line(self, _alloc: Global, word: &[u8], rest: &[u8]) -> Result<Draft, LineRefused> {
-        add_line(self, word, rest)
+    fn with_line(mut self, alloc: Global, word: &[u8], rest: &[u8]) -> Result<Draft, LineRefused> {
+        add_line(alloc, &mut self, word, rest)?;
+        Ok(self)
     }
 
     fn finish(self) -> Option<Plan> {

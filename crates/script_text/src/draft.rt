@@ -14,6 +14,7 @@ use cam_types::{
     PICK_LIMIT, PickList, Profile, Script,
 };
 use std::alloc::Global;
+use std::mem;
 use text_parts::{Cause, LineRefused, next_loose_word, with_picks};
 
 /// A script that may still grow. Its sums are kept with it, so that no line is looked at twice.
@@ -62,11 +63,11 @@ impl Draft {
         self.script.commands.len() > 0
     }
 
-    /// The draft with a fault line.
+    /// Adds a fault line.
     #[tactic(auto, unfolding(crate::specs::Grammar::added))]
-    pub fn with_fault(mut self, fault: Fault) -> Result<Draft, LineRefused>
-        ensures { GivesBy (λ d. begun d.script d.devices) result
-            (added (begun self.script self.devices) (FaultLine fault)) }
+    pub fn add_fault(&mut self, fault: Fault) -> Result<(), LineRefused>
+        ensures { GivesBy (λ _. begun self.new.script self.new.devices) result
+            (added (begun self.old.script self.old.devices) (FaultLine fault)) }
     {
         if self.script.faults.len() >= FAULT_LIMIT {
             return Err(LineRefused::Bad(Cause::Limit));
@@ -75,26 +76,27 @@ impl Draft {
             return Err(LineRefused::Bad(Cause::FaultAfterCommand));
         }
         self.script.faults.push(fault)?;
-        Ok(self)
+        Ok(())
     }
 
-    /// The draft with a line `early`.
+    /// Adds a line `early`.
     #[tactic(auto, unfolding(crate::specs::Grammar::added))]
-    pub fn with_early(mut self) -> Result<Draft, LineRefused>
-        ensures { GivesBy (λ d. begun d.script d.devices) result (added (begun self.script self.devices) EarlyLine) }
+    pub fn add_early(&mut self) -> Result<(), LineRefused>
+        ensures { GivesBy (λ _. begun self.new.script self.new.devices) result
+            (added (begun self.old.script self.old.devices) EarlyLine) }
     {
         if self.has_commands() {
             return Err(LineRefused::Bad(Cause::FaultAfterCommand));
         }
         self.script.early = true;
-        Ok(self)
+        Ok(())
     }
 
-    /// The draft with a device line.
+    /// Adds a device line.
     #[tactic(auto, unfolding(crate::specs::Grammar::added))]
-    pub fn with_device(mut self, profile: Profile) -> Result<Draft, LineRefused>
-        ensures { GivesBy (λ d. begun d.script d.devices) result
-            (added (begun self.script self.devices) (DeviceLine profile)) }
+    pub fn add_device(&mut self, profile: Profile) -> Result<(), LineRefused>
+        ensures { GivesBy (λ _. begun self.new.script self.new.devices) result
+            (added (begun self.old.script self.old.devices) (DeviceLine profile)) }
     {
         if self.devices > 0 {
             return Err(LineRefused::Bad(Cause::Limit));
@@ -104,34 +106,24 @@ impl Draft {
         }
         self.script.profile = profile;
         self.devices = 1;
-        Ok(self)
+        Ok(())
     }
 
-    /// The draft with a pick line, by the words behind `pick`.
+    /// Adds a pick line, by the words behind `pick`.
     #[tactic(auto, unfolding(crate::specs::Grammar::added, text_parts::specs::LineWords::picks_of))]
-    pub fn with_picks(self, words: &[u8]) -> Result<Draft, LineRefused>
-        ensures { GivesBy (λ d. begun d.script d.devices) result
-            (then_added (begun self.script self.devices) (pick_line (loose_words words.now))) }
+    pub fn add_picks(&mut self, alloc: Global, words: &[u8]) -> Result<(), LineRefused>
+        ensures { GivesBy (λ _. begun self.new.script self.new.devices) result
+            (then_added (begun self.old.script self.old.devices) (pick_line (loose_words words.now))) }
     {
         if next_loose_word(words).is_none() {
             return Err(LineRefused::Bad(Cause::Missing));
         }
-        let Draft {
-            mut script,
-            devices,
-            awaited,
-            is_closed,
-        } = self;
-        script.picks = with_picks(script.picks, words, PICK_LIMIT)?;
-        if script.commands.len() > 0 {
+        let picks = mem::replace(&mut self.script.picks, PickList::new(alloc));
+        self.script.picks = with_picks(picks, words, PICK_LIMIT)?;
+        if self.has_commands() {
             return Err(LineRefused::Bad(Cause::FaultAfterCommand));
         }
-        Ok(Draft {
-            script,
-            devices,
-            awaited,
-            is_closed,
-        })
+        Ok(())
     }
 
     /// What is awaited with one more command, and whether it is closed then; none where a limit is passed.
@@ -155,12 +147,12 @@ impl Draft {
         }
     }
 
-    /// The draft with a command line.
+    /// Adds a command line.
     #[tactic(auto, unfolding(crate::specs::Grammar::added))]
-    pub fn with_command(mut self, command: Command) -> Result<Draft, LineRefused>
+    pub fn add_command(&mut self, command: Command) -> Result<(), LineRefused>
         requires { IsTrue (within command) }
-        ensures { GivesBy (λ d. begun d.script d.devices) result
-            (added (begun self.script self.devices) (CommandLine command)) }
+        ensures { GivesBy (λ _. begun self.new.script self.new.devices) result
+            (added (begun self.old.script self.old.devices) (CommandLine command)) }
     {
         let Some((awaited, is_closed)) = self.sums_with(&command) else {
             return Err(LineRefused::Bad(Cause::Limit));
@@ -168,7 +160,7 @@ impl Draft {
         self.script.commands.push(command)?;
         self.awaited = awaited;
         self.is_closed = is_closed;
-        Ok(self)
+        Ok(())
     }
 
     /// The script, with the added `close`.

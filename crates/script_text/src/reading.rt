@@ -46,76 +46,84 @@ fn version_of(word: &[u8], rest: &[u8]) -> Option<u8>
     }
 }
 
-/// A draft with one more line that is a command, by its word and what stands behind it.
-fn with_command(alloc: Global, draft: Draft, word: &[u8], rest: &[u8]) -> Result<Draft, LineRefused>
-    ensures { GivesBy (λ d. begun d.script d.devices) result
-        (then_added (begun draft.script draft.devices) (command_line (command_word word.now) (loose_words rest.now))) }
+/// Adds a line that is a command, by its word and what stands behind it.
+fn add_command(
+    alloc: Global,
+    draft: &mut Draft,
+    word: &[u8],
+    rest: &[u8],
+) -> Result<(), LineRefused>
+    ensures { GivesBy (λ _. begun draft.new.script draft.new.devices) result
+        (then_added (begun draft.old.script draft.old.devices)
+        (command_line (command_word word.now) (loose_words rest.now))) }
 {
     let Some(word) = command_word(word) else {
         return Err(LineRefused::Bad(Cause::UnknownWord));
     };
     let command = command_of(alloc, word, rest)?;
-    draft.with_command(command)
+    draft.add_command(command)
 }
 
-/// A draft with one more line `early`, by what stands behind the word.
-fn with_early(draft: Draft, rest: &[u8]) -> Result<Draft, LineRefused>
-    ensures { GivesBy (λ d. begun d.script d.devices) result
-        (then_added (begun draft.script draft.devices) (early_line (loose_words rest.now))) }
+/// Adds a line `early`, by what stands behind the word.
+fn add_early(draft: &mut Draft, rest: &[u8]) -> Result<(), LineRefused>
+    ensures { GivesBy (λ _. begun draft.new.script draft.new.devices) result
+        (then_added (begun draft.old.script draft.old.devices) (early_line (loose_words rest.now))) }
 {
     if is_end(rest) {
-        draft.with_early()
+        draft.add_early()
     } else {
         Err(LineRefused::Bad(Cause::Extra))
     }
 }
 
-/// A draft with one more device line, by what stands behind the word.
-fn with_device(draft: Draft, rest: &[u8]) -> Result<Draft, LineRefused>
-    ensures { GivesBy (λ d. begun d.script d.devices) result
-        (then_added (begun draft.script draft.devices) (device_line draft.script.version (loose_words rest.now))) }
+/// Adds a device line, by what stands behind the word.
+fn add_device(draft: &mut Draft, rest: &[u8]) -> Result<(), LineRefused>
+    ensures { GivesBy (λ _. begun draft.new.script draft.new.devices) result
+        (then_added (begun draft.old.script draft.old.devices)
+        (device_line draft.old.script.version (loose_words rest.now))) }
 {
     if draft.version() != 2 {
         return Err(LineRefused::Bad(Cause::UnknownWord));
     }
     let profile = device_of(rest)?;
-    draft.with_device(profile)
+    draft.add_device(profile)
 }
 
-/// A draft with one more line that is neither a fault nor a pick line, by its first word and what stands behind it.
+/// Adds a line that is neither a fault nor a pick line, by its first word and what stands behind it.
 #[tactic(auto, unfolding(crate::specs::Lines::other_line))]
-fn with_other_line(
+fn add_other_line(
     alloc: Global,
-    draft: Draft,
+    draft: &mut Draft,
     word: &[u8],
     rest: &[u8],
-) -> Result<Draft, LineRefused>
-    ensures { GivesBy (λ d. begun d.script d.devices) result
-        (then_added (begun draft.script draft.devices)
-        (other_line draft.script.version word.now (loose_words rest.now))) }
+) -> Result<(), LineRefused>
+    ensures { GivesBy (λ _. begun draft.new.script draft.new.devices) result
+        (then_added (begun draft.old.script draft.old.devices)
+        (other_line draft.old.script.version word.now (loose_words rest.now))) }
 {
     if has_text(word, "early") {
-        with_early(draft, rest)
+        add_early(draft, rest)
     } else if has_text(word, "device") {
-        with_device(draft, rest)
+        add_device(draft, rest)
     } else {
-        with_command(alloc, draft, word, rest)
+        add_command(alloc, draft, word, rest)
     }
 }
 
-/// A draft with one more line, by its first word and what stands behind it.
+/// Adds a line, by its first word and what stands behind it.
 #[tactic(auto, unfolding(crate::specs::Lines::line_of))]
-fn with_line(alloc: Global, draft: Draft, word: &[u8], rest: &[u8]) -> Result<Draft, LineRefused>
-    ensures { GivesBy (λ d. begun d.script d.devices) result
-        (then_added (begun draft.script draft.devices) (line_of draft.script.version word.now (loose_words rest.now))) }
+fn add_line(alloc: Global, draft: &mut Draft, word: &[u8], rest: &[u8]) -> Result<(), LineRefused>
+    ensures { GivesBy (λ _. begun draft.new.script draft.new.devices) result
+        (then_added (begun draft.old.script draft.old.devices)
+        (line_of draft.old.script.version word.now (loose_words rest.now))) }
 {
     if has_text(word, "fault") {
         let fault = fault_of(rest)?;
-        draft.with_fault(fault)
+        draft.add_fault(fault)
     } else if has_text(word, "pick") {
-        draft.with_picks(rest)
+        draft.add_picks(alloc, rest)
     } else {
-        with_other_line(alloc, draft, word, rest)
+        add_other_line(alloc, draft, word, rest)
     }
 }
 
@@ -130,13 +138,14 @@ fn after_words(
     ensures { GivesBy (option_map (λ d. begun d.script d.devices)) result
         (after_words (option_map (λ d. begun d.script d.devices) before) word.now (loose_words rest.now)) }
 {
-    match before {
-        Some(draft) => Ok(Some(with_line(alloc, draft, word, rest)?)),
-        None => {
-            let version = version_of(word, rest).ok_or(Cause::Version)?;
-            Ok(Some(Draft::new(alloc, version)))
-        }
+    if let Some(mut draft) = before {
+        add_line(alloc, &mut draft, word, rest)?;
+        return Ok(Some(draft));
     }
+    let Some(version) = version_of(word, rest) else {
+        return Err(LineRefused::Bad(Cause::Version));
+    };
+    Ok(Some(Draft::new(alloc, version)))
 }
 
 /// What stands after a line.

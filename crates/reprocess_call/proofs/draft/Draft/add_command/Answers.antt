@@ -1,6 +1,6 @@
 use Rattle.std.proofs.Common.{arith}
 use Rattle.std.proofs.lemmas.Grind.{common_steps}
-use Rattle.reprocess_call.proofs.draft.Draft.with_command.Goals as goal
+use Rattle.reprocess_call.proofs.draft.Draft.add_command.Goals as goal
 
 pub invariant_of-self : goal.invariant_of-self
 invariant_of-self c = grind (arith, common_steps)

@@ -1,6 +1,6 @@
 use Rattle.std.proofs.Common.{arith}
 use Rattle.std.proofs.lemmas.Grind.{common_steps}
-use Rattle.script_text.proofs.draft.Draft.with_command.Goals as goal
+use Rattle.script_text.proofs.draft.Draft.add_command.Goals as goal
 
 pub push-requires : goal.push-requires
 push-requires c = grind (arith, common_steps)
