@@ -1,2 +1,3 @@
+mod Doing
 pub mod Others
 mod Words
