@@ -1,4 +1,5 @@
-use Rattle.std.proofs.Common.{rules, ◌≡◌, sym, ap, map, ◌∙◌}
+use Rattle.std.proofs.Common.{◌≡◌, ℕ, List, ap, map, sym, rules, ◌∙◌, Bor}
+use Rattle.std.specs.Prelude.{string_bytes}
 use Rattle.call_parts.proofs.Sinks.{nothing_read}
 use Rattle.call_parts.specs.Program.{number_of}
 use Rattle.tools_top.specs.Words.{limit_of}
@@ -11,12 +12,15 @@ returns-in_err-words-clause-read g c words same =
     let five : number_of c.from_residual.result ≡ 5 = search rules in
     rw five (nothing_read (limit_of (tool_of words)) (g.S.Source.left c.args.source.now) (g.S.Source.left c.args.source.now))
 
-pub returns-clause-read : goal.returns-clause-read
-returns-clause-read g c words same =
-    rw (same_tool c.as_slice.result.now words (ap (λ items. map (λ word. word.now) items) c.as_slice.ensures.value ∙ (c.in_ok-words.ensures ∙ sym same))) at c.tools_main.ensures.read
-
-pub returns-clause-unread : goal.returns-clause-unread
-returns-clause-unread g c words same none =
-    let alike = same_tool c.as_slice.result.now words (ap (λ items. map (λ word. word.now) items) c.as_slice.ensures.value ∙ (c.in_ok-words.ensures ∙ sym same)) in
-    let told = c.tools_main.ensures.unread (rw alike none) in
-    (told.0, told.1, told.2, told.3)
+pub returns : goal.returns
+returns g c =
+    let said = c.tools_main.ensures in
+    let alike : (words : List (Bor (List ℕ))) → map (λ word. word.now) words ≡ map string_bytes c.args.texts.now → tool_of c.as_slice.result.now ≡ tool_of words = λ words same. same_tool c.as_slice.result.now words (ap (λ items. map (λ word. word.now) items) c.as_slice.ensures.value ∙ (c.in_ok-words.ensures ∙ sym same)) in
+    record {
+      tells = λ words same. rw (alike words same) at said.tells;
+      source = said.source;
+      sink = said.sink;
+      read = λ words same. rw (alike words same) at said.read;
+      unread = λ words same none. let told = said.unread (rw (alike words same) none) in (told.0, told.1, told.2, told.3);
+      known = said.known;
+    }
