@@ -1,5 +1,5 @@
 -- What a form's call says is what is said of the words that have the form.
-use Rattle.std.proofs.Common.{◌≡◌, ◌≢◌, ◌≤◌, ℕ, true, false, List, Option, Some, None, IfSome, ◌⊎◌, refl, sym, ap, ◌∙◌, arith, subst}
+use Rattle.std.proofs.Common.{◌≡◌, ◌≢◌, ◌≤◌, ℕ, true, false, List, Option, Some, None, IfSome, ◌⊎◌, inl, inr, refl, sym, ap, ◌∙◌, arith, subst}
 use Rattle.std.proofs.lemmas.Bool.{false≢true}
 use Rattle.std.specs.Prelude.{is_some}
 use Rattle.std.specs.Io.KnownBytes.{IsAtEnd}
@@ -22,7 +22,6 @@ use Rattle.run_calls.specs.Running.{IsRunWhole}
 use Rattle.camera_top.specs.Commands.{TellsOf}
 use Rattle.camera_top.specs.Help.{help_text, usage_line}
 use Rattle.camera_top.specs.Words.{limit_of}
-use Rattle.camera_top.proofs.Others.{answered_low, gen_low, gen_other_than, other_than, wrote}
 
 -- the input was read to its end, and this holds of it
 abbrev IsRead : (List ℕ → Type 0) → Option (List ℕ) → Option (List ℕ) → Type 0
@@ -106,76 +105,43 @@ reading form wanted limit status from to faults_before faults_after before after
     of_form form wanted status from to faults_before faults_after before after is
     (does wanted status from to faults_before faults_after before after tells (λ usage. absurd (ends.no_usage usage)) done (λ none. absurd (false≢true (sym (rw reads at none)))) ends.source ends.sink (rw reads ends.read) ends.known)
 
+-- what a status is not where nothing is read
+abbrev IsQuiet : ℕ → Type 0
+IsQuiet status = (status ≢ 1) × (status ≢ 3) × (status ≤ 5)
+
 -- a form that reads nothing, or words of no form
-pub telling : (form wanted : Option Form) (status : ℕ) (from : Option (List ℕ)) (faults : ℕ) (before after : SinkState) → wanted ≡ form → limit_of wanted ≡ None → TellsOf wanted from status before after → (status ≡ 2 → wanted ≡ None) → (status ≡ 0 → IsDone wanted from from before after) → status ≢ 1 → status ≢ 3 → CountsSink status before after → status ≤ 5 → Does form status from from faults faults before after
-telling form wanted status from faults before after is unread tells usage done one three sink known =
+telling : (form wanted : Option Form) (status : ℕ) (from : Option (List ℕ)) (faults : ℕ) (before after : SinkState) → wanted ≡ form → limit_of wanted ≡ None → TellsOf wanted from status before after → (status ≡ 2 → wanted ≡ None) → (status ≡ 0 → IsDone wanted from from before after) → CountsSink status before after → IsQuiet status → Does form status from from faults faults before after
+telling form wanted status from faults before after is unread tells usage done sink quiet' =
     of_form form wanted status from from faults faults before after is
-    (does wanted status from from faults faults before after tells usage done (λ _. (refl, refl, one, three)) (stays status faults faults three refl) sink (rw unread tt) known)
+    (does wanted status from from faults faults before after tells usage done (λ _. (refl, refl, quiet'.0, quiet'.1)) (stays status faults faults quiet'.1 refl) sink (rw unread tt) quiet'.2)
 
 -- ---- the forms that read nothing
 
-zero-one : ◌≢◌ {A = ℕ} 0 1
-zero-one e = absurd (omega (arith, e))
-
-zero-two : ◌≢◌ {A = ℕ} 0 2
-zero-two e = absurd (omega (arith, e))
-
-zero-three : ◌≢◌ {A = ℕ} 0 3
-zero-three e = absurd (omega (arith, e))
-
-two-zero : ◌≢◌ {A = ℕ} 2 0
-two-zero e = absurd (omega (arith, e))
-
-two-one : ◌≢◌ {A = ℕ} 2 1
-two-one e = absurd (omega (arith, e))
-
-two-three : ◌≢◌ {A = ℕ} 2 3
-two-three e = absurd (omega (arith, e))
-
-four-zero : ◌≢◌ {A = ℕ} 4 0
-four-zero e = absurd (omega (arith, e))
-
-four-one : ◌≢◌ {A = ℕ} 4 1
-four-one e = absurd (omega (arith, e))
-
-four-two : ◌≢◌ {A = ℕ} 4 2
-four-two e = absurd (omega (arith, e))
-
-four-three : ◌≢◌ {A = ℕ} 4 3
-four-three e = absurd (omega (arith, e))
-
-five-one : ◌≢◌ {A = ℕ} 5 1
-five-one e = absurd (omega (arith, e))
-
-five-two : ◌≢◌ {A = ℕ} 5 2
-five-two e = absurd (omega (arith, e))
-
-five-three : ◌≢◌ {A = ℕ} 5 3
-five-three e = absurd (omega (arith, e))
-
-pub helping : (form : Option Form) (status : ℕ) (from : Option (List ℕ)) (faults : ℕ) (before after : SinkState) → Some Help ≡ form → Answers 0 help_text status before after → Does form status from from faults faults before after
-helping form status from faults before after is h =
-    telling form (Some Help) status from faults before after is refl h
-    (λ two. absurd (other_than 2 0 help_text status before after zero-two four-two h two))
-    (wrote help_text status before after h)
-    (other_than 1 0 help_text status before after zero-one four-one h)
-    (other_than 3 0 help_text status before after zero-three four-three h)
-    (answered 0 help_text status before after (omega arith) h) (answered_low 0 help_text status before after (omega arith) h)
-
-pub refusing : (form : Option Form) (status : ℕ) (from : Option (List ℕ)) (faults : ℕ) (before after : SinkState) → None ≡ form → Answers 2 usage_line status before after → Does form status from from faults faults before after
-refusing form status from faults before after is h =
-    telling form None status from faults before after is refl h (λ _. refl)
-    (other_than 0 2 usage_line status before after two-zero four-zero h)
-    (other_than 1 2 usage_line status before after two-one four-one h)
-    (other_than 3 2 usage_line status before after two-three four-three h)
-    (answered 2 usage_line status before after (omega arith) h) (answered_low 2 usage_line status before after (omega arith) h)
+quiet : (status : ℕ) → (status ≡ 0) ⊎ ((status ≡ 4) ⊎ (status ≡ 5)) → IsQuiet status × (status ≢ 2)
+quiet status (inl h) = ((λ e. absurd (omega (arith, h, e)), λ e. absurd (omega (arith, h, e)), omega (arith, h)), λ e. absurd (omega (arith, h, e)))
+quiet status (inr (inl h)) = ((λ e. absurd (omega (arith, h, e)), λ e. absurd (omega (arith, h, e)), omega (arith, h)), λ e. absurd (omega (arith, h, e)))
+quiet status (inr (inr h)) = ((λ e. absurd (omega (arith, h, e)), λ e. absurd (omega (arith, h, e)), omega (arith, h)), λ e. absurd (omega (arith, h, e)))
 
 pub generating : (form : Option Form) (seed count status : ℕ) (from : Option (List ℕ)) (faults : ℕ) (before after : SinkState) → Some (Gen seed count) ≡ form → TellsBy (SaysOfSeed seed count) status before after → (status ≡ 0 → IsWholeRun Summary (generated seed count) before after) → CountsSink status before after → (status ≡ 0) ⊎ ((status ≡ 4) ⊎ (status ≡ 5)) → Does form status from from faults faults before after
 generating form seed count status from faults before after is tells whole sink known =
-    telling form (Some (Gen seed count)) status from faults before after is refl tells
-    (λ two. absurd (gen_other_than 2 status zero-two four-two five-two known two)) whole
-    (gen_other_than 1 status zero-one four-one five-one known)
-    (gen_other_than 3 status zero-three four-three five-three known) sink (gen_low status known)
+    let calm = quiet status known in
+    telling form (Some (Gen seed count)) status from faults before after is refl tells (λ two. absurd (calm.1 two)) whole sink calm.0
+
+pub helping : (form : Option Form) (status : ℕ) (from : Option (List ℕ)) (faults : ℕ) (before after : SinkState) → Some Help ≡ form → Answers 0 help_text status before after → Does form status from from faults faults before after
+helping form status from faults before after is (inl h) =
+    telling form (Some Help) status from faults before after is refl (inl h) (λ two. absurd (omega (arith, h.0, two))) (λ _. h.1.0)
+    (answered 0 help_text status before after (omega arith) (inl h)) (quiet status (inl h.0)).0
+helping form status from faults before after is (inr h) =
+    telling form (Some Help) status from faults before after is refl (inr h) (λ two. absurd (omega (arith, h.0, two))) (λ zero'. absurd (omega (arith, h.0, zero')))
+    (answered 0 help_text status before after (omega arith) (inr h)) (quiet status (inr (inl h.0))).0
+
+pub refusing : (form : Option Form) (status : ℕ) (from : Option (List ℕ)) (faults : ℕ) (before after : SinkState) → None ≡ form → Answers 2 usage_line status before after → Does form status from from faults faults before after
+refusing form status from faults before after is (inl h) =
+    telling form None status from faults before after is refl (inl h) (λ _. refl) (λ zero'. absurd (omega (arith, h.0, zero')))
+    (answered 2 usage_line status before after (omega arith) (inl h)) (λ e. absurd (omega (arith, h.0, e)), λ e. absurd (omega (arith, h.0, e)), omega (arith, h.0))
+refusing form status from faults before after is (inr h) =
+    telling form None status from faults before after is refl (inr h) (λ _. refl) (λ zero'. absurd (omega (arith, h.0, zero')))
+    (answered 2 usage_line status before after (omega arith) (inr h)) (quiet status (inr (inl h.0))).0
 
 -- ---- the form that an arm of a match has
 

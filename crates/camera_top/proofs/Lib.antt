@@ -1,3 +1,2 @@
 mod Doing
-pub mod Others
 mod Words

@@ -1,5 +1,5 @@
 -- What a tool's call says is what is said of the words that ask for the tool.
-use Rattle.std.proofs.Common.{◌≡◌, ◌≢◌, ◌≤◌, ℕ, true, false, List, Option, Some, None, IfSome, refl, sym, ap, ◌∙◌, arith, subst}
+use Rattle.std.proofs.Common.{◌≡◌, ◌≢◌, ◌≤◌, ◌⊎◌, ℕ, true, false, List, Option, Some, None, IfSome, inl, inr, refl, sym, ap, ◌∙◌, arith, subst}
 use Rattle.std.proofs.lemmas.Bool.{false≢true}
 use Rattle.std.specs.Prelude.{is_some}
 use Rattle.std.specs.Io.KnownBytes.{IsAtEnd}
@@ -12,7 +12,6 @@ use Rattle.tools_top.specs.Help.{help_text, usage_line}
 use Rattle.tools_top.specs.Words.{limit_of}
 use Rattle.tools_top.specs.declared.tool.Tool.{Tool}
 use Rattle.tools_top.specs.declared.tool.Tool.TheVariants.{Help}
-use Rattle.tools_top.proofs.Others.{answered_low, other_than, wrote}
 
 -- what `tools_main` says
 abbrev Does : Option Tool → ℕ → Option (List ℕ) → Option (List ℕ) → ℕ → ℕ → SinkState → SinkState → Type 0
@@ -52,77 +51,46 @@ reading tool wanted limit status from to faults_before faults_after before after
 
 -- ---- the words that read nothing
 
-zero-one : ◌≢◌ {A = ℕ} 0 1
-zero-one e = absurd (omega (arith, e))
+-- what a status is not where nothing is read
+abbrev IsQuiet : ℕ → Type 0
+IsQuiet status = (status ≢ 1) × (status ≢ 3) × (status ≢ 5) × (status ≤ 5)
 
-zero-two : ◌≢◌ {A = ℕ} 0 2
-zero-two e = absurd (omega (arith, e))
+quiet : (status : ℕ) → (status ≡ 0) ⊎ ((status ≡ 2) ⊎ (status ≡ 4)) → IsQuiet status
+quiet status (inl h) = (λ e. absurd (omega (arith, h, e)), λ e. absurd (omega (arith, h, e)), λ e. absurd (omega (arith, h, e)), omega (arith, h))
+quiet status (inr (inl h)) = (λ e. absurd (omega (arith, h, e)), λ e. absurd (omega (arith, h, e)), λ e. absurd (omega (arith, h, e)), omega (arith, h))
+quiet status (inr (inr h)) = (λ e. absurd (omega (arith, h, e)), λ e. absurd (omega (arith, h, e)), λ e. absurd (omega (arith, h, e)), omega (arith, h))
 
-zero-three : ◌≢◌ {A = ℕ} 0 3
-zero-three e = absurd (omega (arith, e))
-
-zero-five : ◌≢◌ {A = ℕ} 0 5
-zero-five e = absurd (omega (arith, e))
-
-two-zero : ◌≢◌ {A = ℕ} 2 0
-two-zero e = absurd (omega (arith, e))
-
-two-one : ◌≢◌ {A = ℕ} 2 1
-two-one e = absurd (omega (arith, e))
-
-two-three : ◌≢◌ {A = ℕ} 2 3
-two-three e = absurd (omega (arith, e))
-
-two-five : ◌≢◌ {A = ℕ} 2 5
-two-five e = absurd (omega (arith, e))
-
-four-zero : ◌≢◌ {A = ℕ} 4 0
-four-zero e = absurd (omega (arith, e))
-
-four-one : ◌≢◌ {A = ℕ} 4 1
-four-one e = absurd (omega (arith, e))
-
-four-two : ◌≢◌ {A = ℕ} 4 2
-four-two e = absurd (omega (arith, e))
-
-four-three : ◌≢◌ {A = ℕ} 4 3
-four-three e = absurd (omega (arith, e))
-
-four-five : ◌≢◌ {A = ℕ} 4 5
-four-five e = absurd (omega (arith, e))
+telling : (tool wanted : Option Tool) (status : ℕ) (from : Option (List ℕ)) (faults : ℕ) (before after : SinkState) → wanted ≡ tool → limit_of wanted ≡ None → TellsOfTool wanted from status before after → (status ≡ 2 → wanted ≡ None) → (wanted ≡ Some Help → status ≡ 0 → Writes before after help_text) → (status ≡ 0 → is_some wanted ≡ true) → CountsSink status before after → IsQuiet status
+    → Does tool status from from faults faults before after
+telling tool wanted status from faults before after is unread tells usage help some sink quiet' =
+    of_tool tool wanted status from from faults faults before after is (record {
+      tells = tells;
+      usage_only = usage;
+      help_done = help;
+      done = λ reads. absurd (false≢true (rw unread at reads));
+      done_tool = some;
+      unread = λ _. (refl, refl, quiet'.0, quiet'.1, quiet'.2);
+      source = stays status faults faults quiet'.1 refl;
+      sink = sink;
+      read = rw unread tt;
+      known = quiet'.3;
+    })
 
 pub helping : (tool : Option Tool) (status : ℕ) (from : Option (List ℕ)) (faults : ℕ) (before after : SinkState) → Some Help ≡ tool → Answers 0 help_text status before after → Does tool status from from faults faults before after
-helping tool status from faults before after is h =
-    let three = other_than 3 0 help_text status before after zero-three four-three h in
-    of_tool tool (Some Help) status from from faults faults before after is (record {
-      tells = h;
-      usage_only = λ two. absurd (other_than 2 0 help_text status before after zero-two four-two h two);
-      help_done = λ _. wrote help_text status before after h;
-      done = λ reads. absurd (false≢true reads);
-      done_tool = λ _. refl;
-      unread = λ _. (refl, refl, other_than 1 0 help_text status before after zero-one four-one h, three, other_than 5 0 help_text status before after zero-five four-five h);
-      source = stays status faults faults three refl;
-      sink = answered 0 help_text status before after (omega arith) h;
-      read = tt;
-      known = answered_low 0 help_text status before after (omega arith) h;
-    })
+helping tool status from faults before after is (inl h) =
+    telling tool (Some Help) status from faults before after is refl (inl h) (λ two. absurd (omega (arith, h.0, two))) (λ _ _. h.1.0) (λ _. refl)
+    (answered 0 help_text status before after (omega arith) (inl h)) (quiet status (inl h.0))
+helping tool status from faults before after is (inr h) =
+    telling tool (Some Help) status from faults before after is refl (inr h) (λ two. absurd (omega (arith, h.0, two))) (λ _ zero'. absurd (omega (arith, h.0, zero'))) (λ _. refl)
+    (answered 0 help_text status before after (omega arith) (inr h)) (quiet status (inr (inr h.0)))
 
 pub refusing : (tool : Option Tool) (status : ℕ) (from : Option (List ℕ)) (faults : ℕ) (before after : SinkState) → None ≡ tool → Answers 2 usage_line status before after → Does tool status from from faults faults before after
-refusing tool status from faults before after is h =
-    let zero' = other_than 0 2 usage_line status before after two-zero four-zero h in
-    let three = other_than 3 2 usage_line status before after two-three four-three h in
-    of_tool tool None status from from faults faults before after is (record {
-      tells = h;
-      usage_only = λ _. refl;
-      help_done = λ help. absurd (false≢true (ap is_some help));
-      done = λ reads. absurd (false≢true reads);
-      done_tool = λ done. absurd (zero' done);
-      unread = λ _. (refl, refl, other_than 1 2 usage_line status before after two-one four-one h, three, other_than 5 2 usage_line status before after two-five four-five h);
-      source = stays status faults faults three refl;
-      sink = answered 2 usage_line status before after (omega arith) h;
-      read = tt;
-      known = answered_low 2 usage_line status before after (omega arith) h;
-    })
+refusing tool status from faults before after is (inl h) =
+    telling tool None status from faults before after is refl (inl h) (λ _. refl) (λ help. absurd (false≢true (ap is_some help))) (λ zero'. absurd (omega (arith, h.0, zero')))
+    (answered 2 usage_line status before after (omega arith) (inl h)) (quiet status (inr (inl h.0)))
+refusing tool status from faults before after is (inr h) =
+    telling tool None status from faults before after is refl (inr h) (λ _. refl) (λ help. absurd (false≢true (ap is_some help))) (λ zero'. absurd (omega (arith, h.0, zero')))
+    (answered 2 usage_line status before after (omega arith) (inr h)) (quiet status (inr (inr h.0)))
 
 -- ---- the tool that an arm of a match has
 

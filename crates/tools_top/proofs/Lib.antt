@@ -1,3 +1,2 @@
 mod Doing
-mod Others
 mod Words
