@@ -1,12 +1,17 @@
 -- What `logical` tells of an input.
-use Rattle.std.proofs.Common.{◌≡◌, ℕ, Bool, true, false, List, Ok, refl, arith, inr}
+use Rattle.std.proofs.Common.{◌≡◌, ℕ, Bool, true, false, List, Ok, refl, ap, arith, subst, inl, inr}
 use Rattle.io_edge.specs.States.{SinkState, Writes}
 use Rattle.cam_types.specs.declared.script.Script.{Script}
-use Rattle.call_parts.specs.Answers.{Answers, AreAnswers, TellsBy}
+use Rattle.call_parts.specs.Answers.{Answers, AnswersWithMemory, AreAnswers, TellsBy}
 use Rattle.call_parts.proofs.Done.{meant}
+use Rattle.judge_text.specs.Lines.{refused_script_text}
+use Rattle.logical_camera.specs.Both.{Both, at_first}
 use Rattle.logical_camera.specs.LogicalLaws.{EachItemHasOnePair, IsBounded}
 use Rattle.logical_camera.specs.Runs.{Deed, both_by}
 use Rattle.logical_camera.proofs.Joint.{script-by}
+use Rattle.logical_camera.specs.Turns.{IsRefused}
+use Rattle.logical_camera.specs.declared.logical.LogicalRefused.{LogicalRefused}
+use Rattle.logical_camera.specs.declared.logical.LogicalRefused.TheVariants.{NotLogical}
 use Rattle.logical_camera.specs.Orderless.{is_logical, without_faults}
 use Rattle.run_model.specs.Lawful.{KeepsLaws}
 use Rattle.run_model.specs.History.{trace_of}
@@ -17,6 +22,19 @@ use Rattle.logical_call.specs.Logical.{IsLogicalWhole, IsRunText, TellsBoth, Tel
 
 pub told : (script : Script) (text : List ℕ) (status : ℕ) (before after : SinkState) → IsRunText script text → Answers 0 text status before after → TellsBy (TellsOfRun script) status before after
 told script text status before after is h = inr (0, text, (refl, is), h)
+
+-- a script that isn't logical is refused
+pub refused : (script : Script) (why : LogicalRefused) (status : ℕ) (before after : SinkState) → why ≡ NotLogical → IsRefused script why → AnswersWithMemory 1 (refused_script_text 0 61) status before after → TellsBy (TellsOfScript script) status before after
+refused script why status before after is not' (inl h) = inl h
+refused script why status before after is not' (inr h) =
+    let other : is_logical script ≡ false = subst (λ (w : LogicalRefused). IsRefused script w) is not' in
+    inr (1, refused_script_text 0 61, rw other (refl, refl), h)
+
+-- one that is logical is run from the start
+pub opened : (script : Script) (cameras : Both) (status : ℕ) (before after : SinkState) → is_logical script ≡ true → cameras ≡ at_first script → TellsBy (TellsOfRun cameras.script) status before after → TellsBy (TellsOfScript script) status before after
+opened script cameras status before after yes' first h =
+    let same : cameras.script ≡ script = ap (λ (b : Both). b.script) first in
+    rw (yes', ← same) h
 
 -- ---- at status 0
 

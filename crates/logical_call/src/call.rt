@@ -1,9 +1,10 @@
 //! `logical`: a script is read and run on two cameras, and what both did is written.
-ghost use Rattle.std.specs.Prelude.{◌≡◌};
+ghost use Rattle.std.specs.Prelude.{◌≡◌, IsTrue};
+ghost use Rattle.cam_types.specs.Script.{is_valid};
 ghost use Rattle.call_parts.specs.Answers.{OnDone, Tells, TellsBy};
 ghost use Rattle.call_parts.specs.Ends.{KeepsEnds};
 ghost use Rattle.logical_camera.specs.Both.{at_first};
-ghost use Rattle.logical_call.specs.Logical.{IsLogicalWhole, TellsBoth, TellsOfRun};
+ghost use Rattle.logical_call.specs.Logical.{IsLogicalWhole, TellsBoth, TellsOfRun, TellsOfScript};
 ghost use Rattle.call_parts.specs.Status.{status_number};
 
 use crate::text::run_text;
@@ -30,11 +31,7 @@ impl ScriptWork for BothCameras {
     ghost belongs = { λ _. TellsOfScript };
 
     fn answer_script<K: Sink>(&self, alloc: Global, script: Script, sink: &mut K) -> Status {
-        match Logical::open(alloc, &script) {
-            Err(LogicalRefused::NotLogical) => refuse_script(alloc, 0, NOT_LOGICAL, sink),
-            Err(LogicalRefused::NoMemory) => Status::NoMemory,
-            Ok(cameras) => run_cameras(alloc, cameras, sink),
-        }
+        run_script(alloc, &script, sink)
     }
 
     #[tactic(auto, using(crate::proofs::Telling::are_told))]
@@ -58,6 +55,18 @@ pub fn logical_call<S: Source, K: Sink>(alloc: Global, source: &mut S, sink: &mu
     a_joint_run_is_bounded();
     a_joint_run_has_one_pair_for_each_item();
     answer_input(alloc, source, sink, SCRIPT_BYTES, &ScriptInput(BothCameras))
+}
+
+/// Runs a script on two cameras, and writes what both did.
+fn run_script<K: Sink>(alloc: Global, script: &Script, sink: &mut K) -> Status
+    requires { IsTrue (is_valid script.now) }
+    ensures { TellsBy (TellsOfScript script.now) (status_number result) (K.state sink.old) (K.state sink.new) }
+{
+    match Logical::open(alloc, script) {
+        Err(LogicalRefused::NotLogical) => refuse_script(alloc, 0, NOT_LOGICAL, sink),
+        Err(LogicalRefused::NoMemory) => Status::NoMemory,
+        Ok(cameras) => run_cameras(alloc, cameras, sink),
+    }
 }
 
 /// Runs two cameras to their end, and writes what both did.
