@@ -79,15 +79,19 @@ frame-of n = record { 0 = n }
 frame-same : (a b : FrameNo) → a.0 ≡ b.0 → a ≡ b
 frame-same a b e = ap frame-of e
 
-exposure-in : (o : Option JobView) (job : JobView) → sensor_job_in o ≡ Some job → o ≡ Some job
-exposure-in None job h = absurd (cc)
-exposure-in (Some j) job h = elim (cases_Bool (is_none j.fill)) [
+pub exposure_in : (o : Option JobView) (job : JobView) → sensor_job_in o ≡ Some job → o ≡ Some job
+exposure_in None job h = absurd (cc)
+exposure_in (Some j) job h = elim (cases_Bool (is_none j.fill)) [
   | inl y ↦ rw y at h
   | inr n ↦ (let h' = rw n at h in absurd (cc))
 ]
 
 pub exposure_of : (jobs : List JobView) (job : JobView) (n : FrameNo) → sensor_job_in (held_at n.0 jobs) ≡ Some job → job.frame ≡ n
-exposure_of jobs job n h = frame-same job.frame n (held-frame n.0 jobs job (exposure-in (held_at n.0 jobs) job h))
+exposure_of jobs job n h = frame-same job.frame n (held-frame n.0 jobs job (exposure_in (held_at n.0 jobs) job h))
+
+-- a job that was worked on is out as it was
+pub worked_out : (script : Script) (h : List Move) (worked job : JobView) → worked ≡ job → IsJobOut script h job → IsJobOut script h worked
+worked_out script h worked job same out = rw same out
 
 -- a stage's job of frame n for stream s
 pub record IsFillOf (n : FrameNo) (s : StreamIx) (job : JobView) : Type 0 where

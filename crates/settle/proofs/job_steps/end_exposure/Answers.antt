@@ -2,8 +2,9 @@ use Rattle.std.proofs.Common.{ap, sym, ◌∙◌}
 use Rattle.cam_types.specs.declared.job.JobView.{JobView}
 use Rattle.cam_types.specs.declared.number.FrameNo.{FrameNo}
 use Rattle.run_model.specs.declared.step.StepName.TheVariants.{SensorDone}
+use Rattle.fill_jobs.specs.Held.{held_at}
 use Rattle.service_core.specs.Answers.{silent}
-use Rattle.settle.proofs.Making.{exposure_of, jobs_on, ready_move, run_on}
+use Rattle.settle.proofs.Making.{exposure_in, exposure_of, jobs_on, ready_move, run_on, worked_out}
 use Rattle.settle.proofs.job_steps.end_exposure.Goals as goal
 
 pub unreachable-requires : goal.unreachable-requires
@@ -13,6 +14,11 @@ unreachable-requires c =
     let ends = c.jobs_that_end_are_out.ensures.sensor old.script ready.0 old.history c.args.hands.now c.args.frame c.is_a_run.ensures.run c.requires.jobs ready.1 in
     let both = sym ends.1 ∙ (sym c.take_sensor.ensures.value ∙ c.in-None.is) in
     absurd (cc)
+
+pub sensor_done-requires : goal.sensor_done-requires
+sensor_done-requires c =
+    let held = exposure_in (held_at c.args.frame.0 c.args.hands.now) c.in-Some.job (sym c.take_sensor.ensures.value ∙ c.in-Some.is) in
+    worked_out c.args.service.now.script c.args.service.now.history c.expose.result c.in-Some.job c.expose.ensures (c.requires.jobs.held c.args.frame.0 c.in-Some.job held)
 
 pub returns-clause-made : goal.returns-clause-made
 returns-clause-made c =

@@ -3,8 +3,10 @@ use Rattle.cam_types.specs.declared.job.JobView.{JobView}
 use Rattle.cam_types.specs.declared.number.FrameNo.{FrameNo}
 use Rattle.cam_types.specs.declared.number.StreamIx.{StreamIx}
 use Rattle.run_model.specs.declared.step.StepName.TheVariants.{FillDone}
+use Rattle.fill_jobs.specs.Held.{held_at}
+use Rattle.service_parts.proofs.Moved.{fill-found}
 use Rattle.service_core.specs.Answers.{Makes, silent}
-use Rattle.settle.proofs.Making.{fill_of, jobs_on, ready_move, run_on}
+use Rattle.settle.proofs.Making.{fill_of, jobs_on, ready_move, run_on, worked_out}
 use Rattle.settle.proofs.job_steps.end_fill.Goals as goal
 
 pub unreachable-requires : goal.unreachable-requires
@@ -14,6 +16,12 @@ unreachable-requires c =
     let ends = c.jobs_that_end_are_out.ensures.fill old.script ready.0 old.history c.args.hands.now c.args.frame c.args.stream c.is_a_run.ensures.run c.requires.jobs ready.1 in
     let both = sym ends.1 ∙ (sym c.take_fill.ensures.value ∙ c.in-None.is) in
     absurd (cc)
+
+pub fill_done-requires : goal.fill_done-requires
+fill_done-requires c =
+    let value = sym c.take_fill.ensures.value ∙ c.in-Some.is in
+    let held = fill-found c.args.stream.0 (held_at c.args.frame.0 c.args.hands.now) c.in-Some.job value in
+    worked_out c.args.service.now.script c.args.service.now.history c.fill.result c.in-Some.job c.fill.ensures.filled (c.requires.jobs.held c.args.frame.0 c.in-Some.job held.0)
 
 pub returns-clause-made : goal.returns-clause-made
 returns-clause-made c =
