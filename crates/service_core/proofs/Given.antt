@@ -1,8 +1,7 @@
 -- Jobs that are given out, by the definitions over the past: the one that a step gives is out after it.
-use Rattle.std.proofs.Common.{◌≡◌, ℕ, ◌==◌, Bool, true, false, ◌&&◌, ◌||◌, not, is_some, List, arith, ◌∷◌, Option, Some, None, refl, sym, ap, ◌∙◌, find, inl, inr, slice_get}
+use Rattle.std.proofs.Common.{◌≡◌, ℕ, ◌==◌, Bool, true, false, ◌&&◌, ◌||◌, not, is_some, List, ◌∷◌, Option, Some, None, refl, sym, ap, ◌∙◌, find, slice_get}
 use Rattle.std.specs.Option.{option_and_then, option_map}
-use Rattle.std.proofs.lemmas.Bool.{and_parts, cases_Bool, eqb-true}
-use Rattle.std.proofs.lemmas.Bool.Decides.{nat_tests}
+use Rattle.std.proofs.lemmas.Bool.{and_parts, eqb-true}
 use Rattle.cam_types.specs.declared.job.FillTarget.{FillTarget}
 use Rattle.cam_types.specs.declared.job.JobView.{JobView}
 use Rattle.cam_types.specs.declared.number.FrameNo.{FrameNo}
@@ -19,7 +18,7 @@ use Rattle.trace_model.specs.Frames.{each_earlier, frames, has_error, has_error_
 use Rattle.trace_model.specs.Open.{is_open}
 use Rattle.trace_model.specs.Faults.{device_fault}
 use Rattle.trace_model.specs.Stopping.{is_stopping}
-use Rattle.trace_model.specs.Shutter.{may_expose, next_time, shutter_at, shutter_due}
+use Rattle.trace_model.specs.Shutter.{may_expose, shutter_at, shutter_due}
 use Rattle.basic_lemmas.proofs.Lists.{find-mapped, found-passes}
 use Rattle.run_model.specs.History.{trace_of}
 use Rattle.run_model.specs.Jobs.{IsFillJob, IsJobOut, IsSensorJob, is_fill_out}
@@ -45,7 +44,16 @@ use Rattle.service_state.specs.Serving.{Serving}
 use Rattle.service_core.specs.Inside.{IsKept, state_of}
 use Rattle.service_core.specs.Jobs.{Begins, Takes}
 use Rattle.service_core.proofs.Keeping.{makes, runs}
-use Rattle.basic_lemmas.proofs.Tests.{not-true}
+use Rattle.basic_lemmas.proofs.Tests.{given-where, not-true, own-number}
+
+some-same : {X : Type 0} {x y : X} → ◌≡◌ {A = Option X} (Some x) (Some y) → x ≡ y
+some-same h = cc
+
+none-some : {X : Type 0} {x : X} → ◌≡◌ {A = Option X} None (Some x) → ⊥
+none-some h = cc
+
+shutter-same : {a b : FrameNo} {s t : ℕ} → ShutterEntry a s ≡ ShutterEntry b t → a ≡ b
+shutter-same h = cc
 
 -- ---- the sensor's job
 
@@ -57,11 +65,8 @@ shutter-frame script h row at =
     by-frame (find (λ k. waits (row_of script h k)) frames') (ap (λ o. if_exposed script.faults o) (sym (find-mapped waits (row_of script h) frames')) ∙ at)
   where
     by-frame : (o : Option ℕ) → if_exposed script.faults (option_map (row_of script h) o) ≡ Some row → (k : ℕ) × (row ≡ row_of script h k)
-    by-frame (Some k) is = elim (cases_Bool (may_expose_row script.faults (row_of script h k))) [
-      | inl may ↦ (let is' = rw may at is in let same : row_of script h k ≡ row = cc in (k, sym same))
-      | inr not' ↦ (let is' = rw not' at is in absurd (cc))
-    ]
-    by-frame None is = absurd (cc)
+    by-frame (Some k) is = (k, sym (given-where (may_expose_row script.faults (row_of script h k)) (row_of script h k) row is).1)
+    by-frame None is = absurd (none-some is)
 
 -- a frame that may be exposed has no shutter
 unlit-in : (script : Script) (past : List Entry) (k : ℕ) → may_expose script past k ≡ true → has_shutter k past ≡ false
@@ -81,17 +86,16 @@ dark : (script : Script) (past : List Entry) (n : FrameNo) (time : ℕ) → shut
 dark script past n time due = by (find (may_expose script past) (frames past)) refl due
   where
     by : (o : Option ℕ) → find (may_expose script past) (frames past) ≡ o → shutter_at script past o ≡ Some (ShutterEntry n time) → has_shutter n.0 past ≡ false
-    by None at is = absurd (cc)
+    by None at is = absurd (none-some is)
     by (Some k) at is =
-        let same : ShutterEntry (record { 0 = k }) (next_time script past) ≡ ShutterEntry n time = cc in
-        let frame : record { 0 = k } ≡ n = cc in
+        let frame : record { 0 = k } ≡ n = shutter-same (some-same is) in
         let may = found-passes {X = ℕ} (may_expose script past) (frames past) k at in
         rw (sym frame) (unlit-in script past k may)
 
 pub sensor_given : (script : Script) (h : List Move) (k time : ℕ) → IsRun script h → shutter_due script (trace_of h) ≡ Some (ShutterEntry (record { 0 = k }) time) → IsSensorJob script (record { step = Shutter; entry = Some (ShutterEntry (record { 0 = k }) time) } ∷ h) (sensor_job (row_of script h k))
 sensor_given script h k time run due =
     let undone = not-done script h k run (dark script (trace_of h) (record { 0 = k }) time due) in
-    record { out = rw undone (grind (arith, nat_tests)); settings = refl; no_fill = refl }
+    record { out = rw (undone, own-number k) refl; settings = refl; no_fill = refl }
 
 -- ---- a stage's job
 
@@ -110,12 +114,12 @@ taken-of script h n s job at = by-open (is_open n (trace_of h)) refl
     past = trace_of h
 
     by-spec : (t : Sent) → target_of n s (trace_of h) ≡ Some t → (p : Option StreamSpec) → slice_get (streams script (trace_of h)) s ≡ p → fill_job_with (row_of script h n) (Some (target_view h n t)) p ≡ Some job → IsTaken script h n s job
-    by-spec t found (Some spec) stream is = let same : fill_job (row_of script h n) (target_view h n t) spec ≡ job = cc in record { target = t; spec = spec; found = found; stream = stream; is = sym same }
-    by-spec t found None stream is = absurd (cc)
+    by-spec t found (Some spec) stream is = record { target = t; spec = spec; found = found; stream = stream; is = sym (some-same is) }
+    by-spec t found None stream is = absurd (none-some is)
 
     nothing : (p : Option StreamSpec) → fill_job_with (row_of script h n) None p ≡ Some job → ⊥
-    nothing (Some spec) is = cc
-    nothing None is = cc
+    nothing (Some spec) is = none-some is
+    nothing None is = none-some is
 
     by-target : (o : Option Sent) → target_of n s (trace_of h) ≡ o → fill_job_with (row_of script h n) (option_map (target_view h n) o) (slice_get (streams script (trace_of h)) s) ≡ Some job → IsTaken script h n s job
     by-target (Some t) found is = by-spec t found (slice_get (streams script (trace_of h)) s) refl is
@@ -128,8 +132,7 @@ taken-of script h n s job at = by-open (is_open n (trace_of h)) refl
         by-target (target_of n s (trace_of h)) refl (ap (λ o. fill_job_with (row_of script h n) o (slice_get (streams script (trace_of h)) s)) (sym (target-at script h n s)) ∙ is)
     by-open false closed =
         let found : row_at n (rows script h) ≡ None = row-found script h n ∙ rw closed refl in
-        let is = ap (λ o. fill_job_for (streams script (trace_of h)) s o) (sym found) ∙ at in
-        absurd (cc)
+        absurd (none-some (ap (λ o. fill_job_for (streams script (trace_of h)) s o) (sym found) ∙ at))
 
 -- after the taking it is out
 pub record IsGiven (script : Script) (h : List Move) (n : FrameNo) (s : StreamIx) (job : JobView) : Type 0 where
@@ -163,21 +166,19 @@ row-with : (faults : List Fault) (rows : List RowView) (job : JobView) → Some 
 row-with faults rows job at = by (shutter_row faults rows) refl at
   where
     by : (o : Option RowView) → shutter_row faults rows ≡ o → Some job ≡ option_map sensor_job o → (row : RowView) × (shutter_row faults rows ≡ Some row) × (job ≡ sensor_job row)
-    by (Some row) is same = (row, is, cc)
-    by None is same = absurd (cc)
+    by (Some row) is same = (row, is, some-same same)
+    by None is same = absurd (none-some (sym same))
 
 added : (o : Option Entry) (e : Entry) → adding Shutter o ≡ Some (step.move_with Shutter (Some e)) → o ≡ Some e
 added (Some x) e told = ap (λ (o : Option Move). option_and_then (λ m. m.entry) o) told
-added None e told = absurd (cc)
+added None e told = absurd (none-some told)
 
 -- what the entry is
 entry-with : (time : ℕ) (o : Option RowView) (row : RowView) (e : Entry) → o ≡ Some row → adding Shutter (option_map (shutter_entry time) o) ≡ Some (step.move_with Shutter (Some e)) → e ≡ ShutterEntry row.frame time
 entry-with time (Some x) row e is told =
     let entry = added (Some (shutter_entry time x)) e told in
-    let same : shutter_entry time x ≡ e = cc in
-    let row' : x ≡ row = cc in
-    sym same ∙ ap (λ r. shutter_entry time r) row'
-entry-with time None row e is told = absurd (cc)
+    sym (some-same entry) ∙ ap (λ r. shutter_entry time r) (some-same is)
+entry-with time None row e is told = absurd (none-some is)
 
 pub began : (s s' : Serving) (log : Moves) (e : Entry) (job : JobView) → IsKept s log → step.Makes s s' (step.move_with Shutter (Some e)) → Some job ≡ option_map sensor_job (shutter_row s.script.faults s.parts.rows) → Begins e job (state_of s log) (state_of s' (with_move (step.move_with Shutter (Some e)) log))
 began s s' log e job kept made at =
