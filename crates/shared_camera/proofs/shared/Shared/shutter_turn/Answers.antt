@@ -1,5 +1,5 @@
-use Rattle.std.proofs.lemmas.Grind.{common_steps}
-use Rattle.std.proofs.Common.{arith}
+use Rattle.std.proofs.Common.{sym, ◌∙◌}
+use Rattle.std.proofs.lemmas.List.{length-reverse}
 use Rattle.turn_lock.specs.Seats.{fixed_of, view}
 use Rattle.shared_camera.specs.Cameras.{script_of}
 use Rattle.shared_camera.proofs.Turning.{answered-exposure, may-leave-exposure, turned-exposure}
@@ -24,4 +24,4 @@ returns-clause-answer g c =
     answered-exposure (fixed_of script_of c.args.self.now.turnstile) (view c.args.seat.now) (view c.enter-held.new.seat) old new c.enter-held.ensures.turn (view c.leave.new.seat) c.leave.ensures.turn c.expose-answer.result c.expose-answer.ensures c.is_a_run.ensures.run
 
 pub leave-requires-clause-count : goal.leave-requires-clause-count
-leave-requires-clause-count c = grind (arith, common_steps)
+leave-requires-clause-count g c = length-reverse c.expose-answer.new.service.history ∙ sym c.moves-moves.ensures

@@ -1,5 +1,5 @@
-use Rattle.std.proofs.lemmas.Grind.{common_steps}
-use Rattle.std.proofs.Common.{arith}
+use Rattle.std.proofs.Common.{sym, ◌∙◌}
+use Rattle.std.proofs.lemmas.List.{length-reverse}
 use Rattle.turn_lock.specs.Seats.{fixed_of, view}
 use Rattle.shared_camera.specs.Cameras.{script_of}
 use Rattle.shared_camera.specs.Choices.{first_of_kinds}
@@ -31,4 +31,4 @@ returns-clause-jobs g c =
     jobs-chosen (fixed_of script_of c.args.self.now.turnstile) (view c.args.seat.now) (view c.enter-held.new.seat) old new c.enter-held.ensures.turn (view c.leave.new.seat) c.leave.ensures.turn c.args.kinds.now c.make_first-answer.result c.requires.alone c.make_first-answer.ensures
 
 pub leave-requires-clause-count : goal.leave-requires-clause-count
-leave-requires-clause-count c = grind (arith, common_steps)
+leave-requires-clause-count g c = length-reverse c.make_first-answer.new.service.history ∙ sym c.moves-moves.ensures
