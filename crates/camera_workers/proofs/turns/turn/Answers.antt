@@ -1,6 +1,5 @@
-use Rattle.std.proofs.Common.{arith}
-use Rattle.std.proofs.lemmas.Grind.{common_steps}
+use Rattle.turn_lock.proofs.Beginnings.{begins_through}
 use Rattle.camera_workers.proofs.turns.turn.Goals as goal
 
 pub returns-else-help-clause-begins : goal.returns-else-help-clause-begins
-returns-else-help-clause-begins c = grind (arith, common_steps)
+returns-else-help-clause-begins g c = begins_through _ _ _ c.help.ensures.begins c.fill.ensures.begins
