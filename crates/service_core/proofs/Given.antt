@@ -2,6 +2,7 @@
 use Rattle.std.proofs.Common.{◌≡◌, ℕ, ◌==◌, Bool, true, false, ◌&&◌, ◌||◌, not, is_some, List, ◌∷◌, Option, Some, None, refl, sym, ap, ◌∙◌, find, slice_get}
 use Rattle.std.specs.Option.{option_and_then, option_map}
 use Rattle.std.proofs.lemmas.Bool.{and_parts, eqb-true}
+use Rattle.std.proofs.lemmas.Option.{none-some, same_Some}
 use Rattle.cam_types.specs.declared.job.FillTarget.{FillTarget}
 use Rattle.cam_types.specs.declared.job.JobView.{JobView}
 use Rattle.cam_types.specs.declared.number.FrameNo.{FrameNo}
@@ -46,12 +47,6 @@ use Rattle.service_core.specs.Jobs.{Begins, Takes}
 use Rattle.service_core.proofs.Keeping.{makes, runs}
 use Rattle.basic_lemmas.proofs.Tests.{given-where, not-true, own-number}
 
-some-same : {X : Type 0} {x y : X} → ◌≡◌ {A = Option X} (Some x) (Some y) → x ≡ y
-some-same h = cc
-
-none-some : {X : Type 0} {x : X} → ◌≡◌ {A = Option X} None (Some x) → ⊥
-none-some h = cc
-
 shutter-same : {a b : FrameNo} {s t : ℕ} → ShutterEntry a s ≡ ShutterEntry b t → a ≡ b
 shutter-same h = cc
 
@@ -66,7 +61,7 @@ shutter-frame script h row at =
   where
     by-frame : (o : Option ℕ) → if_exposed script.faults (option_map (row_of script h) o) ≡ Some row → (k : ℕ) × (row ≡ row_of script h k)
     by-frame (Some k) is = (k, sym (given-where (may_expose_row script.faults (row_of script h k)) (row_of script h k) row is).1)
-    by-frame None is = absurd (none-some is)
+    by-frame None is = absurd (none-some _ is)
 
 -- a frame that may be exposed has no shutter
 unlit-in : (script : Script) (past : List Entry) (k : ℕ) → may_expose script past k ≡ true → has_shutter k past ≡ false
@@ -86,9 +81,9 @@ dark : (script : Script) (past : List Entry) (n : FrameNo) (time : ℕ) → shut
 dark script past n time due = by (find (may_expose script past) (frames past)) refl due
   where
     by : (o : Option ℕ) → find (may_expose script past) (frames past) ≡ o → shutter_at script past o ≡ Some (ShutterEntry n time) → has_shutter n.0 past ≡ false
-    by None at is = absurd (none-some is)
+    by None at is = absurd (none-some _ is)
     by (Some k) at is =
-        let frame : record { 0 = k } ≡ n = shutter-same (some-same is) in
+        let frame : record { 0 = k } ≡ n = shutter-same (same_Some _ _ is) in
         let may = found-passes {X = ℕ} (may_expose script past) (frames past) k at in
         rw (sym frame) (unlit-in script past k may)
 
@@ -114,12 +109,12 @@ taken-of script h n s job at = by-open (is_open n (trace_of h)) refl
     past = trace_of h
 
     by-spec : (t : Sent) → target_of n s (trace_of h) ≡ Some t → (p : Option StreamSpec) → slice_get (streams script (trace_of h)) s ≡ p → fill_job_with (row_of script h n) (Some (target_view h n t)) p ≡ Some job → IsTaken script h n s job
-    by-spec t found (Some spec) stream is = record { target = t; spec = spec; found = found; stream = stream; is = sym (some-same is) }
-    by-spec t found None stream is = absurd (none-some is)
+    by-spec t found (Some spec) stream is = record { target = t; spec = spec; found = found; stream = stream; is = sym (same_Some _ _ is) }
+    by-spec t found None stream is = absurd (none-some _ is)
 
     nothing : (p : Option StreamSpec) → fill_job_with (row_of script h n) None p ≡ Some job → ⊥
-    nothing (Some spec) is = none-some is
-    nothing None is = none-some is
+    nothing (Some spec) is = none-some _ is
+    nothing None is = none-some _ is
 
     by-target : (o : Option Sent) → target_of n s (trace_of h) ≡ o → fill_job_with (row_of script h n) (option_map (target_view h n) o) (slice_get (streams script (trace_of h)) s) ≡ Some job → IsTaken script h n s job
     by-target (Some t) found is = by-spec t found (slice_get (streams script (trace_of h)) s) refl is
@@ -132,7 +127,7 @@ taken-of script h n s job at = by-open (is_open n (trace_of h)) refl
         by-target (target_of n s (trace_of h)) refl (ap (λ o. fill_job_with (row_of script h n) o (slice_get (streams script (trace_of h)) s)) (sym (target-at script h n s)) ∙ is)
     by-open false closed =
         let found : row_at n (rows script h) ≡ None = row-found script h n ∙ rw closed refl in
-        absurd (none-some (ap (λ o. fill_job_for (streams script (trace_of h)) s o) (sym found) ∙ at))
+        absurd (none-some _ (ap (λ o. fill_job_for (streams script (trace_of h)) s o) (sym found) ∙ at))
 
 -- after the taking it is out
 pub record IsGiven (script : Script) (h : List Move) (n : FrameNo) (s : StreamIx) (job : JobView) : Type 0 where
@@ -166,19 +161,19 @@ row-with : (faults : List Fault) (rows : List RowView) (job : JobView) → Some 
 row-with faults rows job at = by (shutter_row faults rows) refl at
   where
     by : (o : Option RowView) → shutter_row faults rows ≡ o → Some job ≡ option_map sensor_job o → (row : RowView) × (shutter_row faults rows ≡ Some row) × (job ≡ sensor_job row)
-    by (Some row) is same = (row, is, some-same same)
-    by None is same = absurd (none-some (sym same))
+    by (Some row) is same = (row, is, same_Some _ _ same)
+    by None is same = absurd (none-some _ (sym same))
 
 added : (o : Option Entry) (e : Entry) → adding Shutter o ≡ Some (step.move_with Shutter (Some e)) → o ≡ Some e
 added (Some x) e told = ap (λ (o : Option Move). option_and_then (λ m. m.entry) o) told
-added None e told = absurd (none-some told)
+added None e told = absurd (none-some _ told)
 
 -- what the entry is
 entry-with : (time : ℕ) (o : Option RowView) (row : RowView) (e : Entry) → o ≡ Some row → adding Shutter (option_map (shutter_entry time) o) ≡ Some (step.move_with Shutter (Some e)) → e ≡ ShutterEntry row.frame time
 entry-with time (Some x) row e is told =
     let entry = added (Some (shutter_entry time x)) e told in
-    sym (some-same entry) ∙ ap (λ r. shutter_entry time r) (some-same is)
-entry-with time None row e is told = absurd (none-some is)
+    sym (same_Some _ _ entry) ∙ ap (λ r. shutter_entry time r) (same_Some _ _ is)
+entry-with time None row e is told = absurd (none-some _ is)
 
 pub began : (s s' : Serving) (log : Moves) (e : Entry) (job : JobView) → IsKept s log → step.Makes s s' (step.move_with Shutter (Some e)) → Some job ≡ option_map sensor_job (shutter_row s.script.faults s.parts.rows) → Begins e job (state_of s log) (state_of s' (with_move (step.move_with Shutter (Some e)) log))
 began s s' log e job kept made at =
