@@ -2,49 +2,17 @@
 ghost use Rattle.std.specs.Prelude.{◌≡◌, IfOk};
 ghost use Rattle.logical_camera.specs.Orderless.{without_faults};
 
-use cam_types::{Command, CommandList, FaultList, ItemList, NoMemory, PickList, Script, SpecList};
+use cam_types::{Command, CommandList, FaultList, Listing, NoMemory, Script};
 use std::alloc::Global;
 
-fn copied_specs(alloc: Global, specs: &SpecList) -> Result<SpecList, NoMemory>
-    ensures { IfOk result (λ copy. copy ≡ specs.now) }
+/// A list of the same entries.
+fn copied_list<T: Copy + Drop>(alloc: Global, list: &Listing<T>) -> Result<Listing<T>, NoMemory>
+    ensures { IfOk result (λ copy. copy ≡ list.now) }
 {
-    let _count = specs.len();
-    let mut copy = SpecList::new(alloc);
-    for spec in specs.as_slice() {
-        copy.push(*spec)?;
-    }
-    Ok(copy)
-}
-
-fn copied_items(alloc: Global, items: &ItemList) -> Result<ItemList, NoMemory>
-    ensures { IfOk result (λ copy. copy ≡ items.now) }
-{
-    let _count = items.len();
-    let mut copy = ItemList::new(alloc);
-    for item in items.as_slice() {
-        copy.push(*item)?;
-    }
-    Ok(copy)
-}
-
-fn copied_faults(alloc: Global, faults: &FaultList) -> Result<FaultList, NoMemory>
-    ensures { IfOk result (λ copy. copy ≡ faults.now) }
-{
-    let _count = faults.len();
-    let mut copy = FaultList::new(alloc);
-    for fault in faults.as_slice() {
-        copy.push(*fault)?;
-    }
-    Ok(copy)
-}
-
-fn copied_picks(alloc: Global, picks: &PickList) -> Result<PickList, NoMemory>
-    ensures { IfOk result (λ copy. copy ≡ picks.now) }
-{
-    let _count = picks.len();
-    let mut copy = PickList::new(alloc);
-    for pick in picks.as_slice() {
-        copy.push(*pick)?;
+    let _count = list.len();
+    let mut copy = Listing::new(alloc);
+    for entry in list.as_slice() {
+        copy.push(*entry)?;
     }
     Ok(copy)
 }
@@ -53,10 +21,10 @@ fn copied_command(alloc: Global, command: &Command) -> Result<Command, NoMemory>
     ensures { IfOk result (λ copy. copy ≡ command.now) }
 {
     match command {
-        Command::Configure(specs) => Ok(Command::Configure(copied_specs(alloc, specs)?)),
+        Command::Configure(specs) => Ok(Command::Configure(copied_list(alloc, specs)?)),
         Command::Once(item) => Ok(Command::Once(*item)),
-        Command::Burst(items) => Ok(Command::Burst(copied_items(alloc, items)?)),
-        Command::Repeat(items) => Ok(Command::Repeat(copied_items(alloc, items)?)),
+        Command::Burst(items) => Ok(Command::Burst(copied_list(alloc, items)?)),
+        Command::Repeat(items) => Ok(Command::Repeat(copied_list(alloc, items)?)),
         Command::Stop => Ok(Command::Stop),
         Command::Wait => Ok(Command::Wait),
         Command::Await(frames) => Ok(Command::Await(*frames)),
@@ -86,7 +54,7 @@ pub(crate) fn copied_without_faults(alloc: Global, script: &Script) -> Result<Sc
         profile: script.profile,
         early: script.early,
         faults: FaultList::new(alloc),
-        picks: copied_picks(alloc, &script.picks)?,
+        picks: copied_list(alloc, &script.picks)?,
         commands: copied_commands(alloc, &script.commands)?,
     })
 }
@@ -95,7 +63,7 @@ pub(crate) fn copied_without_faults(alloc: Global, script: &Script) -> Result<Sc
 pub(crate) fn copied(alloc: Global, script: &Script) -> Result<Script, NoMemory>
     ensures { IfOk result (λ copy. copy ≡ script.now) }
 {
-    let faults = copied_faults(alloc, &script.faults)?;
+    let faults = copied_list(alloc, &script.faults)?;
     let bare = copied_without_faults(alloc, script)?;
     Ok(Script { faults, ..bare })
 }

@@ -163,7 +163,6 @@ impl Logical {
 }
 
 /// Both cameras of a logical script, before their first step.
-#[tactic(auto, using(crate::proofs::Opening::valid_without))]
 fn open_both(alloc: Global, script: &Script) -> Result<Logical, NoMemory>
     requires valid { IsTrue (is_valid script.now) }
     requires logical { IsTrue (is_logical script.now) }

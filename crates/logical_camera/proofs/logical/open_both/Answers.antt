@@ -1,6 +1,8 @@
-use Rattle.std.proofs.Common.{arith}
-use Rattle.std.proofs.lemmas.Grind.{common_steps}
+use Rattle.logical_camera.proofs.Opening.{valid_without}
 use Rattle.logical_camera.proofs.logical.open_both.Goals as goal
 
+pub open-requires : goal.open-requires
+open-requires c = rw c.in_ok-with_faults.ensures c.requires.valid
+
 pub open-requires-2 : goal.open-requires-2
-open-requires-2 c = grind (arith, common_steps)
+open-requires-2 c = rw c.in_ok-without.ensures (valid_without c.args.script.now c.requires.valid)
