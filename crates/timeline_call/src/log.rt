@@ -1,31 +1,21 @@
 //! The timeline of a hal log: it is read, judged, and drawn.
-ghost use Rattle.std.specs.Prelude.{◌≡◌, IfOk, IsTrue, if◌then◌else◌};
-ghost use Rattle.std.specs.List.{list_all};
+ghost use Rattle.std.specs.Prelude.{◌≡◌, IsTrue, if◌then◌else◌};
 ghost use Rattle.call_parts.specs.Answers.{AnswersWithMemory, TellsBy};
 ghost use Rattle.hal_person.specs.Refusal.{refused_text as refused_log_text};
-ghost use Rattle.hal_spelling.specs.Fits.{is_valid, is_well_made};
+ghost use Rattle.hal_spelling.specs.Fits.{is_valid};
 ghost use Rattle.hal_text.specs.Meaning.{log_of};
-ghost use Rattle.hal_timeline.specs.Charts.{breaches_of};
-ghost use Rattle.hal_timeline.specs.Groups.{is_some_breach};
+ghost use Rattle.timeline_call.specs.Fronts.{text_in};
 ghost use Rattle.timeline_call.specs.Logs.{log_status, log_text};
 ghost use Rattle.timeline_call.specs.Shown.{ShowsLog};
 ghost use Rattle.call_parts.specs.Status.{status_number};
 
 use crate::form::{Form, text_in};
-use call_parts::{Status, answer, answer_made};
-use cam_types::NoMemory;
+use call_parts::{Status, answer_made};
 use hal_person::refused_text;
 use hal_text::{Cause, HalLog, LogRefused, read};
-use hal_timeline::chart_of;
+use hal_timeline::{Judged, chart_of};
 use io_edge::Sink;
 use std::alloc::Global;
-
-/// A text, and the status that belongs to it.
-#[derive(Drop)]
-struct Drawing {
-    text: Vec<u8>,
-    status: Status,
-}
 
 /// 1 where a rule is broken.
 fn status_of(broken: bool) -> Status
@@ -38,19 +28,13 @@ fn status_of(broken: bool) -> Status
     }
 }
 
-/// The timeline of a log.
-#[tactic(auto, unfolding(crate::specs::Logs::log_text))]
-fn draw(alloc: Global, form: Form, log: &HalLog) -> Result<Drawing, NoMemory>
-    requires { IsTrue (list_all is_well_made log.now.events) }
-    ensures text { IfOk result (λ drawing. drawing.text.items ≡ log_text form log.now) }
-    ensures status { IfOk result (λ drawing. (status_number drawing.status) ≡ log_status log.now) }
+/// Writes the timeline of a log that was judged.
+fn write_judged<K: Sink>(alloc: Global, form: Form, judged: &Judged, sink: &mut K) -> Status
+    ensures { AnswersWithMemory (if judged.now.broken then 1 else 0) (text_in form judged.now.chart) (status_number result)
+        (K.state sink.old) (K.state sink.new) }
 {
-    let judged = chart_of(alloc, log)?;
-    let text = text_in(alloc, form, &judged.chart)?;
-    Ok(Drawing {
-        text,
-        status: status_of(judged.broken),
-    })
+    let text = text_in(alloc, form, &judged.chart);
+    answer_made(text, status_of(judged.broken), sink)
 }
 
 /// Writes the timeline of a log.
@@ -59,10 +43,10 @@ fn write_log<K: Sink>(alloc: Global, form: Form, log: &HalLog, sink: &mut K) -> 
     ensures { AnswersWithMemory (log_status log.now) (log_text form log.now) (status_number result)
         (K.state sink.old) (K.state sink.new) }
 {
-    match draw(alloc, form, log) {
-        Ok(drawing) => answer(sink, drawing.text.as_slice(), drawing.status),
-        Err(_) => Status::NoMemory,
-    }
+    let Ok(judged) = chart_of(alloc, log) else {
+        return Status::NoMemory;
+    };
+    write_judged(alloc, form, &judged, sink)
 }
 
 /// Refuses a text, as `hal` does.

@@ -1,5 +1,5 @@
 //! What stands under a picture: the verdict on the trace.
-ghost use Rattle.std.specs.Prelude.{◌≡◌, IfOk, IfSome, reverse};
+ghost use Rattle.std.specs.Prelude.{◌≡◌, ◌++◌, IfOk, IfSome, codes, decimal, reverse};
 ghost use Rattle.timeline_call.specs.Notes.{fault_note, note_text, part_note, rule_note};
 ghost use Rattle.trace_model.specs.Allowed.{IsAllowed};
 
@@ -48,6 +48,20 @@ fn part_note(part: MissingPart) -> &'static str
     }
 }
 
+/// The note of an entry that isn't allowed, by what is told of its rule and the sentence.
+fn illegal_note(
+    alloc: Global,
+    position: u32,
+    rule: &str,
+    sentence: &str,
+) -> Result<Vec<u8>, NoMemory>
+    ensures { IfOk result (λ text. text.items ≡
+        codes "illegal " ++ (decimal position ++ (rule.now ++ sentence.now))) }
+{
+    let text = format!(in alloc; "illegal {position}{rule}{sentence}")?;
+    Ok(text.into_bytes())
+}
+
 /// The note of a verdict on a trace, with the entries that are allowed and the one that isn't.
 pub fn note_text(
     alloc: Global,
@@ -59,22 +73,14 @@ pub fn note_text(
     requires { IfSome fault (λ e. ¬ IsAllowed script.now (reverse before.now) e) }
     ensures { IfOk result (λ text. text.items ≡ note_text script.now before.now fault verdict) }
 {
-    let mut text = Vec::new(alloc);
     match verdict {
-        Verdict::Legal => {
-            text.extend_from_slice(b"legal")?;
-            Ok(text)
-        }
-        Verdict::IllegalAt { position, rule } => {
-            text.extend_from_slice(b"illegal ")?;
-            text.extend_from_slice(position.to_string(alloc)?.as_bytes())?;
-            text.extend_from_slice(rule_note(rule).as_bytes())?;
-            text.extend_from_slice(fault_note(script, before, fault).as_bytes())?;
-            Ok(text)
-        }
-        Verdict::Incomplete { part } => {
-            text.extend_from_slice(part_note(part).as_bytes())?;
-            Ok(text)
-        }
+        Verdict::Legal => b"legal".to_vec(alloc),
+        Verdict::IllegalAt { position, rule } => illegal_note(
+            alloc,
+            position,
+            rule_note(rule),
+            fault_note(script, before, fault),
+        ),
+        Verdict::Incomplete { part } => part_note(part).as_bytes().to_vec(alloc),
     }
 }

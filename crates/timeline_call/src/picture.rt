@@ -1,15 +1,19 @@
 //! The text of a trace that was judged.
-ghost use Rattle.std.specs.Prelude.{◌≡◌, ◌<◌, ◌^◌, IfOk, length, true};
+ghost use Rattle.std.specs.Prelude.{◌≡◌, ◌<◌, ◌^◌, IfOk, IfSome, length, reverse, true};
 ghost use Rattle.std.specs.List.{list_all};
+ghost use Rattle.timeline_model.specs.Charts.{chart_of};
+ghost use Rattle.timeline_model.specs.Drawings.{all_drawn};
+ghost use Rattle.timeline_model.specs.Timelines.{timeline};
+ghost use Rattle.trace_model.specs.Legal.{IsLegal};
 ghost use Rattle.trace_model.specs.Verdict.{IsVerdict};
 ghost use Rattle.trace_model.specs.Printable.{is_printable};
-ghost use Rattle.timeline_call.specs.Fronts.{fault_in, front, text_of};
+ghost use Rattle.timeline_call.specs.Fronts.{fault_in, front, text_in, text_of};
 
 use crate::form::{Form, text_in};
 use crate::note::note_text;
 use cam_types::{NoMemory, Script};
 use std::alloc::Global;
-use timeline_model::{chart_of, timeline_of};
+use timeline_model::{Timeline, chart_of, timeline_of};
 use trace_model::{Entry, Verdict};
 
 /// The entries before the one that isn't allowed, or all.
@@ -37,6 +41,42 @@ fn fault_in(entries: &[Entry], verdict: Verdict) -> Option<Entry>
     }
 }
 
+/// The text of a timeline, with the entry behind it that isn't allowed and the note.
+fn text_with(
+    alloc: Global,
+    form: Form,
+    shown: &Timeline,
+    fault: Option<Entry>,
+    note: &[u8],
+) -> Result<Vec<u8>, NoMemory>
+    requires drawn { list_all (λ one. is_printable one.entry) shown.now.drawn ≡ true }
+    requires fault { IfSome fault (λ entry. is_printable entry ≡ true) }
+    ensures { IfOk result (λ text. text.items ≡ text_in form (chart_of shown.now fault note.now)) }
+{
+    let chart = chart_of(alloc, shown, fault, note)?;
+    text_in(alloc, form, &chart)
+}
+
+/// The text of entries that are allowed, with the one behind them that isn't and the note.
+fn text_of_legal(
+    alloc: Global,
+    form: Form,
+    script: &Script,
+    legal: &[Entry],
+    fault: Option<Entry>,
+    note: &[u8],
+) -> Result<Vec<u8>, NoMemory>
+    requires legal { IsLegal script.now (reverse legal.now) }
+    requires few { length legal.now < 2 ^ 32 }
+    requires drawn { list_all (λ one. is_printable one.entry) (all_drawn script.now (reverse legal.now)) ≡ true }
+    requires fault { IfSome fault (λ entry. is_printable entry ≡ true) }
+    ensures { IfOk result (λ text. text.items ≡
+        text_in form (chart_of (timeline script.now (reverse legal.now)) fault note.now)) }
+{
+    let shown = timeline_of(alloc, script, legal)?;
+    text_with(alloc, form, &shown, fault, note)
+}
+
 /// The text of a trace that has the verdict.
 #[tactic(auto, unfolding(crate::specs::Fronts::text_of))]
 pub fn text_of(
@@ -52,9 +92,7 @@ pub fn text_of(
     ensures { IfOk result (λ text. text.items ≡ text_of form script.now entries.now verdict) }
 {
     let legal = front(entries, verdict);
-    let shown = timeline_of(alloc, script, legal)?;
     let fault = fault_in(entries, verdict);
     let note = note_text(alloc, script, legal, fault, verdict)?;
-    let chart = chart_of(alloc, &shown, fault, note.as_slice())?;
-    text_in(alloc, form, &chart)
+    text_of_legal(alloc, form, script, legal, fault, note.as_slice())
 }

@@ -3,21 +3,21 @@ use Rattle.std.proofs.Common.{ap, arith, length}
 use Rattle.timeline_call.proofs.Fronts.{all_print, fault_prints, fault_refused, front_legal, front_length}
 use Rattle.timeline_call.proofs.picture.text_of.Goals as goal
 
-pub timeline_of-requires-clause-legal : goal.timeline_of-requires-clause-legal
-timeline_of-requires-clause-legal c =
+pub text_of_legal-requires-clause-legal : goal.text_of_legal-requires-clause-legal
+text_of_legal-requires-clause-legal c =
     rw c.front-legal.ensures (front_legal c.args.script.now c.args.entries.now c.args.verdict c.requires.judged)
 
-pub timeline_of-requires-clause-few : goal.timeline_of-requires-clause-few
-timeline_of-requires-clause-few c =
+pub text_of_legal-requires-clause-few : goal.text_of_legal-requires-clause-few
+text_of_legal-requires-clause-few c =
     let same = ap length c.front-legal.ensures in
     omega (arith, same, front_length c.args.entries.now c.args.verdict)
 
-pub chart_of-requires-clause-drawn : goal.chart_of-requires-clause-drawn
-chart_of-requires-clause-drawn c =
-    rw (c.in_ok-shown.ensures, c.front-legal.ensures) (all_print c.args.script.now c.args.entries.now c.args.verdict c.requires.printable)
+pub text_of_legal-requires-clause-drawn : goal.text_of_legal-requires-clause-drawn
+text_of_legal-requires-clause-drawn c =
+    rw c.front-legal.ensures (all_print c.args.script.now c.args.entries.now c.args.verdict c.requires.printable)
 
-pub chart_of-requires-clause-fault : goal.chart_of-requires-clause-fault
-chart_of-requires-clause-fault c =
+pub text_of_legal-requires-clause-fault : goal.text_of_legal-requires-clause-fault
+text_of_legal-requires-clause-fault c =
     rw c.fault_in-fault.ensures (fault_prints c.args.entries.now c.args.verdict c.requires.printable)
 
 pub note_text-requires : goal.note_text-requires
