@@ -1,21 +1,22 @@
 //! A hal log as a chart.
-ghost use Rattle.std.specs.Prelude.{◌≡◌, IfOk, IsTrue, map, reverse};
+ghost use Rattle.std.specs.Prelude.{◌≡◌, [], IfOk, IsTrue, map};
 ghost use Rattle.std.specs.List.{list_all};
 ghost use Rattle.hal_spelling.specs.Fits.{is_well_made};
 ghost use Rattle.hal_timeline.specs.Charts.{breaches_of, chart_of};
-ghost use Rattle.hal_timeline.specs.Groups.{all_groups, is_some_breach};
+ghost use Rattle.hal_timeline.specs.Groups.{is_some_breach};
 ghost use Rattle.hal_timeline.specs.Passes.{IsPast};
-ghost use Rattle.hal_timeline.specs.Notes.{notes_of};
 ghost use Rattle.hal_timeline.specs.Pieces.{gone_piece};
 
 use crate::group::{Pass, draw_all};
 use crate::note::notes_of;
 use crate::piece::put_unfinished;
-use cam_types::{Listing, NoMemory};
+use crate::rows::Rows;
+use cam_types::NoMemory;
 use hal_model::Breach;
 use hal_text::HalLog;
 use std::alloc::Global;
-use timeline_model::{Chart, Group, Kind, Lane, Look, Piece, Seat, Series};
+use std::mem;
+use timeline_model::{Chart, Kind, Lane, Look, Piece, Seat, Series};
 
 /// The chart of a log, and whether the log breaks a rule.
 #[derive(Drop)]
@@ -39,51 +40,35 @@ fn all_unfinished(alloc: Global, seats: &[Seat]) -> Result<Series<Piece>, NoMemo
     Ok(pieces)
 }
 
-/// What stands under the picture of a log after its last event, and the bars that aren't ended.
-fn below(
-    alloc: Global,
-    lines: &Listing<u32>,
-    pass: &Pass,
-) -> Result<(Series<Series<u8>>, Series<Piece>), NoMemory>
-    ensures notes { IfOk result (λ below.
-        below.0 ≡ notes_of lines.now pass.now.breaches.items pass.now.walk.rows.left) }
-    ensures unfinished { IfOk result (λ below.
-        below.1 ≡ map (gone_piece Look.Unfinished) pass.now.walk.rows.seats.items) }
+/// The lanes, which are moved out.
+fn lanes_of(alloc: Global, rows: &mut Rows) -> Series<Lane>
+    ensures { result ≡ rows.old.lanes.items }
 {
-    let rows = &pass.walk.rows;
-    let notes = notes_of(alloc, lines, pass.breaches.as_slice(), rows.left)?;
-    let unfinished = all_unfinished(alloc, rows.seats.as_slice())?;
-    Ok((notes, unfinished))
+    Series::of(mem::replace(&mut rows.lanes, Vec::new(alloc)))
 }
 
-/// The lanes that stand after a pass.
-fn lanes_of(pass: Pass) -> Series<Lane>
-    ensures { result ≡ pass.walk.rows.lanes.items }
-{
-    Series::of(pass.walk.rows.lanes)
-}
-
-/// The chart of a log, by what stands after the pass over its events and what was drawn of them.
-fn chart_after(
-    alloc: Global,
-    log: &HalLog,
-    pass: Pass,
-    groups: Series<Group>,
-) -> Result<Judged, NoMemory>
-    requires past { IsPast log.now.parts (reverse log.now.events) pass }
-    requires groups { groups ≡ all_groups log.now.parts log.now.lines (reverse log.now.events) }
+/// Draws and judges a hal log in one pass from its first event on.
+fn judged_in(alloc: Global, pass: &mut Pass, log: &HalLog) -> Result<Judged, NoMemory>
+    requires made { IsTrue (list_all is_well_made log.now.events) }
+    requires first { IsPast log.now.parts [] pass.old }
     ensures chart { IfOk result (λ judged. judged.chart ≡ chart_of log.now) }
     ensures broken { IfOk result (λ judged. judged.broken ≡ is_some_breach (breaches_of log.now)) }
 {
-    let (notes, unfinished) = below(alloc, &log.lines, &pass)?;
-    let broken = is_some_breach(pass.breaches.as_slice());
+    let count = log.events.len();
+    let events = log.events.as_slice();
+    let groups = draw_all(alloc, pass, log.parts, &log.lines, events)?;
+    let breaches = pass.breaches.as_slice();
+    let notes = notes_of(alloc, &log.lines, breaches, pass.walk.rows.left)?;
+    let seats = pass.walk.rows.seats.as_slice();
+    let unfinished = all_unfinished(alloc, seats)?;
+    let broken = is_some_breach(breaches);
     let rows = pass.walk.rows.most.min(15) + 1;
     Ok(Judged {
         chart: Chart {
             kind: Kind::Hal,
             rows,
-            lanes: lanes_of(pass),
-            count: log.events.len(),
+            lanes: lanes_of(alloc, &mut pass.walk.rows),
+            count,
             groups,
             unfinished,
             fault: None,
@@ -99,14 +84,6 @@ pub fn chart_of(alloc: Global, log: &HalLog) -> Result<Judged, NoMemory>
     ensures chart { IfOk result (λ judged. judged.chart ≡ chart_of log.now) }
     ensures broken { IfOk result (λ judged. judged.broken ≡ is_some_breach (breaches_of log.now)) }
 {
-    let _count = log.events.len();
     let mut pass = Pass::new(alloc)?;
-    let groups = draw_all(
-        alloc,
-        &mut pass,
-        log.parts,
-        &log.lines,
-        log.events.as_slice(),
-    )?;
-    chart_after(alloc, log, pass, groups)
+    judged_in(alloc, &mut pass, log)
 }

@@ -80,8 +80,7 @@ fn count_text(alloc: Global, count: usize) -> Result<Vec<u8>, NoMemory>
     ensures { IfOk result (λ text. text.items ≡ count_text count) }
 {
     if count == 0 {
-        let text = String::from_str(alloc, "no breach")?;
-        Ok(text.into_bytes())
+        b"no breach".to_vec(alloc)
     } else {
         let text = format!(in alloc; "breaches: {count}")?;
         Ok(text.into_bytes())
@@ -130,16 +129,17 @@ fn put_left(alloc: Global, notes: &mut Notes, left: u32) -> Result<(), NoMemory>
     }
 }
 
-/// Adds what is told of the breaches with the headings.
+/// Adds what is told of the breaches.
 fn put_breaches(
     alloc: Global,
     notes: &mut Notes,
     lines: &Listing<u32>,
-    heads: &[Breach],
+    breaches: &[Breach],
 ) -> Result<(), NoMemory>
-    ensures { OnOk result (notes.new ≡ notes.old ++ breach_notes lines.now heads.now) }
+    ensures { OnOk result (notes.new ≡ notes.old ++ breach_notes lines.now (headings None breaches.now)) }
 {
-    put_headings(alloc, notes, lines, front(heads, TOLD))?;
+    let heads = headings(alloc, breaches)?;
+    put_headings(alloc, notes, lines, front(heads.as_slice(), TOLD))?;
     put_more(alloc, notes, heads.len())
 }
 
@@ -153,9 +153,8 @@ pub fn notes_of(
     ensures { IfOk result (λ notes. notes ≡ notes_of lines.now breaches.now left) }
 {
     let mut notes = Series::new(alloc);
-    let heads = headings(alloc, breaches)?;
     notes.push(Series::of(count_text(alloc, breaches.len())?))?;
-    put_breaches(alloc, &mut notes, lines, heads.as_slice())?;
+    put_breaches(alloc, &mut notes, lines, breaches)?;
     put_left(alloc, &mut notes, left)?;
     Ok(notes)
 }
