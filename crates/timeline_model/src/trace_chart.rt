@@ -1,5 +1,5 @@
 //! A timeline as a chart: the looks of its entries, their lines, and what is drawn of each.
-ghost use Rattle.std.specs.Prelude.{◌≡◌, ◌++◌, ◌∷◌, [], IfOk, IfSome, IsTrue, OnOk, length, map};
+ghost use Rattle.std.specs.Prelude.{◌≡◌, ◌++◌, ◌∷◌, [], IfOk, IfSome, IsTrue, OnOk, map};
 ghost use Rattle.std.specs.List.{list_all};
 ghost use Rattle.std.specs.Option.{option_map};
 ghost use Rattle.trace_model.specs.Printable.{is_printable};
@@ -251,37 +251,37 @@ fn notes_of(alloc: Global, note: &[u8]) -> Result<Series<Series<u8>>, NoMemory>
     Ok(notes)
 }
 
-/// What is drawn of each entry, and of the one behind them that isn't allowed.
-fn groups_of(
+/// The chart of a timeline, whose lines the printer writes.
+fn chart_by(
     alloc: Global,
+    printer: &mut Printer,
     timeline: &Timeline,
     fault: Option<Entry>,
-) -> Result<(Series<Group>, Option<Group>), NoMemory>
+    note: &[u8],
+) -> Result<Chart, NoMemory>
     requires drawn { IsTrue (list_all (λ one. is_printable one.entry) timeline.now.drawn) }
     requires fault { IfSome fault (λ entry. IsTrue (is_printable entry)) }
-    ensures groups { IfOk result (λ drawn. drawn.0 ≡ map group_of timeline.now.drawn) }
-    ensures fault { IfOk result (λ drawn. drawn.1 ≡ option_map (fault_of (length timeline.now.drawn)) fault) }
+    ensures { IfOk result (λ chart. chart ≡ chart_of timeline.now fault note.now) }
 {
-    let mut printer = Printer::new(alloc, None)?;
-    let groups = all_groups(alloc, &mut printer, timeline.drawn.as_slice())?;
-    let fault = fault_in(alloc, &mut printer, timeline.drawn.len(), fault)?;
-    Ok((groups, fault))
-}
-
-/// What stands around the groups: the lanes, the bars of the buffers that aren't done, and the note.
-fn around(
-    alloc: Global,
-    timeline: &Timeline,
-    note: &[u8],
-) -> Result<(Series<Lane>, Series<Piece>, Series<Series<u8>>), NoMemory>
-    ensures lanes { IfOk result (λ drawn. drawn.0 ≡ lanes_of timeline.now.streams) }
-    ensures unfinished { IfOk result (λ drawn. drawn.1 ≡ map unfinished_of timeline.now.unfinished) }
-    ensures notes { IfOk result (λ drawn. drawn.2 ≡ note.now ∷ []) }
-{
+    let rows = timeline.depth.min(16) as u8;
+    let count = timeline.drawn.len();
+    let drawn = timeline.drawn.as_slice();
+    let seats = timeline.unfinished.as_slice();
     let lanes = lanes_of(alloc, timeline.streams)?;
-    let unfinished = all_unfinished(alloc, timeline.unfinished.as_slice())?;
+    let unfinished = all_unfinished(alloc, seats)?;
     let notes = notes_of(alloc, note)?;
-    Ok((lanes, unfinished, notes))
+    let groups = all_groups(alloc, printer, drawn)?;
+    let fault = fault_in(alloc, printer, count, fault)?;
+    Ok(Chart {
+        kind: Kind::Trace,
+        rows,
+        lanes,
+        count,
+        groups,
+        unfinished,
+        fault,
+        notes,
+    })
 }
 
 /// The chart of a timeline, with the entry behind it that isn't allowed, if there is one, and with a note under it.
@@ -295,16 +295,6 @@ pub fn chart_of(
     requires fault { IfSome fault (λ entry. IsTrue (is_printable entry)) }
     ensures { IfOk result (λ chart. chart ≡ chart_of timeline.now fault note.now) }
 {
-    let (groups, fault) = groups_of(alloc, timeline, fault)?;
-    let (lanes, unfinished, notes) = around(alloc, timeline, note)?;
-    Ok(Chart {
-        kind: Kind::Trace,
-        rows: timeline.depth.min(16) as u8,
-        lanes,
-        count: timeline.drawn.len(),
-        groups,
-        unfinished,
-        fault,
-        notes,
-    })
+    let mut printer = Printer::new(alloc, None)?;
+    chart_by(alloc, &mut printer, timeline, fault, note)
 }

@@ -1,5 +1,5 @@
 use Rattle.std.proofs.Common.{refl}
-use Rattle.timeline_model.proofs.trace_chart.chart_of.Goals as goal
+use Rattle.timeline_model.proofs.trace_chart.chart_by.Goals as goal
 
 pub returns : goal.returns
-returns c = rw (c.min.ensures, c.len.ensures, c.in_ok-groups.ensures.groups, c.in_ok-groups.ensures.fault, c.in_ok-lanes.ensures.lanes, c.in_ok-lanes.ensures.unfinished, c.in_ok-lanes.ensures.notes) refl
+returns c = rw (c.min-rows.ensures, c.in_ok-fault.ensures, c.len-count.ensures, c.in_ok-groups.ensures, c.as_slice-drawn.ensures, c.in_ok-lanes.ensures, c.in_ok-unfinished.ensures, c.as_slice-seats.ensures, c.in_ok-notes.ensures) refl
