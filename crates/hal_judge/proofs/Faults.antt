@@ -61,11 +61,19 @@ pub rows_told : (rows : List Row) → at_frames (map frame_of rows) ≡ at_rows 
 rows_told [] = refl
 rows_told (r ∷ rows) = ap (λ z. at r.frame None ∷ z) (rows_told rows)
 
--- the numbers of rows that pass a test, beside theirs
-pub frames_told : (p : Row → Bool) (es : List (ℕ × Row)) → map (λ e. frame_of e.1) (filter (λ e. p e.1) es) ≡ map frame_of (filter p (values_of es))
-frames_told p [] = refl
-frames_told p (e ∷ es) = go (p e.1) (frames_told p es)
+-- ---- requests that pass a test, by their numbers
+
+-- one more row, with its number before those of the rows that are left
+pub frames_next : (p : Row → Bool) (k : ℕ) (r : Row) (t u : List (ℕ × Row)) (old new all : List ℕ) → t ≡ (k, r) ∷ u → new ≡ old ++ map frame_of (filter p (r ∷ [])) → old ++ map frame_of (filter p (values_of t)) ≡ all → new ++ map frame_of (filter p (values_of u)) ≡ all
+frames_next p k r t u old new all is now' so =
+    ap (λ z. z ++ map frame_of (filter p (values_of u))) now'
+    ∙ (append-turned old (map frame_of (filter p (r ∷ []))) (map frame_of (filter p (values_of u)))
+    ∙ (ap (λ z. old ++ z) (sym split)
+    ∙ (ap (λ z. old ++ map frame_of (filter p (values_of z))) (sym is) ∙ so)))
   where
-    go : (b : Bool) → map (λ (x : ℕ × Row). frame_of x.1) (filter (λ (x : ℕ × Row). p x.1) es) ≡ map frame_of (filter p (values_of es)) → map (λ (x : ℕ × Row). frame_of x.1) (if b then e ∷ filter (λ (x : ℕ × Row). p x.1) es else filter (λ (x : ℕ × Row). p x.1) es) ≡ map frame_of (if b then e.1 ∷ filter p (values_of es) else filter p (values_of es))
-    go true so = ap (λ (z : List ℕ). e.1.frame ∷ z) so
-    go false so = so
+    split : map frame_of (filter p (r ∷ values_of u)) ≡ map frame_of (filter p (r ∷ [])) ++ map frame_of (filter p (values_of u))
+    split = ap (map frame_of) (filter-append p (r ∷ []) (values_of u)) ∙ map-append frame_of (filter p (r ∷ [])) (filter p (values_of u))
+
+pub frames_end : (p : Row → Bool) (t : List (ℕ × Row)) (old all : List ℕ) → t ≡ [] → old ++ map frame_of (filter p (values_of t)) ≡ all → old ≡ all
+frames_end p t old all is so =
+    sym (append-none old) ∙ (ap (λ z. old ++ map frame_of (filter p (values_of z))) (sym is) ∙ so)

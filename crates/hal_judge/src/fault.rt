@@ -1,7 +1,5 @@
 //! What an event is at fault in that breaks a rule.
-ghost use Rattle.std.specs.Prelude.{◌≡◌, ◌==◌, ◌&&◌, ◌∷◌, [], ◌++◌, None, Some, filter, map, option_copied, IfOk, OnOk, ℕ};
-ghost use Rattle.std.specs.Map.Iter.{ShowsInOrder, deref_pair};
-ghost use Rattle.hal_rows.specs.declared.row.Row.{Row as ARow};
+ghost use Rattle.std.specs.Prelude.{◌≡◌, ◌==◌, ◌&&◌, ◌∷◌, [], ◌++◌, None, Some, filter, map, option_copied, IfOk, OnOk};
 ghost use Rattle.hal_model.specs.Rules.{at, at_buffers, at_frames, at_stream, at_targets, plain};
 ghost use Rattle.hal_model.specs.Device.{is_idle_most, is_unnamed};
 ghost use Rattle.hal_rows.specs.Judged.{at_rows, at_target_rows, is_row_silent, is_target_unknown_in, row_astray, row_silences};
@@ -21,7 +19,6 @@ use hal_model::{Fault, HalEvent, HalStream, HalTarget, Returned, StreamMax};
 use hal_row::row::is_unannounced_at;
 use hal_rows::{Row, TargetRow};
 use hal_table::HalTable;
-use lru::Iter;
 use std::alloc::Global;
 
 // ---- one fault
@@ -66,19 +63,20 @@ pub(crate) fn one(alloc: Global, fault: Fault) -> Result<Vec<Fault>, NoMemory>
 
 // ---- rows
 
-fn frames_of(
-    alloc: Global,
+/// Adds the number of a request, where it is meant.
+fn add_meant(
     which: Which,
     event: &HalEvent,
-    rows: Iter<'_, u32, Row>,
-) -> Result<Vec<u32>, NoMemory>
-    requires { ShowsInOrder (deref_pair {K = ℕ} {X = ARow}) }
-    ensures { IfOk result (λ frames. frames.items
-        ≡ map (λ e. frame_of e.1) (filter (λ e. is_meant which event.now e.1) rows.entry)) }
+    row: &Row,
+    frames: &mut Vec<u32>,
+) -> Result<(), NoMemory>
+    ensures { OnOk result (frames.new.items
+        ≡ frames.old.items ++ map frame_of (filter (is_meant which event.now) (row.now ∷ []))) }
 {
-    rows.filter(|(_, row)| is_meant(which, event, row))
-        .map(|(_, row)| row.frame)
-        .collect(alloc)
+    if is_meant(which, event, row) {
+        frames.push(row.frame)?;
+    }
+    Ok(())
 }
 
 /// The numbers of the requests that are meant.
@@ -91,7 +89,10 @@ pub(crate) fn frames_meant(
     ensures { IfOk result (λ frames. frames.items
         ≡ map frame_of (filter (is_meant which event.now) (state_of table.now).rows)) }
 {
-    let frames = frames_of(alloc, which, event, table.rows())?;
+    let mut frames = Vec::new(alloc);
+    for (_, row) in table.rows() {
+        add_meant(which, event, row, &mut frames)?;
+    }
     Ok(frames)
 }
 
@@ -126,11 +127,13 @@ fn targets_silent(alloc: Global, row: &Row, targets: &[TargetRow]) -> Result<Vec
     ensures { IfOk result (λ faults. faults.items ≡
         at_target_rows row.now.frame (filter (is_row_unannounced_at row.now) targets.now)) }
 {
-    targets
-        .iter()
-        .filter(|target| is_unannounced_at(row, target))
-        .map(|target| at_target_row(row.frame, target))
-        .collect(alloc)
+    let mut faults = Vec::new(alloc);
+    for target in targets {
+        if is_unannounced_at(row, target) {
+            faults.push(at_target_row(row.frame, target))?;
+        }
+    }
+    Ok(faults)
 }
 
 /// Adds the buffers in error without their notices of a request, where one is told of it.
@@ -175,11 +178,13 @@ pub(crate) fn target_rows_unknown(
     ensures { IfOk result (λ faults. faults.items ≡
         at_target_rows frame (filter (is_target_unknown_in streams.now) targets.now)) }
 {
-    targets
-        .iter()
-        .filter(|target| is_target_unknown_in(streams, target))
-        .map(|target| at_target_row(frame, target))
-        .collect(alloc)
+    let mut faults = Vec::new(alloc);
+    for target in targets {
+        if is_target_unknown_in(streams, target) {
+            faults.push(at_target_row(frame, target))?;
+        }
+    }
+    Ok(faults)
 }
 
 // ---- targets of a request that begins
@@ -222,10 +227,13 @@ fn most_idle(alloc: Global, asked: &[HalStream], most: &[StreamMax]) -> Result<V
     ensures { IfOk result (λ faults. faults.items ≡
         map (λ x. at_stream x.stream) (filter (is_idle_most asked.now) most.now)) }
 {
-    most.iter()
-        .filter(|named| is_idle_most(asked, named))
-        .map(|named| at_most(named))
-        .collect(alloc)
+    let mut faults = Vec::new(alloc);
+    for named in most {
+        if is_idle_most(asked, named) {
+            faults.push(at_most(named))?;
+        }
+    }
+    Ok(faults)
 }
 
 fn at_asked(stream: &HalStream) -> Fault
@@ -242,11 +250,13 @@ fn streams_unnamed(
     ensures { IfOk result (λ faults. faults.items ≡
         map (λ x. at_stream x.stream) (filter (is_unnamed most.now) asked.now)) }
 {
-    asked
-        .iter()
-        .filter(|stream| is_unnamed(most, stream))
-        .map(|stream| at_asked(stream))
-        .collect(alloc)
+    let mut faults = Vec::new(alloc);
+    for stream in asked {
+        if is_unnamed(most, stream) {
+            faults.push(at_asked(stream))?;
+        }
+    }
+    Ok(faults)
 }
 
 /// The streams that have no number of buffers, and those of a number that isn't one.
@@ -283,11 +293,13 @@ pub(crate) fn buffers_flawed(
 ) -> Result<Vec<Fault>, NoMemory>
     ensures { IfOk result (λ faults. faults.items ≡ at_buffers frame (filter (is_flawed flaw) buffers.now)) }
 {
-    buffers
-        .iter()
-        .filter(|buffer| is_flawed(flaw, buffer))
-        .map(|buffer| at_buffer(frame, buffer))
-        .collect(alloc)
+    let mut faults = Vec::new(alloc);
+    for buffer in buffers {
+        if is_flawed(flaw, buffer) {
+            faults.push(at_buffer(frame, buffer))?;
+        }
+    }
+    Ok(faults)
 }
 
 /// The buffers that are at fault.
@@ -302,11 +314,13 @@ pub(crate) fn buffers_wrong(
     ensures { IfOk result (λ faults. faults.items ≡
         at_buffers frame (filter (is_buffer_wrong fault (state_of table.now) row.now) buffers.now)) }
 {
-    buffers
-        .iter()
-        .filter(|buffer| is_buffer_wrong(fault, row, table, buffer))
-        .map(|buffer| at_buffer(frame, buffer))
-        .collect(alloc)
+    let mut faults = Vec::new(alloc);
+    for buffer in buffers {
+        if is_buffer_wrong(fault, row, table, buffer) {
+            faults.push(at_buffer(frame, buffer))?;
+        }
+    }
+    Ok(faults)
 }
 
 /// The buffers that aren't at the device, or stand before in the same result.
