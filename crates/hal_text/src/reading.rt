@@ -1,6 +1,6 @@
 //! A hal log read from its text.
 
-ghost use Rattle.std.specs.Prelude.{◌≡◌, ◌<◌, ◌≤◌, ◌+◌, true, IfErr, IfOk, IsTrue, OnOk, length};
+ghost use Rattle.std.specs.Prelude.{◌≡◌, ◌<◌, ◌≤◌, ◌+◌, Some, true, IfErr, IfOk, IsTrue, OnOk, length};
 ghost use Rattle.text_parts.specs.Words.{loose_words};
 ghost use Rattle.hal_spelling.specs.Fits.{has_begin, is_valid, is_well_made};
 ghost use Rattle.hal_text.specs.Begun.{Knows};
@@ -26,7 +26,6 @@ pub const HAL_BYTES: usize = 134_217_728;
 pub struct Draft {
     pub log: Option<HalLog>,
     pub begun: Begun,
-    pub ghost stands: { Stands log begun },
 }
 
 /// Puts an event behind those of a log. The log is of no use where there is an error.
@@ -53,79 +52,77 @@ fn add_event(
     Ok(())
 }
 
-/// A log with one more event.
-fn with_event(
-    mut log: HalLog,
-    mut begun: Begun,
+/// Puts an event behind those of a log that can be written.
+fn put_event(
+    log: &mut HalLog,
+    begun: &mut Begun,
     line: u32,
     event: HalEvent,
-) -> Result<Draft, LineRefused>
-    requires knows { Knows begun log.events }
-    requires valid { IsTrue (is_valid log.parts log.events) }
+) -> Result<(), LineRefused>
+    requires stands { Stands (Some log.old) begun.old }
     requires event { IsTrue (is_well_made event) }
-    requires few { length log.events < line }
-    requires same { length log.lines ≡ length log.events }
-    ensures value { GivesBy (λ d. d.log) result (added line log event) }
-    ensures short { IfOk result (λ d. IsTrue (is_short d.log (line + 1))) }
+    requires few { length log.old.events < line }
+    ensures value { GivesBy (λ _. Some log.new) result (added line log.old event) }
+    ensures stands { OnOk result (Stands (Some log.new) begun.new) }
+    ensures short { OnOk result (IsTrue (is_short (Some log.new) (line + 1))) }
 {
-    add_event(&mut log, &mut begun, line, event)?;
-    Ok(Draft {
-        log: Some(log),
-        begun,
-    })
+    add_event(log, begun, line, event)?;
+    Ok(())
 }
 
-/// What stands after a line that isn't ignored.
+/// Adds a line that isn't ignored.
 #[tactic(auto, unfolding(crate::specs::Meaning::after_words))]
-fn after_words(
+fn add_words(
     alloc: Global,
-    before: Draft,
+    draft: &mut Draft,
     line: u32,
     word: &[u8],
     words: &[u8],
-) -> Result<Draft, LineRefused>
-    requires { IsTrue (is_short before.log line) }
-    ensures value { GivesBy (λ d. d.log) result (after_words line before.log word.now (loose_words words.now)) }
-    ensures short { IfOk result (λ d. IsTrue (is_short d.log (line + 1))) }
+) -> Result<(), LineRefused>
+    requires stands { Stands draft.old.log draft.old.begun }
+    requires short { IsTrue (is_short draft.old.log line) }
+    ensures value { GivesBy (λ _. draft.new.log) result (after_words line draft.old.log word.now (loose_words words.now)) }
+    ensures stands { OnOk result (Stands draft.new.log draft.new.begun) }
+    ensures short { OnOk result (IsTrue (is_short draft.new.log (line + 1))) }
 {
-    let Draft { log, begun } = before;
-    match log {
+    match &mut draft.log {
         None => {
             let parts = count_of(word, words)?;
-            Ok(Draft {
-                log: Some(HalLog {
-                    parts,
-                    events: Listing::new(alloc),
-                    lines: Listing::new(alloc),
-                }),
-                begun,
-            })
+            draft.log = Some(HalLog {
+                parts,
+                events: Listing::new(alloc),
+                lines: Listing::new(alloc),
+            });
+            Ok(())
         }
         Some(log) => {
             let event = event_of(alloc, word, words)?;
-            with_event(log, begun, line, event)
+            put_event(log, &mut draft.begun, line, event)
         }
     }
 }
 
-/// What stands after a line.
+/// Adds a line.
 #[tactic(auto, unfolding(crate::specs::Meaning::after))]
-fn after(alloc: Global, before: Draft, number: u32, line: &[u8]) -> Result<Draft, LineRefused>
-    requires { IsTrue (is_short before.log number) }
-    ensures value { GivesBy (λ d. d.log) result (after number before.log line.now) }
-    ensures short { IfOk result (λ d. IsTrue (is_short d.log (number + 1))) }
+fn add_line(alloc: Global, draft: &mut Draft, number: u32, line: &[u8]) -> Result<(), LineRefused>
+    requires stands { Stands draft.old.log draft.old.begun }
+    requires short { IsTrue (is_short draft.old.log number) }
+    ensures value { GivesBy (λ _. draft.new.log) result (after number draft.old.log line.now) }
+    ensures stands { OnOk result (Stands draft.new.log draft.new.begun) }
+    ensures short { OnOk result (IsTrue (is_short draft.new.log (number + 1))) }
 {
     if !is_printable(line) {
         return Err(LineRefused::Bad(Cause::BadLine));
     }
     match next_loose_word(line) {
-        None | Some(([b'#', ..], _)) => Ok(before),
-        Some((word, rest)) => after_words(alloc, before, number, word, rest),
+        None | Some(([b'#', ..], _)) => Ok(()),
+        Some((word, rest)) => add_words(alloc, draft, number, word, rest),
     }
 }
 
 /// What stands at the end of a text, of which a next line would have the number.
 fn finish(draft: Draft, line: u32) -> Result<HalLog, LogRefused>
+    requires { Stands draft.log draft.begun }
     ensures exact { Answers result (at_end line draft.log) }
     ensures valid { IfOk result (λ log. IsTrue (is_valid log.parts log.events)) }
 {
@@ -163,9 +160,8 @@ pub fn read(alloc: Global, bytes: &[u8]) -> Result<HalLog, LogRefused>
     let mut number = 1;
     let mut rest = bytes;
     while let Some((line, behind)) = split_line(rest) {
-        match after(alloc, draft, number, line) {
-            Ok(next) => draft = next,
-            Err(why) => return Err(refused(number, why)),
+        if let Err(why) = add_line(alloc, &mut draft, number, line) {
+            return Err(refused(number, why));
         }
         number += 1;
         rest = behind;

@@ -6,10 +6,10 @@ use Rattle.hal_text.proofs.reading.read.Given as goal
 
 abbrev pub invariant-loop-line : goal.invariant-loop-line
 invariant-loop-line l = record {
-  same : log_from l.draft.0 l.number (lines_of l.rest) ≡ log_of l.bytes;
+  same : log_from l.draft.log l.number (lines_of l.rest) ≡ log_of l.bytes;
   long : l.number + length l.rest ≤ length l.bytes + 1;
-  short : is_short l.draft.0 l.number ≡ true;
-  stands : Stands l.draft.0 l.draft.1.0;
+  short : is_short l.draft.log l.number ≡ true;
+  stands : Stands l.draft.log l.draft.begun;
 }
 
 abbrev pub decreases-loop-line : goal.decreases-loop-line
