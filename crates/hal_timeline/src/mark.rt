@@ -121,10 +121,12 @@ fn is_seat_in(seat: &Seat, frame: u32, lane: Lane) -> bool
 fn find_in_lane(seats: &[Seat], frame: u32, lane: Lane) -> Option<Seat>
     ensures { result ≡ find (is_seat_in frame lane) seats.now }
 {
-    seats
-        .iter()
-        .copied()
-        .find(|seat| is_seat_in(seat, frame, lane))
+    for seat in seats {
+        if is_seat_in(seat, frame, lane) {
+            return Some(*seat);
+        }
+    }
+    None
 }
 
 fn seat_in_lane(seats: &[Seat], frame: u32, lane: Option<Lane>) -> Option<Seat>

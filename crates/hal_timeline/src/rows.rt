@@ -33,7 +33,12 @@ fn is_lane_of(lane: &Lane, stream: u32) -> bool
 pub fn lane_of(lanes: &[Lane], stream: u32) -> Option<Lane>
     ensures { result ≡ find (is_lane_of stream) lanes.now }
 {
-    lanes.iter().copied().find(|lane| is_lane_of(lane, stream))
+    for lane in lanes {
+        if is_lane_of(lane, stream) {
+            return Some(*lane);
+        }
+    }
+    None
 }
 
 fn has_lane(lanes: &[Lane], stream: u32) -> bool
