@@ -103,8 +103,10 @@ pub fn keep_other(seats: &mut Vec<Seat>, frame: u32, buffer: u32)
 pub fn seat_of(seats: &[Seat], frame: u32, buffer: u32) -> Option<Seat>
     ensures { result ≡ find (is_seat_of frame buffer) seats.now }
 {
-    seats
-        .iter()
-        .copied()
-        .find(|seat| is_seat_of(seat, frame, buffer))
+    for seat in seats {
+        if is_seat_of(seat, frame, buffer) {
+            return Some(*seat);
+        }
+    }
+    None
 }
