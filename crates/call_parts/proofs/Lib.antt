@@ -3,3 +3,4 @@ pub mod Done
 pub mod Long
 pub mod Meanings
 pub mod Texts
+pub mod Inputs
