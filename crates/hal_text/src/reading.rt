@@ -1,10 +1,10 @@
 //! A hal log read from its text.
 
-ghost use Rattle.std.specs.Prelude.{◌≡◌, ◌<◌, ◌≤◌, ◌+◌, Some, true, IfErr, IfOk, IsTrue, OnOk, length};
+ghost use Rattle.std.specs.Prelude.{◌≡◌, ◌<◌, ◌≤◌, ◌+◌, Some, true, IfOk, IsTrue, OnOk, length};
 ghost use Rattle.text_parts.specs.Words.{loose_words};
-ghost use Rattle.hal_spelling.specs.Fits.{has_begin, is_valid, is_well_made};
+ghost use Rattle.hal_spelling.specs.Fits.{is_valid, is_well_made};
 ghost use Rattle.hal_text.specs.Begun.{Knows};
-ghost use Rattle.hal_text.specs.Drafts.{Stands, is_short, longer};
+ghost use Rattle.hal_text.specs.Drafts.{Stands, is_short};
 ghost use Rattle.hal_text.specs.Meaning.{added, after, after_words, at_end, log_of};
 ghost use Rattle.hal_lines.specs.Reader.{GivesBy, Refuses};
 ghost use Rattle.hal_text.specs.Reader.{Answers};
@@ -36,12 +36,13 @@ fn add_event(
     event: HalEvent,
 ) -> Result<(), LineRefused>
     requires knows { Knows begun.old log.old.events }
+    requires valid { IsTrue (is_valid log.old.parts log.old.events) }
+    requires event { IsTrue (is_well_made event) }
     requires few { length log.old.events < line }
     requires same { length log.old.lines ≡ length log.old.events }
-    ensures begun { OnOk result (has_begin log.old.events event ≡ true) }
-    ensures log { OnOk result (log.new ≡ longer line log.old event) }
-    ensures knows { OnOk result (Knows begun.new log.new.events) }
-    ensures refused { IfErr result (λ why. Refuses why (added line log.old event)) }
+    ensures value { GivesBy (λ _. Some log.new) result (added line log.old event) }
+    ensures stands { OnOk result (Stands (Some log.new) begun.new) }
+    ensures short { OnOk result (IsTrue (is_short (Some log.new) (line + 1))) }
 {
     if !begun.has_begin(&event) {
         return Err(LineRefused::Bad(Cause::BadLine));
@@ -49,24 +50,6 @@ fn add_event(
     begun.note(&event)?;
     log.events.push(event)?;
     log.lines.push(line)?;
-    Ok(())
-}
-
-/// Puts an event behind those of a log that can be written.
-fn put_event(
-    log: &mut HalLog,
-    begun: &mut Begun,
-    line: u32,
-    event: HalEvent,
-) -> Result<(), LineRefused>
-    requires stands { Stands (Some log.old) begun.old }
-    requires event { IsTrue (is_well_made event) }
-    requires few { length log.old.events < line }
-    ensures value { GivesBy (λ _. Some log.new) result (added line log.old event) }
-    ensures stands { OnOk result (Stands (Some log.new) begun.new) }
-    ensures short { OnOk result (IsTrue (is_short (Some log.new) (line + 1))) }
-{
-    add_event(log, begun, line, event)?;
     Ok(())
 }
 
@@ -97,7 +80,7 @@ fn add_words(
         }
         Some(log) => {
             let event = event_of(alloc, word, words)?;
-            put_event(log, &mut draft.begun, line, event)
+            add_event(log, &mut draft.begun, line, event)
         }
     }
 }
