@@ -44,7 +44,12 @@ pub fn lane_of(lanes: &[Lane], stream: u32) -> Option<Lane>
 fn has_lane(lanes: &[Lane], stream: u32) -> bool
     ensures { result ≡ list_any (is_lane_of stream) lanes.now }
 {
-    lanes.iter().any(|lane| is_lane_of(lane, stream))
+    for lane in lanes {
+        if is_lane_of(lane, stream) {
+            return true;
+        }
+    }
+    false
 }
 
 /// Gives a stream a lane, where it has none and there is one.
