@@ -1,14 +1,17 @@
 //! Buffers come back from the device: filled, early, or in error.
-ghost use Rattle.std.specs.Prelude.{◌≡◌};
-ghost use Rattle.buffer_manager.specs.Managed.{fence_from};
+ghost use Rattle.std.specs.Prelude.{◌≡◌, [], None, IsTrue, slice_get};
+ghost use Rattle.buffer_manager.specs.Managed.{IsBufferAt, IsOf, fence_from, homes_with, moved};
 ghost use Rattle.run_model.specs.declared.step.StepName.TheVariants.{Deliver, Early, Finish, ReturnFailed};
 ghost use Rattle.service_state.specs.Answers.{Answers};
 ghost use Rattle.service_state.specs.Serving.{IsServing};
+ghost use Rattle.state_facts.specs.Homes.{place_in};
+ghost use Rattle.trace_model.specs.Place.{Device, Pool, is_at};
 
 use crate::end_frame::Ending;
 use crate::state::ServiceState;
-use buffer_pool::Waiter;
-use cam_types::{FenceNo, FrameNo, StreamIx};
+use buffer_manager::BufferManager;
+use buffer_pool::{Parked, Waiter};
+use cam_types::{BufferId, FenceNo, FrameNo, StreamIx};
 use trace_model::Entry;
 
 impl ServiceState {
@@ -75,9 +78,7 @@ impl ServiceState {
     {
         let ending = Ending::of(&self.device, &self.captures, frame);
         let parked = self.device.return_failed(frame, stream, &mut self.fences)?;
-        let buffer = parked.pixels.id();
-        let fence = fence_of(&parked.waiter);
-        self.buffers.give_back(stream, parked);
+        let (buffer, fence) = give_back(&mut self.buffers, stream, parked);
         let entry = Entry::Failed {
             frame,
             stream,
@@ -87,6 +88,25 @@ impl ServiceState {
         ending.note_entry(&mut self.client, &mut self.device, &self.script, &entry);
         Some(entry)
     }
+}
+
+/// Gives a buffer that failed back to its pool. The answer is the buffer, and the fence of its waiter.
+fn give_back(
+    buffers: &mut BufferManager,
+    stream: StreamIx,
+    parked: Parked,
+) -> (BufferId, Option<FenceNo>)
+    requires own { IsOf buffers.old stream.0 parked.pixels.id.0 }
+    requires whole { IsBufferAt (slice_get buffers.old.specs stream.0) parked.pixels }
+    requires device { IsTrue (is_at (place_in (homes_with [] buffers.old) parked.pixels.id.0) Device) }
+    ensures back { buffers.new ≡ moved parked.pixels.id.0 Pool (fence_from parked.waiter) None None buffers.old }
+    ensures buffer { result.0 ≡ parked.pixels.id }
+    ensures fence { result.1 ≡ fence_from parked.waiter }
+{
+    let buffer = parked.pixels.id();
+    let fence = fence_of(&parked.waiter);
+    buffers.give_back(stream, parked);
+    (buffer, fence)
 }
 
 /// The fence of a waiter.

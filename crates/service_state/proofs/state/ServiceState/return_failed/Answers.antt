@@ -18,8 +18,8 @@ returns-in_err-parked c =
     let told = c.in_err-parked.ensures in
     rw c.from_residual.ensures (stays_as (held i) c.args.self.now _ _ c.self.view_is (rw (told.fences, told.unchanged refl) refl) (not_failed (held i) c.args.frame c.args.stream (not_true (is_failed_return_ready i.device.rows c.args.frame.0 c.args.stream.0) told.ready.1)))
 
-pub give_back-requires : goal.give_back-requires
-give_back-requires c =
+pub give_back-fence-requires : goal.give_back-fence-requires
+give_back-fence-requires c =
     let h = failed_back c.self.inside c.self.invariant c.args.self.now c.self.view_is c.requires c.args.frame c.args.stream c.in_ok-parked.parked c.in_ok-parked.ensures.parked in
     record {
       own = h.own;
@@ -31,13 +31,13 @@ pub note_entry-requires : goal.note_entry-requires
 note_entry-requires c =
     let told = c.in_ok-parked.ensures in
     let h = failed_back c.self.inside c.self.invariant c.args.self.now c.self.view_is c.requires c.args.frame c.args.stream c.in_ok-parked.parked c.in_ok-parked.ensures.parked in
-    let step = returns_failed (held c.self.inside) h.serving c.args.frame c.args.stream h.it.target c.fence_of-fence.result (told.ready.0 refl) h.it.found (c.fence_of-fence.ensures ∙ h.it.fence) in
+    let step = returns_failed (held c.self.inside) h.serving c.args.frame c.args.stream h.it.target c.give_back-fence.result.1 (told.ready.0 refl) h.it.found (c.give_back-fence.ensures.fence ∙ h.it.fence) in
     rw (c.of-ending.ensures, told.rows) step.fits
 
 pub returns : goal.returns
 returns c =
     let told = c.in_ok-parked.ensures in
     let h = failed_back c.self.inside c.self.invariant c.args.self.now c.self.view_is c.requires c.args.frame c.args.stream c.in_ok-parked.parked c.in_ok-parked.ensures.parked in
-    let step = returns_failed (held c.self.inside) h.serving c.args.frame c.args.stream h.it.target c.fence_of-fence.result (told.ready.0 refl) h.it.found (c.fence_of-fence.ensures ∙ h.it.fence) in
+    let step = returns_failed (held c.self.inside) h.serving c.args.frame c.args.stream h.it.target c.give_back-fence.result.1 (told.ready.0 refl) h.it.found (c.give_back-fence.ensures.fence ∙ h.it.fence) in
     makes_as (held c.self.inside) c.args.self.now _ _ c.self.view_is c.requires (λ serving'.
-    rw (c.note_entry.ensures.client, c.note_entry.ensures.device, c.give_back.ensures, sym c.fence_of-fence.ensures, c.of-ending.ensures, told.rows, told.fences, c.id-buffer.ensures, h.it.whole.id) step.made)
+    rw (c.note_entry.ensures.client, c.note_entry.ensures.device, c.give_back-fence.ensures.back, sym c.give_back-fence.ensures.fence, c.of-ending.ensures, told.rows, told.fences, c.give_back-fence.ensures.buffer, h.it.whole.id) step.made)
