@@ -3,7 +3,7 @@ use Rattle.std.proofs.Common.{◌≡◌, ◌∙◌, ◌<◌, ℕ, zero, suc, ◌
 use Rattle.std.specs.List.{flat_map, list_any, range_with_len}
 use Rattle.std.proofs.lemmas.Bool.{and_from, cases_Bool, eqb-true, false≢true}
 use Rattle.std.proofs.lemmas.Bool.Decides.{nat_tests}
-use Rattle.judge_calls.proofs.StreamLemmas.{any_in_range}
+use Rattle.judge_rules.proofs.StreamLemmas.{any_in_range}
 use Rattle.trace_model.specs.declared.entry.Entry.{Entry}
 use Rattle.allowed_entries.specs.declared.entry.AllowedEntry.{AllowedEntry}
 use Rattle.allowed_entries.specs.Entries.{by_streams}

@@ -20,7 +20,7 @@ use Rattle.trace_model.specs.Numbers.{next_number}
 use Rattle.trace_model.specs.Printable.{is_filled}
 use Rattle.trace_model.specs.Queue.{next}
 use Rattle.trace_model.specs.Send.{are_streams, fits_next, is_same_bool, mark_of, may_go, takes_from_pool, targets_in_order}
-use Rattle.judge_calls.proofs.StreamLemmas.{any_in_range}
+use Rattle.judge_rules.proofs.StreamLemmas.{any_in_range}
 
 abbrev is_low : Sent → Bool
 is_low t = nat_lt t.stream.0 4

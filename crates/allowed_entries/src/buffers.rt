@@ -7,9 +7,9 @@ use crate::entry::AllowedEntry;
 use crate::list::{add, add_due};
 use crate::pictures::filled_due;
 use cam_types::{FrameNo, NoMemory, Script, StreamIx};
-use judge_due::buffers::{early_due, failed_due};
-use judge_due::errors::error_buffer_due;
 use judge_rows::JudgeTables;
+use trace_check::buffers::{early_due, failed_due};
+use trace_check::errors::error_buffer_due;
 
 /// A kind of entry of a frame's buffer.
 #[derive(Clone, Copy)]

@@ -9,11 +9,11 @@ use crate::buffers::{BufferEntry, add_buffers};
 use crate::entry::{AllowedEntry, known_of};
 use crate::list::add_due;
 use cam_types::{FrameNo, NoMemory, Script};
-use judge_due::errors::{error_request_due, error_result_due};
-use judge_due::exposures::shutter_due;
-use judge_due::parts::partial_due;
 use judge_entries::entry::is_shutter;
 use judge_rows::{JudgeTables, OpenRow};
+use trace_check::errors::{error_request_due, error_result_due};
+use trace_check::exposures::shutter_due;
+use trace_check::parts::partial_due;
 
 /// Adds the shutter, where it is due of the frame.
 fn add_shutter(

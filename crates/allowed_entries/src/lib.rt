@@ -2,7 +2,7 @@
 //! can be believed.
 //!
 //! They are read from the tables of the trace's state (`judge_rows`), by the readings with which a trace is judged
-//! (`judge_due`): so each costs what the open frames and the configuration's buffers cost, however long the trace is.
+//! (`trace_check`): so each costs what the open frames and the configuration's buffers cost, however long the trace is.
 #![tactic(auto)]
 
 mod after;

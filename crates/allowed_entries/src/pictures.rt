@@ -10,9 +10,9 @@ ghost use Rattle.allowed_entries.specs.Known.{shown};
 
 use crate::entry::AllowedEntry;
 use cam_types::{DeviceFenceNo, FrameNo, Script, StreamIx};
-use judge_due::buffers::may_deliver;
-use judge_due::targets::{pending_target, target_for};
 use judge_rows::{JudgeTables, OpenRow, OpenTarget, find_row, pending_row};
+use trace_check::buffers::may_deliver;
+use trace_check::targets::{pending_target, target_for};
 
 /// The row's buffer for the stream, where it is due back with its picture.
 fn filled_at(

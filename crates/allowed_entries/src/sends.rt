@@ -2,7 +2,7 @@
 ghost use Rattle.std.specs.Prelude.{◌≡◌, ◌||◌, Option, find, is_some, not, option_to_list};
 ghost use Rattle.std.specs.List.{list_all, range_with_len};
 ghost use Rattle.state_facts.specs.Homes.{least_in, place_in};
-ghost use Rattle.judge_calls.specs.Asked.{asks, left_from};
+ghost use Rattle.judge_rules.specs.Asked.{asks, left_from};
 ghost use Rattle.state_facts.specs.States.{send_in, send_next_in, targets_in};
 ghost use Rattle.trace_model.specs.Place.{Pool, is_at};
 ghost use Rattle.trace_model.specs.Send.{targets_in_order};
@@ -10,10 +10,10 @@ ghost use Rattle.allowed_entries.specs.Known.{shown};
 
 use crate::entry::AllowedEntry;
 use cam_types::{Made, Queued, STREAM_LIMIT, Script, StreamIx, Targets};
-use judge_calls::mark::are_last;
-use judge_calls::stream::asks_for;
-use judge_due::send::may_go;
 use judge_rows::{Home, JudgeTables};
+use judge_rules::mark::are_last;
+use judge_rules::stream::asks_for;
+use trace_check::send::may_go;
 
 /// The number past the last stream that an item can ask for.
 const STREAMS_END: u8 = STREAM_LIMIT as u8;
@@ -58,7 +58,7 @@ fn have_free_where_asked(tables: &JudgeTables, asked: Targets) -> bool
 }
 
 /// Whether a buffer of each stream that is asked for is in the pool.
-#[tactic(auto, using(judge_calls::proofs::StreamLemmas::all_asked))]
+#[tactic(auto, using(judge_rules::proofs::StreamLemmas::all_asked))]
 fn have_free(tables: &JudgeTables, asked: Targets) -> bool
     ensures { result ≡ list_all (λ s. is_some (least_in tables.now.state.buffers s)) (left_from (asks asked) 0) }
 {

@@ -7,10 +7,10 @@ use crate::entry::AllowedEntry;
 use crate::list::{add, add_due};
 use crate::sends::send_due;
 use cam_types::{NoMemory, Script};
-use judge_due::client::client_due;
-use judge_due::drop_due;
-use judge_due::exposures::error_device_due;
 use judge_rows::JudgeTables;
+use trace_check::client::client_due;
+use trace_check::drop_due;
+use trace_check::exposures::error_device_due;
 
 /// Adds what is due of the next frame.
 #[tactic(auto, unfolding(crate::specs::Readings::next_in))]

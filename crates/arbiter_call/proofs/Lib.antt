@@ -1,3 +1,7 @@
-pub mod Valid
-pub mod Scripts
+pub mod Closing
+pub mod Fair
+pub mod Finding
 pub mod LogTexts
+pub mod Scripts
+pub mod SessionLists
+pub mod Valid

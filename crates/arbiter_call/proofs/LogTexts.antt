@@ -6,11 +6,11 @@ use Rattle.std.proofs.Math.Seq.{take-length}
 use Rattle.call_parts.specs.Answers.{Answers}
 use Rattle.cam_types.specs.declared.script.Script.{Script}
 use Rattle.basic_lemmas.proofs.Lists.{all-where, all-reversed}
-use Rattle.camera_arbiter.specs.Answers.{log_of}
-use Rattle.camera_arbiter.specs.Laws.{IsOver, KeepsLaws}
-use Rattle.camera_arbiter.specs.Ranges.{is_line, is_logged}
-use Rattle.camera_arbiter.specs.declared.answer.LogLine.{LogLine}
-use Rattle.camera_arbiter.specs.declared.line.ArbiterLine.{ArbiterLine}
+use Rattle.arbiter_call.specs.Answers.{log_of}
+use Rattle.arbiter_call.specs.Laws.{IsOver, KeepsLaws}
+use Rattle.arbiter_call.specs.Ranges.{is_line, is_logged}
+use Rattle.arbiter_call.specs.declared.answer.LogLine.{LogLine}
+use Rattle.arbiter_call.specs.declared.line.ArbiterLine.{ArbiterLine}
 use Rattle.arbiter_call.proofs.Scripts.{fits-logged}
 use Rattle.arbiter_call.proofs.Valid.{parts-of}
 use Rattle.arbiter_call.specs.Scripts.{shots_fit}

@@ -3,10 +3,10 @@ use Rattle.std.proofs.Common.{◌≡◌, ℕ, ◌≤◌, true, ◌&&◌, List, [
 use Rattle.std.proofs.lemmas.Bool.{and_parts, false≢true}
 use Rattle.std.proofs.lemmas.Bool.Decides.{nat_tests}
 use Rattle.cam_types.specs.declared.script.Command.{Command}
-use Rattle.camera_arbiter.specs.Ranges.{is_client, is_logged, is_session}
-use Rattle.camera_arbiter.specs.declared.answer.LogLine.{LogLine}
-use Rattle.camera_arbiter.specs.declared.answer.LogLine.TheVariants.{Grant, Evict, Leave, Refused}
-use Rattle.camera_arbiter.specs.declared.session.Session.{Session}
+use Rattle.arbiter_call.specs.Ranges.{is_client, is_logged, is_session}
+use Rattle.arbiter_call.specs.declared.answer.LogLine.{LogLine}
+use Rattle.arbiter_call.specs.declared.answer.LogLine.TheVariants.{Grant, Evict, Leave, Refused}
+use Rattle.arbiter_call.specs.declared.session.Session.{Session}
 use Rattle.arbiter_call.specs.Scripts.{shots_fit}
 
 shots-of : (cameras : ℕ) (s : Session) → is_session cameras s ≡ true → (nat_le 1 s.shots && nat_le s.shots 100) ≡ true

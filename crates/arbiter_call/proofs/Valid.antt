@@ -5,8 +5,8 @@ use Rattle.std.proofs.lemmas.Bool.{and_parts, and_from, le-leb}
 use Rattle.std.proofs.lemmas.Bool.Decides.{nat_tests}
 use Rattle.std.proofs.lemmas.List.{length-append}
 use Rattle.basic_lemmas.proofs.Lists.{all-append}
-use Rattle.camera_arbiter.specs.Ranges.{is_count, is_line}
-use Rattle.camera_arbiter.specs.declared.line.ArbiterLine.{ArbiterLine}
+use Rattle.arbiter_call.specs.Ranges.{is_count, is_line}
+use Rattle.arbiter_call.specs.declared.line.ArbiterLine.{ArbiterLine}
 use Rattle.arbiter_call.specs.Valid.{is_valid}
 use Rattle.arbiter_call.specs.declared.text.ArbiterText.{ArbiterText}
 

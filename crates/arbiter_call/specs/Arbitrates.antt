@@ -2,9 +2,9 @@
 use Rattle.std.specs.Prelude.{◌≡◌, ℕ, List, [], ◌∷◌, ◌++◌, Option, Some, None, Ok}
 use Rattle.io_edge.specs.States.{SinkState, Writes}
 use Rattle.cam_types.specs.declared.script.Script.{Script}
-use Rattle.camera_arbiter.specs.Answers.{log_of}
-use Rattle.camera_arbiter.specs.Laws.{IsOver, KeepsLaws}
-use Rattle.camera_arbiter.specs.declared.answer.LogLine.{LogLine}
+use Rattle.arbiter_call.specs.Answers.{log_of}
+use Rattle.arbiter_call.specs.Laws.{IsOver, KeepsLaws}
+use Rattle.arbiter_call.specs.declared.answer.LogLine.{LogLine}
 use Rattle.arbiter_call.specs.Grammar.{arbiter, arbiter_text_of}
 use Rattle.arbiter_call.specs.Scripts.{script_behind}
 use Rattle.arbiter_call.specs.Spelling.{first_line, last_line, line_of}

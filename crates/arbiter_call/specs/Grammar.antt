@@ -4,7 +4,7 @@ use Rattle.text_parts.specs.declared.cause.Cause.{Cause}
 use Rattle.text_parts.specs.declared.cause.Cause.TheVariants.{Limit}
 use Rattle.text_parts.specs.declared.cause.TextRefused.{TextRefused}
 use Rattle.text_parts.specs.LineWords.{◌>>=◌}
-use Rattle.camera_arbiter.specs.declared.line.ArbiterLine.{ArbiterLine}
+use Rattle.arbiter_call.specs.declared.line.ArbiterLine.{ArbiterLine}
 use Rattle.call_parts.specs.Reading.{Grammar, text_of}
 use Rattle.arbiter_call.specs.declared.draft.Stage.{Stage}
 use Rattle.arbiter_call.specs.declared.draft.Stage.TheVariants.{Named, Whole}

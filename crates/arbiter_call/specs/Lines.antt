@@ -5,9 +5,9 @@ use Rattle.text_parts.specs.declared.cause.Cause.TheVariants.{UnknownWord, Missi
 use Rattle.text_parts.specs.LineWords.{◌>>=◌, good, one}
 use Rattle.text_parts.specs.Numbers.{number_within}
 use Rattle.call_parts.specs.Reading.{named_number, two_numbers}
-use Rattle.camera_arbiter.specs.declared.line.ArbiterLine.{ArbiterLine}
-use Rattle.camera_arbiter.specs.declared.line.ArbiterLine.TheVariants.{Connect, Leave}
-use Rattle.camera_arbiter.specs.declared.session.Session.{Session}
+use Rattle.arbiter_call.specs.declared.line.ArbiterLine.{ArbiterLine}
+use Rattle.arbiter_call.specs.declared.line.ArbiterLine.TheVariants.{Connect, Leave}
+use Rattle.arbiter_call.specs.declared.session.Session.{Session}
 
 -- `cameras C`: 1 to 4
 abbrev pub cameras_line : List ℕ → List (List ℕ) → Result ℕ Cause

@@ -6,10 +6,10 @@ use Rattle.cam_types.specs.declared.script.Command.{Command}
 use Rattle.cam_types.specs.declared.script.Command.TheVariants.{Configure, Repeat, Await, Close, Disconnect}
 use Rattle.cam_types.specs.declared.script.Script.{Script}
 use Rattle.call_parts.specs.OwnScripts.{for_first_stream, plain_script, small_stream}
-use Rattle.metadata_rules.specs.Templates.{template_of}
-use Rattle.metadata_rules.specs.declared.rule.Template.TheVariants.{Preview}
-use Rattle.camera_arbiter.specs.declared.answer.LogLine.{LogLine}
-use Rattle.camera_arbiter.specs.declared.answer.LogLine.TheVariants.{Evict, Leave}
+use Rattle.metadata.specs.Templates.{template_of}
+use Rattle.metadata.specs.declared.rule.Template.TheVariants.{Preview}
+use Rattle.arbiter_call.specs.declared.answer.LogLine.{LogLine}
+use Rattle.arbiter_call.specs.declared.answer.LogLine.TheVariants.{Evict, Leave}
 
 -- `preview@0`
 abbrev pub preview : Item

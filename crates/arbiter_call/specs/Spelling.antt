@@ -1,12 +1,12 @@
 -- How the lines of a log are spelled. (docs/FORMATS.md, several clients)
 use Rattle.std.specs.Prelude.{List, ℕ, [], ◌∷◌, codes, decimal}
 use Rattle.text_parts.specs.Lines.{line_text}
-use Rattle.camera_arbiter.specs.Answers.{code_of}
-use Rattle.camera_arbiter.specs.declared.answer.LogLine.{LogLine}
-use Rattle.camera_arbiter.specs.declared.answer.LogLine.TheVariants.{Grant, Evict, Leave, Refused}
-use Rattle.camera_arbiter.specs.declared.answer.Refusal.{Refusal}
-use Rattle.camera_arbiter.specs.declared.answer.Refusal.TheVariants.{Busy}
-use Rattle.camera_arbiter.specs.declared.session.Session.{Session}
+use Rattle.arbiter_call.specs.Answers.{code_of}
+use Rattle.arbiter_call.specs.declared.answer.LogLine.{LogLine}
+use Rattle.arbiter_call.specs.declared.answer.LogLine.TheVariants.{Grant, Evict, Leave, Refused}
+use Rattle.arbiter_call.specs.declared.answer.Refusal.{Refusal}
+use Rattle.arbiter_call.specs.declared.answer.Refusal.TheVariants.{Busy}
+use Rattle.arbiter_call.specs.declared.session.Session.{Session}
 
 -- the client and the camera of a session
 abbrev pub session_words : Session → List (List ℕ)

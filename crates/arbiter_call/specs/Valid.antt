@@ -1,7 +1,7 @@
 -- What a text may ask for. (our own choice)
 use Rattle.std.specs.Prelude.{ℕ, Bool, true, ◌&&◌, length, nat_le}
 use Rattle.std.specs.List.{list_all}
-use Rattle.camera_arbiter.specs.Ranges.{is_count, is_line}
+use Rattle.arbiter_call.specs.Ranges.{is_count, is_line}
 use Rattle.arbiter_call.specs.declared.draft.Stage.{Stage}
 use Rattle.arbiter_call.specs.declared.draft.Stage.TheVariants.{Named, Whole}
 use Rattle.arbiter_call.specs.declared.text.ArbiterText.{ArbiterText}

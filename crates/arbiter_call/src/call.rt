@@ -6,13 +6,12 @@ ghost use Rattle.arbiter_call.specs.Valid.{is_valid};
 ghost use Rattle.arbiter_call.specs.Arbitrates.{Arbitrates, IsArbitrated, IsArbitratedText};
 ghost use Rattle.call_parts.specs.Status.{status_number};
 
-use crate::ArbiterText;
 use crate::draft::Draft;
 use crate::sessions::tell_log;
 use crate::text_sink::TextSink;
+use crate::{ArbiterText, arbitrate, every_log_keeps_the_laws};
 use call_parts::{Status, TextInput, TextWork, answer, answer_input};
 use cam_types::{NoMemory, SCRIPT_BYTES};
-use camera_arbiter::{arbitrate, every_log_keeps_the_laws};
 use io_edge::{Sink, Source};
 use std::alloc::Global;
 use std::marker::PhantomData;

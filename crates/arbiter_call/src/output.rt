@@ -2,8 +2,8 @@
 ghost use Rattle.std.specs.Prelude.{◌≡◌, ◌++◌, IfOk, OnOk, string_bytes};
 ghost use Rattle.arbiter_call.specs.Spelling.{line_of};
 
+use crate::{LogLine, Refusal, Session};
 use cam_types::NoMemory;
-use camera_arbiter::{LogLine, Refusal, Session};
 use std::alloc::Global;
 
 /// What is written first.

@@ -1,15 +1,15 @@
 //! What clients ask, read from its text.
 ghost use Rattle.std.specs.Prelude.{◌≡◌, IfOk, IsTrue};
 ghost use Rattle.text_parts.specs.Reader.{Answers, GivesBy};
-ghost use Rattle.camera_arbiter.specs.Ranges.{is_line};
+ghost use Rattle.arbiter_call.specs.Ranges.{is_line};
 ghost use Rattle.arbiter_call.specs.Grammar.{added, arbiter_text_of};
 ghost use Rattle.arbiter_call.specs.Valid.{is_valid};
 
 use crate::draft::{Draft, Stage};
-use crate::line::client_line;
 use crate::text::{ArbiterText, LineList};
+use crate::text_line::client_line;
+use crate::{ArbiterLine, LINE_LIMIT};
 use call_parts::{LineText, named_number, read_text};
-use camera_arbiter::{ArbiterLine, LINE_LIMIT};
 use std::alloc::Global;
 use text_parts::{Cause, LineRefused, TextRefused};
 

@@ -3,10 +3,10 @@ ghost use Rattle.std.specs.Prelude.{◌≡◌, ◌∷◌, ◌≤◌, [], IfOk, I
 ghost use Rattle.cam_types.specs.Script.{command_fits, is_closing_command, is_valid};
 ghost use Rattle.arbiter_call.specs.Scripts.{preview, script_behind, session_commands, session_script, shots_fit};
 
+use crate::LogLine;
 use call_parts::{for_first_stream, plain_script, small_stream};
 use cam_types::{Command, CommandList, ItemList, NoMemory, Script};
-use camera_arbiter::LogLine;
-use metadata_rules::{Template, template};
+use metadata::{Template, template};
 use std::alloc::Global;
 
 /// `preview@0`, as a list.

@@ -6,10 +6,9 @@ ghost use Rattle.arbiter_call.specs.Scripts.{shots_fit};
 ghost use Rattle.arbiter_call.specs.Arbitrates.{Adds, IsLineText, IsSummary, IsWholeText};
 
 use crate::text_sink::TextSink;
-use crate::{FIRST_LINE, LAST_LINE, line_text, script_behind};
+use crate::{FIRST_LINE, LAST_LINE, LogLine, line_text, script_behind};
 use call_parts::{Output, Status};
 use cam_types::{NoMemory, Script};
-use camera_arbiter::LogLine;
 use play_calls::{play_prepared, prepare};
 use run_model::a_complete_run_keeps_the_laws;
 use std::alloc::{AllocError, Global};

@@ -1,6 +1,6 @@
 //! Cameras, and what clients ask.
+use crate::ArbiterLine;
 use cam_types::Listing;
-use camera_arbiter::ArbiterLine;
 
 /// The lines, the first one first.
 pub type LineList = Listing<ArbiterLine>;

@@ -1,6 +1,7 @@
-pub mod Sinks
 pub mod Done
+pub mod Inputs
 pub mod Long
 pub mod Meanings
+pub mod Sinks
+pub mod Starts
 pub mod Texts
-pub mod Inputs

@@ -6,7 +6,7 @@ use Rattle.text_parts.specs.declared.cause.Cause.{Cause}
 use Rattle.text_parts.specs.declared.cause.TextRefused.{TextRefused}
 use Rattle.text_parts.specs.declared.cause.TextRefused.TheVariants.{Bad, NoMemory}
 use Rattle.script_text.specs.Grammar.{script_of}
-use Rattle.judge_text.specs.Lines.{refused_script_text, verdict_status}
+use Rattle.call_parts.specs.Lines.{refused_script_text, verdict_status}
 use Rattle.trace_model.specs.declared.verdict.Verdict.{Verdict}
 use Rattle.trace_model.specs.declared.verdict.Verdict.TheVariants.{Legal, IllegalAt, Incomplete}
 use Rattle.call_parts.specs.Answers.{AreAnswers}

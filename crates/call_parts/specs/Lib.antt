@@ -1,8 +1,12 @@
 pub mod Answers
 pub mod Ends
-pub mod Reading
+pub mod Lines
+pub mod Meaning
 pub mod Meanings
 pub mod OwnScripts
+pub mod Parts
+pub mod Profiles
 pub mod Program
+pub mod Reading
 pub mod Status
 pub mod Texts

@@ -6,8 +6,8 @@ use Rattle.text_parts.specs.declared.cause.Cause.{Cause}
 use Rattle.text_parts.specs.declared.cause.TextRefused.{TextRefused}
 use Rattle.text_parts.specs.declared.cause.TextRefused.TheVariants.{Bad, NoMemory}
 use Rattle.script_text.specs.Grammar.{script_of}
-use Rattle.judge_text.specs.Lines.{refused_script_text}
-use Rattle.judge_text.specs.Meaning.{input_limit}
+use Rattle.call_parts.specs.Lines.{refused_script_text}
+use Rattle.call_parts.specs.Meaning.{input_limit}
 
 -- those that belong to what it means; where it means nothing, 1 and the line that refuses it
 abbrev pub OfMeaning : {X : Type 0} → (ℕ → Cause → List ℕ) → (X → ℕ → List ℕ → Type 0) → Result X TextRefused → ℕ → List ℕ → Type 0

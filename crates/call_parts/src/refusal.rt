@@ -1,11 +1,10 @@
 //! The lines that refuse an input.
-ghost use Rattle.judge_text.specs.Lines.{refused_script_text, refused_trace_text};
+ghost use Rattle.call_parts.specs.Lines.{refused_script_text, refused_trace_text};
 ghost use Rattle.call_parts.specs.Answers.{AnswersWithMemory};
 ghost use Rattle.call_parts.specs.Status.{status_number};
 
-use crate::{Status, answer_made};
+use crate::{Status, answer_made, refused_script_text, refused_trace_text};
 use io_edge::Sink;
-use judge_text::{refused_script_text, refused_trace_text};
 use std::alloc::Global;
 
 /// The cause of an input with more bytes than a trace may have.

@@ -32,7 +32,7 @@ pub struct ScriptInput<W>(pub W);
 
 impl<W: ScriptWork> InputWork for ScriptInput<W> {
     ghost use Rattle.call_parts.specs.Meanings.{OfScript};
-    ghost use Rattle.judge_text.specs.Lines.{refused_script_text};
+    ghost use Rattle.call_parts.specs.Lines.{refused_script_text};
 
     ghost limit = { 65536 };
 

@@ -1,7 +1,7 @@
 //! How the program ends, and the answer that is written.
 ghost use Rattle.std.specs.Prelude.{◌≡◌, ◌⊎◌, ◌<◌, ℕ, List, IfOk, length};
 ghost use Rattle.io_edge.specs.States.{Writes};
-ghost use Rattle.judge_text.specs.Lines.{verdict_status};
+ghost use Rattle.call_parts.specs.Lines.{verdict_status};
 ghost use Rattle.call_parts.specs.Answers.{Answers, AnswersWithMemory};
 ghost use Rattle.call_parts.specs.Status.{status_number};
 

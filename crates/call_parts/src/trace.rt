@@ -28,7 +28,7 @@ pub struct TraceInput<W>(pub W);
 
 impl<W: TraceWork> InputWork for TraceInput<W> {
     ghost use Rattle.call_parts.specs.Meanings.{OfLimited};
-    ghost use Rattle.judge_text.specs.Lines.{refused_trace_text};
+    ghost use Rattle.call_parts.specs.Lines.{refused_trace_text};
 
     ghost limit = { 134217728 };
 

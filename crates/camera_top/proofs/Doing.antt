@@ -10,7 +10,7 @@ use Rattle.call_parts.specs.declared.output.Output.TheVariants.{Summary}
 use Rattle.call_parts.specs.Answers.{Answers, TellsBy}
 use Rattle.call_parts.specs.Ends.{CountsSink, CountsSource, KeepsEnds, ReadsBy}
 use Rattle.call_parts.proofs.Sinks.{answered, stays}
-use Rattle.generated_scripts.specs.Generated.{generated}
+use Rattle.play_calls.specs.Generated.{generated}
 use Rattle.arbiter_call.specs.Arbitrates.{IsArbitrated}
 use Rattle.auto_call.specs.Auto.{IsCaptured}
 use Rattle.play_calls.specs.Converting.{IsConverted}

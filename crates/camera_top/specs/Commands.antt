@@ -2,7 +2,7 @@ use Rattle.std.specs.Prelude.{ℕ, List, Option, Some, None}
 use Rattle.io_edge.specs.States.{SinkState}
 use Rattle.text_parts.specs.declared.form.Form.{Form}
 use Rattle.text_parts.specs.declared.form.Form.TheVariants.{Play, Run, Check, Convert, Gen, Arbiter, Auto, Logical, Reprocess, Help}
-use Rattle.judge_text.specs.Meaning.{Judges}
+use Rattle.call_parts.specs.Meaning.{Judges}
 use Rattle.call_parts.specs.Answers.{Answers, Tells, TellsBy}
 use Rattle.arbiter_call.specs.Arbitrates.{Arbitrates}
 use Rattle.auto_call.specs.Auto.{Captures}

@@ -3,7 +3,7 @@ ghost use Rattle.std.specs.Prelude.{◌≡◌, ◌≢◌, ◌≤◌, ℕ, true, 
 ghost use Rattle.std.specs.Io.KnownBytes.{IsAtEnd};
 ghost use Rattle.io_edge.specs.States.{Writes};
 ghost use Rattle.text_parts.specs.Forms.{form_of};
-ghost use Rattle.generated_scripts.specs.Generated.{generated};
+ghost use Rattle.play_calls.specs.Generated.{generated};
 ghost use Rattle.call_parts.specs.Answers.{Answers};
 ghost use Rattle.call_parts.specs.Ends.{CountsSink, CountsSource, ReadsBy};
 ghost use Rattle.arbiter_call.specs.Arbitrates.{IsArbitrated};

@@ -1,2 +1,5 @@
-pub mod Places
+pub mod First
 pub mod Made
+pub mod Named
+pub mod Places
+pub mod Views

@@ -11,8 +11,8 @@ use Rattle.cam_types.specs.declared.script.Fault.{Fault}
 use Rattle.device_rows.specs.Faults.{faults_of}
 use Rattle.device_rows.specs.Ready.{error_of, fails_device_at, may_end_metadata, next_error, next_exposure}
 use Rattle.device_rows.specs.Rows.{row_at}
-use Rattle.device_store.proofs.Views.{found-own}
-use Rattle.device_store.specs.Steps.{is_dark, is_timely}
+use Rattle.device_core.proofs.Views.{found-own}
+use Rattle.device_core.specs.Steps.{is_dark, is_timely}
 use Rattle.device_rows.specs.Next.{least, lost_buffer, missing_streams, next_due}
 use Rattle.device_rows.specs.declared.entry.ErrorEntry.{ErrorEntry}
 use Rattle.device_rows.specs.declared.entry.ErrorEntry.TheVariants.{Request as LostRequest, Result as LostResult, Device}

@@ -1,2 +1,15 @@
+pub mod Admission
+pub mod Agree
 pub mod Due
+pub mod General
+pub mod Moves
+pub mod OneMark
+pub mod Ops
+pub mod Outs
 pub mod Passing
+pub mod Retired
+pub mod Scrapped
+pub mod Steps
+pub mod Targets
+pub mod Turns
+pub mod Views

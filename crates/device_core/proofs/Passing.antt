@@ -10,8 +10,8 @@ use Rattle.cam_types.specs.declared.script.Fault.{Fault}
 use Rattle.device_rows.specs.Kept.{has_made_fence, have_made_fences, is_made}
 use Rattle.device_rows.specs.Ready.{is_fill_ready, is_home, is_passed, is_sound, is_same_state, may_fill, passes_at, target_passes}
 use Rattle.device_rows.specs.Rows.{row_at, target_at}
-use Rattle.device_store.specs.Steps.{has_made, is_fillable, is_open_to}
-use Rattle.device_store.proofs.General.{find-passes}
+use Rattle.device_core.specs.Steps.{has_made, is_fillable, is_open_to}
+use Rattle.device_core.proofs.General.{find-passes}
 use Rattle.buffer_pool.specs.Fences.{FencesMade, is_signalled, made}
 
 passes_less : (p q : TargetView → Bool) (o : Option TargetView) → ((t : TargetView) → p t ≡ true → q t ≡ true) → passes_at p o ≡ true → passes_at q o ≡ true

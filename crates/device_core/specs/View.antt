@@ -1,7 +1,7 @@
 use Rattle.std.specs.Prelude.{ℕ, List}
 use Rattle.cam_types.specs.declared.row.RowView.{RowView}
 use Rattle.cam_types.specs.declared.script.Fault.{Fault}
-use Rattle.device_store.specs.Stored.{Stored}
+use Rattle.device_core.specs.Stored.{Stored}
 use Rattle.request_checks.specs.declared.plan.Plan.{Plan}
 
 -- What a contract sees of the device (our own choice): its plan, the faults that it shall have, how many rows may

@@ -4,14 +4,14 @@ ghost use Rattle.std.specs.Prelude.{◌≡◌, ◌↔◌, ◌&&◌, None, Some, 
 ghost use Rattle.std.specs.Option.{option_map};
 ghost use Rattle.device_rows.specs.Ready.{is_delivery_ready, is_early_ready, is_same_state, may_return, target_passes};
 ghost use Rattle.device_rows.specs.Rows.{delivered, gone_early, row_at, target_in, with_row};
-ghost use Rattle.device_store.specs.Steps.{ShowsAt};
-ghost use Rattle.device_store.specs.Stored.{specs_of};
+ghost use Rattle.device_core.specs.Steps.{ShowsAt};
+ghost use Rattle.device_core.specs.Stored.{specs_of};
 ghost use Rattle.device_core.specs.View.{with_rows};
 
+use crate::Store;
 use crate::device::Device;
 use cam_types::{BufferId, Fault, FrameNo, PixelBuf, RowView, StreamIx, TargetState, TargetView};
 use device_rows::{is_same_state, is_sound, target_at};
-use device_store::Store;
 
 impl Device {
     /// Whether `deliver` gives the buffer of a target.

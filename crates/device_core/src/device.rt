@@ -7,12 +7,12 @@ ghost use Rattle.cam_types.specs.Picture.{is_offered};
 ghost use Rattle.device_rows.specs.Jobs.{IsFillJobOut, IsSensorJobOut};
 ghost use Rattle.device_rows.specs.Kept.{is_fresh, rise_from};
 ghost use Rattle.device_rows.specs.Rows.{all_stopped, fill_ended, row_at, sensor_home, with_row};
-ghost use Rattle.device_store.specs.Stored.{AreParked, are_before, is_some_target, no_plan, spec_of, specs_of};
+ghost use Rattle.device_core.specs.Stored.{AreParked, are_before, is_some_target, no_plan, spec_of, specs_of};
 ghost use Rattle.device_core.specs.View.{with_plan, with_rows};
 
+use crate::Store;
 use buffer_pool::Parked;
 use cam_types::{FaultList, Four, FrameNo, NoMemory, RowView};
-use device_store::Store;
 use fill_jobs::FilledJob;
 use picture_stages::ExposedJob;
 use request_checks::{Plan, PlanStream, is_offered};

@@ -5,10 +5,10 @@ ghost use Rattle.device_rows.specs.Ready.{error_of, fails_device_at, is_failing,
 ghost use Rattle.device_rows.specs.Rows.{with_error};
 ghost use Rattle.device_core.specs.View.{with_rows};
 
+use crate::Store;
 use crate::device::Device;
 use cam_types::{Fault, FrameNo, RowVerdict, RowView};
 use device_rows::{ErrorEntry, faults_of, has_device_fault, next_error, verdict};
-use device_store::Store;
 
 impl Device {
     /// The error that `fail_next` tells of a frame. None exactly where none is due.

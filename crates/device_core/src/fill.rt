@@ -5,8 +5,8 @@ ghost use Rattle.device_rows.specs.Kept.{have_made_fences};
 ghost use Rattle.device_rows.specs.Jobs.{is_fill_out};
 ghost use Rattle.device_rows.specs.Ready.{is_fill_ready, is_passed, may_fill, target_passes};
 ghost use Rattle.device_rows.specs.Rows.{fill_begun, row_at, with_row};
-ghost use Rattle.device_store.specs.Steps.{fill_job_for};
-ghost use Rattle.device_store.specs.Stored.{specs_of};
+ghost use Rattle.device_core.specs.Steps.{fill_job_for};
+ghost use Rattle.device_core.specs.Stored.{specs_of};
 ghost use Rattle.buffer_pool.specs.Fences.{is_signalled, made};
 ghost use Rattle.device_core.specs.View.{with_rows};
 

@@ -4,8 +4,8 @@ ghost use Rattle.std.specs.List.{list_all};
 ghost use Rattle.device_rows.specs.Kept.{have_made_fences};
 ghost use Rattle.device_rows.specs.Ready.{is_failed_return_ready, is_finish_ready};
 ghost use Rattle.device_rows.specs.Rows.{delivered, returned_failed, row_at, with_row};
-ghost use Rattle.device_store.specs.Steps.{IsBackAt, ShowsAt};
-ghost use Rattle.device_store.specs.Stored.{specs_of};
+ghost use Rattle.device_core.specs.Steps.{IsBackAt, ShowsAt};
+ghost use Rattle.device_core.specs.Stored.{specs_of};
 ghost use Rattle.buffer_pool.specs.Fences.{made};
 ghost use Rattle.device_core.specs.View.{with_rows};
 

@@ -5,11 +5,11 @@ ghost use Rattle.device_rows.specs.Ready.{may_be_last, may_send_part, next_part}
 ghost use Rattle.device_rows.specs.Rows.{with_part, with_row};
 ghost use Rattle.device_core.specs.View.{with_rows};
 
+use crate::Store;
 use crate::device::Device;
 use cam_types::{Fault, FrameNo, PartialResult, RowView};
 use device_rows::{has_request_fault, has_result_fault};
-use device_store::Store;
-use metadata_rules::part;
+use metadata::part;
 
 impl Device {
     /// The partial result that `partial` gives of a frame. None exactly where it gives none.

@@ -1,4 +1,6 @@
+pub mod MissingLists
 pub mod Parts
-pub mod Told
-mod Telling
 pub mod Taken
+mod Telling
+pub mod Told
+pub mod Written

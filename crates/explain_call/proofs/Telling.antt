@@ -2,7 +2,7 @@
 use Rattle.std.proofs.Common.{◌<◌, ℕ, List, Result, Ok, Err, length, arith, inl, inr}
 use Rattle.call_parts.specs.Answers.{AreAnswers}
 use Rattle.call_parts.proofs.Meanings.{long_limited, of_limited, of_verdict}
-use Rattle.explain_refused.specs.Refused.{refused_input}
+use Rattle.wrong_words.specs.Refused.{refused_input}
 use Rattle.cam_types.specs.declared.script.Script.{Script}
 use Rattle.text_parts.specs.declared.cause.TextRefused.{TextRefused}
 use Rattle.text_parts.specs.declared.cause.TextRefused.TheVariants.{Bad, NoMemory}
@@ -11,7 +11,7 @@ use Rattle.trace_model.specs.declared.list.TraceList.{TraceList}
 use Rattle.trace_reader.specs.Grammar.{trace_of}
 use Rattle.trace_reader.specs.declared.cause.TraceRefused.{TraceRefused}
 use Rattle.trace_reader.specs.declared.cause.TraceRefused.TheVariants.{Bad as BadTrace, NoMemory as NoTraceMemory}
-use Rattle.judge_text.specs.Parts.{first_line, script_part, trace_part}
+use Rattle.call_parts.specs.Parts.{first_line, script_part, trace_part}
 use Rattle.explain_call.specs.Explaining.{Explains, ExplainsBoth, ExplainsParts, ExplainsTrace, ExplainsWhole}
 
 both : (n : ℕ) (part bytes : List ℕ) (script : Script) (trace : TraceList) → AreAnswers (ExplainsBoth n part bytes script trace)

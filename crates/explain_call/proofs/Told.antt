@@ -8,7 +8,7 @@ use Rattle.trace_model.specs.declared.verdict.RuleName.{RuleName}
 use Rattle.trace_model.specs.declared.entry.Entry.{Entry}
 use Rattle.rule_conditions.specs.declared.condition.Condition.{Condition}
 use Rattle.rule_conditions.specs.Conditions.{first_failed}
-use Rattle.explain_text.specs.Explained.{illegal_text}
+use Rattle.explain_call.specs.Explained.{illegal_text}
 use Rattle.explain_call.specs.Explaining.{illegal_at, illegal_behind}
 
 pub told : (script : Script) (part : List ℕ) (rule : RuleName) (k p : ℕ) (before : List Entry) (faulty : Entry) (failed : Condition) (first : Option Condition) (r : Result (Vec ℕ) AllocError) → first ≡ Some failed → IfOk r (λ text. text.items ≡ illegal_text script part rule k p before faulty (Some failed)) → IfOk r (λ text. text.items ≡ illegal_text script part rule k p before faulty first)

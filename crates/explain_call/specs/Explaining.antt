@@ -14,13 +14,13 @@ use Rattle.trace_model.specs.Complete.{IsComplete}
 use Rattle.trace_reader.specs.Grammar.{trace_of}
 use Rattle.trace_reader.specs.declared.cause.TraceRefused.{TraceRefused}
 use Rattle.trace_reader.specs.declared.cause.TraceRefused.TheVariants.{Bad as BadTrace, NoMemory as NoTraceMemory}
-use Rattle.judge_text.specs.Lines.{verdict_status}
-use Rattle.judge_text.specs.Parts.{first_line, script_part, trace_part}
-use Rattle.judge_text.specs.Profiles.{profile_of}
+use Rattle.call_parts.specs.Lines.{verdict_status}
+use Rattle.call_parts.specs.Parts.{first_line, script_part, trace_part}
+use Rattle.call_parts.specs.Profiles.{profile_of}
 use Rattle.call_parts.specs.Meanings.{OfLimited}
-use Rattle.explain_text.specs.Missing.{incomplete_text}
-use Rattle.explain_refused.specs.Refused.{refused_input, refused_profile, refused_script, refused_trace}
-use Rattle.explain_text.specs.Explained.{illegal_text, legal_text}
+use Rattle.explain_call.specs.Missing.{incomplete_text}
+use Rattle.wrong_words.specs.Refused.{refused_input, refused_profile, refused_script, refused_trace}
+use Rattle.explain_call.specs.Explained.{illegal_text, legal_text}
 use Rattle.explain_call.specs.Length.{IsPlayedLength}
 use Rattle.rule_conditions.specs.Conditions.{first_failed}
 use Rattle.trace_model.specs.declared.verdict.RuleName.{RuleName}

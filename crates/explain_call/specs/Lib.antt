@@ -1,2 +1,5 @@
-pub mod Length
+pub mod Allowed
+pub mod Explained
 pub mod Explaining
+pub mod Length
+pub mod Missing

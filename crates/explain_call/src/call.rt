@@ -6,7 +6,7 @@ ghost use Rattle.trace_model.specs.Verdict.{IsVerdict};
 ghost use Rattle.trace_model.specs.Printable.{is_printable};
 ghost use Rattle.script_text.specs.Grammar.{script_of};
 ghost use Rattle.trace_reader.specs.Grammar.{trace_of};
-ghost use Rattle.judge_text.specs.Lines.{verdict_status};
+ghost use Rattle.call_parts.specs.Lines.{verdict_status};
 ghost use Rattle.call_parts.specs.Answers.{AnswersWithMemory, OnDone, Tells, TellsBy};
 ghost use Rattle.call_parts.specs.Ends.{KeepsEnds};
 ghost use Rattle.explain_call.specs.Explaining.{explained, Explains, ExplainsBoth, ExplainsTrace, ExplainsWhole, IsExplainedLegal};
@@ -15,10 +15,11 @@ ghost use Rattle.call_parts.specs.Status.{status_number};
 use crate::judged::{Judged, judge};
 use crate::refusals::{refuse_input, refuse_profile, refuse_script, refuse_trace};
 use crate::verdict::explain_verdict;
-use call_parts::{InputWork, Status, answer_input, answer_made, status_of};
+use call_parts::{
+    InputWork, Status, answer_input, answer_made, parts_of, profiles_agree, status_of,
+};
 use cam_types::Script;
 use io_edge::{Sink, Source};
-use judge_text::{parts_of, profiles_agree};
 use std::alloc::Global;
 use text_parts::TextRefused;
 use trace_model::TraceList;
@@ -30,7 +31,7 @@ struct Explain;
 
 impl InputWork for Explain {
     ghost use Rattle.explain_call.specs.Explaining.{Explains};
-    ghost use Rattle.explain_refused.specs.Refused.{refused_input};
+    ghost use Rattle.wrong_words.specs.Refused.{refused_input};
 
     ghost limit = { 134217728 };
 

@@ -4,8 +4,8 @@ ghost use Rattle.cam_types.specs.Script.{is_valid};
 ghost use Rattle.explain_call.specs.Length.{IsPlayedLength};
 
 use cam_types::{NoMemory, Script};
-use digest_memory::DigestMemory;
 use fill_jobs::Hands;
+use picture_stages::DigestMemory;
 use run_model::early_bound;
 use service_parts::no_job_is_out_at_first;
 use settle::{Service, close, play};

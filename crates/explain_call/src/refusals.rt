@@ -1,15 +1,15 @@
 //! The refusal of an input in words.
 ghost use Rattle.call_parts.specs.Answers.{AnswersWithMemory};
-ghost use Rattle.explain_refused.specs.Refused.{refused_input, refused_profile, refused_script, refused_trace};
+ghost use Rattle.wrong_words.specs.Refused.{refused_input, refused_profile, refused_script, refused_trace};
 ghost use Rattle.call_parts.specs.Status.{status_number};
 
 use call_parts::{Status, answer_made};
 use cam_types::Profile;
-use explain_refused::{refused_input, refused_profile, refused_script, refused_trace};
 use io_edge::Sink;
 use std::alloc::Global;
 use text_parts::Cause;
 use trace_reader::Cause as TraceCause;
+use wrong_words::{refused_input, refused_profile, refused_script, refused_trace};
 
 /// Refuses a script, of that text.
 pub fn refuse_script<K: Sink>(

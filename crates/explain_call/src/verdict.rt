@@ -3,7 +3,7 @@ ghost use Rattle.std.specs.Prelude.{◌≡◌, ◌+◌, ◌≤◌, IfOk, IsTrue,
 ghost use Rattle.std.specs.List.{list_all};
 ghost use Rattle.cam_types.specs.Script.{is_valid};
 ghost use Rattle.explain_call.specs.Explaining.{explained, illegal_at};
-ghost use Rattle.explain_text.specs.Explained.{illegal_text};
+ghost use Rattle.explain_call.specs.Explained.{illegal_text};
 ghost use Rattle.rule_conditions.specs.Conditions.{first_failed};
 ghost use Rattle.trace_model.specs.Verdict.{IsIllegalAt, IsVerdict};
 ghost use Rattle.trace_model.specs.Allowed.{IsAllowed};
@@ -11,10 +11,10 @@ ghost use Rattle.trace_model.specs.Legal.{IsLegal};
 ghost use Rattle.trace_model.specs.Printable.{is_printable};
 
 use crate::judged::Judged;
+use crate::{illegal_text, incomplete_text, legal_text};
 use allowed_entries::allowed_after;
 use cam_types::{NoMemory, Script};
-use explain_text::{illegal_text, incomplete_text, legal_text};
-use judge_conditions::first_failed;
+use rule_conditions::first_failed;
 use std::alloc::Global;
 use trace_model::{Entry, RuleName, TraceList, Verdict};
 use trace_text::Printer;

@@ -4,7 +4,7 @@ ghost use Rattle.cam_types.specs.Picture.{is_offered, picture};
 ghost use Rattle.sha2.specs.Sha256.{sha256};
 
 use cam_types::{FrameNo, PixelBuf, Settings, StreamSpec};
-use digest_memory::DigestMemory;
+use picture_stages::DigestMemory;
 use sha2::{Digest, Sha256};
 
 /// The SHA-256 of the frame's picture for the stream, which the buffer shows. It is hashed where the memory doesn't know

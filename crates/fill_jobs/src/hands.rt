@@ -11,8 +11,7 @@ use crate::places::{
 };
 use crate::{FillJob, FilledJob};
 use cam_types::{FrameNo, StreamIx};
-use digest_memory::DigestMemory;
-use picture_stages::SensorJob;
+use picture_stages::{DigestMemory, SensorJob};
 use std::marker::Model;
 
 /// How many jobs may be in hand at once.

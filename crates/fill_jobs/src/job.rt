@@ -7,8 +7,7 @@ ghost use Rattle.fill_jobs.specs.Buffers.{IsBufferFor, IsPictureOf, IsStreamAt};
 use crate::digest::digest_with;
 use crate::draw::{draw, draw_alone, draw_bands};
 use cam_types::{FillTarget, FrameNo, PixelBuf, Readout, Settings, StreamIx};
-use digest_memory::DigestMemory;
-use picture_stages::a_readout_lies_between_dark_and_full;
+use picture_stages::{DigestMemory, a_readout_lies_between_dark_and_full};
 use std::marker::Model;
 use std::thread::Threads;
 

@@ -12,7 +12,7 @@ use Rattle.trace_model.specs.Legal.{IsLegal}
 use Rattle.hal_model.specs.declared.event.HalEvent.{HalEvent}
 use Rattle.hal_model.specs.declared.event.HalEvent.TheVariants.{OpenBegin}
 use Rattle.hal_model.specs.Words.{begins_flush, ends_flush, is_flushing, is_within}
-use Rattle.hal_spelling.specs.Fits.{has_begin}
+use Rattle.hal_model.specs.Fits.{has_begin}
 use Rattle.hal_model.specs.Hal.{called, flush_begun, flushes, hal, whole_log}
 use Rattle.hal_laws.proofs.Cases.{by-called}
 use Rattle.hal_laws.proofs.Standing.{flushing-reads}

@@ -16,8 +16,8 @@ use Rattle.trace_model.specs.declared.verdict.MissingPart.{MissingPart}
 use Rattle.trace_model.specs.declared.verdict.MissingPart.TheVariants.{Calls, Open, Queued, Pool, Signal}
 use Rattle.trace_model.specs.declared.verdict.Verdict.{Verdict}
 use Rattle.trace_model.specs.declared.verdict.Verdict.TheVariants.{Legal, Incomplete}
-use Rattle.judge_text.specs.Parts.{first_line, script_part, trace_part}
-use Rattle.judge_text.specs.Profiles.{profile_of}
+use Rattle.call_parts.specs.Parts.{first_line, script_part, trace_part}
+use Rattle.call_parts.specs.Profiles.{profile_of}
 use Rattle.hal_call.specs.Shown.{HasNoLog, is_illegal}
 
 abbrev pub OneVerdict : Type 0

@@ -10,7 +10,7 @@ use Rattle.trace_model.specs.Legal.{IsLegal}
 use Rattle.hal_model.specs.Words.{begins, begins_close, begins_configure, begins_flush, inits, opens, templates}
 use Rattle.hal_model.specs.declared.event.HalEvent.{HalEvent}
 use Rattle.hal_model.specs.declared.event.HalEvent.TheVariants.{OpenOk, OpenError, InitOk, InitError, TemplateOk, TemplateNull, ConfigureOk, ConfigureError, RequestOk, RequestError, FlushOk, FlushError, CloseEnd}
-use Rattle.hal_spelling.specs.Fits.{has_begin, have_begins, is_well_made, is_valid as is_valid_log}
+use Rattle.hal_model.specs.Fits.{has_begin, have_begins, is_well_made, is_valid as is_valid_log}
 use Rattle.hal_model.specs.Hal.{whole_log}
 use Rattle.hal_call.specs.Printed.{log_of}
 use Rattle.hal_call.proofs.Begun.{all_begun, log_begun}

@@ -21,7 +21,7 @@ use Rattle.trace_model.specs.Calls.{accepts, command_at, is_closing_word}
 use Rattle.trace_model.specs.Configuration.{streams_of}
 use Rattle.trace_laws.proofs.ValidLemmas.{valid}
 use Rattle.hal_model.specs.declared.event.HalEvent.TheVariants.{OpenBegin}
-use Rattle.hal_spelling.specs.Fits.{few, is_well_made}
+use Rattle.hal_model.specs.Fits.{few, is_well_made}
 use Rattle.hal_model.specs.Hal.{closed_by, configured, configured_by, events, flush_begun, flush_ended, flushes, hal, most_from, streams_from, target, whole_log}
 use Rattle.basic_lemmas.proofs.Lists.{all-at}
 

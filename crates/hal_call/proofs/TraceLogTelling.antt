@@ -15,10 +15,10 @@ use Rattle.trace_reader.specs.declared.cause.TraceRefused.TheVariants as reading
 use Rattle.trace_model.specs.declared.verdict.Verdict.{Verdict}
 use Rattle.trace_model.specs.declared.verdict.Verdict.TheVariants.{Legal, IllegalAt, Incomplete}
 use Rattle.trace_model.specs.Verdict.{IsVerdict}
-use Rattle.judge_text.specs.Lines.{refused_trace_text, verdict_status}
-use Rattle.judge_text.specs.Meaning.{JudgesParts, JudgesWhole}
-use Rattle.judge_text.specs.Parts.{first_line, script_part, trace_part}
-use Rattle.judge_text.specs.Profiles.{profile_of}
+use Rattle.call_parts.specs.Lines.{refused_trace_text, verdict_status}
+use Rattle.call_parts.specs.Meaning.{JudgesParts, JudgesWhole}
+use Rattle.call_parts.specs.Parts.{first_line, script_part, trace_part}
+use Rattle.call_parts.specs.Profiles.{profile_of}
 use Rattle.hal_call.specs.Shown.{HasNoLog, Shows}
 use Rattle.hal_call.proofs.Inputs.{is_short}
 

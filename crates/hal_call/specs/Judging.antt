@@ -8,8 +8,8 @@ use Rattle.hal_text.specs.Meaning.{log_of}
 use Rattle.hal_text.specs.Refusal.{refused_text}
 use Rattle.hal_call.specs.declared.form.Form.{Form}
 use Rattle.hal_call.specs.declared.form.Form.TheVariants.{Person, Plain}
-use Rattle.hal_person.specs.Person.{person_text}
-use Rattle.hal_person.specs.Refusal.{refused_text as person_refused}
+use Rattle.hal_text.specs.Person.{person_text}
+use Rattle.hal_text.specs.PersonRefusal.{refused_text as person_refused}
 use Rattle.hal_lines.specs.declared.cause.Cause.{Cause}
 use Rattle.hal_text.specs.declared.refused.LogRefused.{LogRefused}
 use Rattle.hal_text.specs.declared.refused.LogRefused.TheVariants.{Bad, NoMemory}

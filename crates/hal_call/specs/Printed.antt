@@ -6,8 +6,8 @@ use Rattle.trace_model.specs.declared.entry.Entry.{Entry}
 use Rattle.trace_model.specs.Legal.{IsLegal}
 use Rattle.hal_model.specs.Hal.{whole_log}
 use Rattle.hal_model.specs.declared.event.HalEvent.{HalEvent}
-use Rattle.hal_spelling.specs.Fits.{is_valid as is_valid_log}
-use Rattle.hal_spelling.specs.Spelling.{text_of}
+use Rattle.hal_model.specs.Fits.{is_valid as is_valid_log}
+use Rattle.hal_model.specs.Spelling.{text_of}
 
 -- the partial result count of the profile
 abbrev pub parts : ℕ

@@ -8,9 +8,9 @@ use Rattle.trace_model.specs.Legal.{IsLegal}
 use Rattle.trace_reader.specs.Grammar.{trace_of}
 use Rattle.trace_model.specs.declared.verdict.Verdict.{Verdict}
 use Rattle.trace_model.specs.declared.verdict.Verdict.TheVariants.{IllegalAt}
-use Rattle.judge_text.specs.Meaning.{Judges, input_limit}
-use Rattle.judge_text.specs.Parts.{first_line, script_part, trace_part}
-use Rattle.judge_text.specs.Profiles.{profile_of}
+use Rattle.call_parts.specs.Meaning.{Judges, input_limit}
+use Rattle.call_parts.specs.Parts.{first_line, script_part, trace_part}
+use Rattle.call_parts.specs.Profiles.{profile_of}
 use Rattle.hal_call.specs.Printed.{log_text}
 
 -- an entry of the trace isn't allowed

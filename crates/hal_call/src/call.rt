@@ -4,7 +4,7 @@ ghost use Rattle.std.specs.List.{list_all};
 ghost use Rattle.call_parts.specs.Answers.{AnswersWithMemory, OnDone, Tells, TellsBy};
 ghost use Rattle.call_parts.specs.Ends.{KeepsEnds};
 ghost use Rattle.hal_text.specs.Meaning.{log_of};
-ghost use Rattle.hal_spelling.specs.Fits.{is_valid, is_well_made};
+ghost use Rattle.hal_model.specs.Fits.{is_valid, is_well_made};
 ghost use Rattle.hal_text.specs.Plain.{has_line};
 ghost use Rattle.hal_call.specs.Judging.{IsUnbroken, Judges, JudgesLog, refusal_text, report_status, told_text};
 ghost use Rattle.call_parts.specs.Status.{status_number};
@@ -13,8 +13,9 @@ use crate::form::Form;
 use call_parts::{InputWork, Status, answer, answer_input, answer_made};
 use hal_judge::{Report, report_of};
 use hal_model::Breach;
-use hal_person::person_text;
-use hal_text::{Cause, HAL_BYTES, HalLog, LogRefused, each_breach_has_its_line, plain_text, read};
+use hal_text::{
+    Cause, HAL_BYTES, HalLog, LogRefused, each_breach_has_its_line, person_text, plain_text, read,
+};
 use io_edge::{NoMemory, Sink, Source};
 use std::alloc::Global;
 
@@ -72,7 +73,7 @@ fn refusal_text(alloc: Global, form: Form, line: u32, cause: Cause) -> Result<Ve
     ensures { IfOk result (λ text. text.items ≡ refusal_text form line cause) }
 {
     match form {
-        Form::Person => hal_person::refused_text(alloc, line, cause),
+        Form::Person => hal_text::refused_for_person(alloc, line, cause),
         Form::Plain => hal_text::refused_text(alloc, line, cause),
     }
 }

@@ -3,12 +3,12 @@ ghost use Rattle.std.specs.Prelude.{◌≡◌, ◌≤◌, IfOk, MatchOption, IsT
 ghost use Rattle.cam_types.specs.Script.{is_valid};
 ghost use Rattle.script_text.specs.Grammar.{script_of};
 ghost use Rattle.trace_reader.specs.Grammar.{trace_of};
-ghost use Rattle.judge_text.specs.Parts.{first_line, script_part, trace_part};
+ghost use Rattle.call_parts.specs.Parts.{first_line, script_part, trace_part};
 ghost use Rattle.hal_call.specs.Shown.{HasNoLog, IsLogOf, is_illegal};
 
 use crate::hal_log_text;
+use call_parts::{parts_of, profiles_agree};
 use cam_types::{NoMemory, Script};
-use judge_text::{parts_of, profiles_agree};
 use std::alloc::{AllocError, Global};
 use text_parts::TextRefused;
 use trace_check::{a_trace_has_one_verdict, check};

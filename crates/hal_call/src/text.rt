@@ -7,7 +7,7 @@ ghost use Rattle.hal_call.specs.Printed.{log_text};
 use crate::text_laws::hal_logs_of_legal_traces_print;
 use crate::{fences_of_legal_traces_fit, hal_log};
 use cam_types::{NoMemory, PARTIAL_RESULT_COUNT, Script};
-use hal_spelling::print;
+use hal_model::print;
 use std::alloc::Global;
 use trace_model::Entry;
 

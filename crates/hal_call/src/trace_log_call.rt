@@ -17,7 +17,7 @@ use trace_reader::TRACE_BYTES;
 struct HalOf;
 
 impl InputWork for HalOf {
-    ghost use Rattle.judge_text.specs.Lines.{refused_trace_text};
+    ghost use Rattle.call_parts.specs.Lines.{refused_trace_text};
     ghost use Rattle.hal_call.specs.Shown.{Shows};
 
     ghost limit = { 134217728 };

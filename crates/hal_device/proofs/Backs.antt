@@ -13,8 +13,8 @@ use Rattle.cam_types.specs.declared.stream.StreamSpec.{StreamSpec}
 use Rattle.device_rows.specs.Jobs.{is_fill_out}
 use Rattle.device_rows.specs.Ready.{is_sensor_out, is_same_state}
 use Rattle.device_rows.specs.Rows.{row_at, target_at}
-use Rattle.device_store.proofs.General.{find-passes}
-use Rattle.device_store.specs.Steps.{IsBackAt, IsBackRow, IsBackTarget, waiter_left}
+use Rattle.device_core.proofs.General.{find-passes}
+use Rattle.device_core.specs.Steps.{IsBackAt, IsBackRow, IsBackTarget, waiter_left}
 use Rattle.buffer_pool.specs.Fences.{FencesMade}
 use Rattle.hal_device.specs.Kept.{IsBlockAt, rests, rests_at}
 use Rattle.hal_device.proofs.Fours.{all-four}

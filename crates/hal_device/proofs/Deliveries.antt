@@ -11,9 +11,9 @@ use Rattle.cam_types.specs.declared.row.TargetView.{TargetView}
 use Rattle.cam_types.specs.declared.stream.StreamSpec.{StreamSpec}
 use Rattle.device_core.specs.View.{DeviceView}
 use Rattle.device_rows.specs.Rows.{row_at, target_at, target_in}
-use Rattle.device_store.proofs.Outs.{picture-buffer}
-use Rattle.device_store.specs.Steps.{ShowsAt, ShowsRow, ShowsTarget}
-use Rattle.device_store.specs.Stored.{specs_of}
+use Rattle.device_core.proofs.Outs.{picture-buffer}
+use Rattle.device_core.specs.Steps.{ShowsAt, ShowsRow, ShowsTarget}
+use Rattle.device_core.specs.Stored.{specs_of}
 use Rattle.fill_jobs.specs.Buffers.{IsPictureFor}
 use Rattle.hal_device.proofs.Keeping.{sized_at}
 use Rattle.hal_device.proofs.Offers.{offered_all}

@@ -19,7 +19,7 @@ use Rattle.cam_types.specs.declared.row.TargetView.{TargetView}
 use Rattle.cam_types.specs.declared.stream.StreamSpec.{StreamSpec}
 use Rattle.device_core.specs.View.{DeviceView, with_rows}
 use Rattle.device_rows.specs.Kept.{is_fresh, is_fresh_target, rise_from}
-use Rattle.device_store.specs.Stored.{are_before, is_some_target, spec_of, specs_of}
+use Rattle.device_core.specs.Stored.{are_before, is_some_target, spec_of, specs_of}
 use Rattle.hal_device_model.specs.Calls.{are_bad_settings, are_bad_targets, fresh_row, fresh_target, has_to_wait, is_early, is_malformed, is_over, lacks_blocks, lent_for, lent_to, names_twice, placed, placed_at, request_error, settings_of}
 use Rattle.hal_device_model.specs.State.{HalDeviceState, Spare, Spares, streams_in}
 use Rattle.hal_device_model.specs.declared.error.CallError.TheVariants.{InvalidArgument, NoDevice, WrongSequence, Busy}

@@ -16,10 +16,10 @@ use Rattle.device_core.specs.View.{DeviceView, with_rows}
 use Rattle.device_rows.specs.Jobs.{IsFillJobOut, fill_job, fill_job_at, fill_job_in, sensor_job, sensor_job_at, sensor_job_of}
 use Rattle.device_rows.specs.Ready.{shutter_row}
 use Rattle.device_rows.specs.Rows.{exposed, fill_begun, fill_ended, row_at, target_at, with_row}
-use Rattle.device_store.proofs.Targets.{four-mapped}
-use Rattle.device_store.proofs.Views.{found-own}
-use Rattle.device_store.specs.Steps.{fill_job_for, fill_job_with}
-use Rattle.device_store.specs.Stored.{specs_of}
+use Rattle.device_core.proofs.Targets.{four-mapped}
+use Rattle.device_core.proofs.Views.{found-own}
+use Rattle.device_core.specs.Steps.{fill_job_for, fill_job_with}
+use Rattle.device_core.specs.Stored.{specs_of}
 use Rattle.device_rows.specs.Marks.{in_state}
 use Rattle.hal_device_model.specs.Calls.{filled_rows}
 use Rattle.basic_lemmas.proofs.Lists.{found-passes, found-changed}

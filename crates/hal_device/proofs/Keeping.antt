@@ -15,7 +15,7 @@ use Rattle.cam_types.specs.declared.stream.StreamSpec.{StreamSpec}
 use Rattle.device_core.specs.View.{DeviceView, with_rows}
 use Rattle.device_rows.specs.Ready.{is_retire_ready}
 use Rattle.device_rows.specs.Rows.{all_stopped, delivered, exposed, fill_begun, fill_ended, returned_failed, sensor_home, with_error, with_part, with_row, without}
-use Rattle.device_store.specs.Stored.{are_before, spec_of, specs_of}
+use Rattle.device_core.specs.Stored.{are_before, spec_of, specs_of}
 use Rattle.device_rows.specs.declared.entry.ErrorEntry.{ErrorEntry}
 use Rattle.device_rows.specs.declared.entry.ErrorEntry.TheVariants.{Request as LostRequest, Result as LostResult, Buffer as LostBuffer, Device as LostDevice}
 use Rattle.hal_device_model.specs.Calls.{delivered_rows, error_rows, exposed_rows, failed_rows, filled_rows, sent_rows, settled}

@@ -9,7 +9,7 @@ use Rattle.buffer_pool.specs.Blocks.{block_length}
 use Rattle.cam_types.specs.Picture.{is_offered}
 use Rattle.cam_types.specs.declared.profile.Profile.{Profile}
 use Rattle.cam_types.specs.declared.stream.StreamSpec.{StreamSpec}
-use Rattle.device_store.specs.Stored.{spec_of, specs_of}
+use Rattle.device_core.specs.Stored.{spec_of, specs_of}
 use Rattle.hal_device_model.specs.Calls.{configured}
 use Rattle.hal_device_model.specs.State.{HalDeviceState, spare_for, spares_for}
 use Rattle.hal_device.specs.Kept.{are_offered, are_packed, are_sized, is_offered_at, is_sized, place_at, spare_by, spares_by, with_plan_and}

@@ -7,7 +7,7 @@ use Rattle.buffer_pool.specs.declared.parked.Parked.{Parked}
 use Rattle.cam_types.specs.declared.four.Four.{Four}
 use Rattle.cam_types.specs.declared.row.TargetView.{TargetView}
 use Rattle.cam_types.specs.declared.stream.StreamSpec.{StreamSpec}
-use Rattle.device_store.specs.Stored.{AreParked, IsParkedAt, spec_of, specs_of}
+use Rattle.device_core.specs.Stored.{AreParked, IsParkedAt, spec_of, specs_of}
 use Rattle.request_checks.specs.declared.plan.Plan.{Plan}
 use Rattle.request_checks.specs.declared.plan.PlanStream.{PlanStream}
 use Rattle.hal_device.specs.Kept.{IsParkedBy, are_in_place, are_packed, is_placed_at}

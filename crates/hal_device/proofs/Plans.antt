@@ -4,7 +4,7 @@ use Rattle.std.specs.Prelude.{slice_get}
 use Rattle.std.specs.Option.{option_map}
 use Rattle.std.proofs.lemmas.Bool.{false≢true}
 use Rattle.cam_types.specs.declared.stream.StreamSpec.{StreamSpec}
-use Rattle.device_store.specs.Stored.{spec_of}
+use Rattle.device_core.specs.Stored.{spec_of}
 use Rattle.request_checks.specs.declared.plan.PlanStream.{PlanStream}
 
 abbrev pub packed : Option PlanStream → Option PlanStream → Option PlanStream → Option PlanStream → Bool

@@ -20,7 +20,7 @@ use Rattle.device_rows.specs.declared.entry.ErrorEntry.TheVariants.{Request as L
 use Rattle.device_rows.specs.declared.mark.Mark.TheVariants.{Announced, RequestError, ResultError, Stopped, Target}
 use Rattle.device_rows.specs.Marks.{if_of_stream, in_state, as_announced, marked}
 use Rattle.hal_device.specs.Kept.{rests, rests_at}
-use Rattle.device_store.proofs.Moves.{filled-from-in}
+use Rattle.device_core.proofs.Moves.{filled-from-in}
 use Rattle.hal_device_model.proofs.Whole.{changed_twice}
 
 -- ---- what a row that rests meets

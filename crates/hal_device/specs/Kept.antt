@@ -14,7 +14,7 @@ use Rattle.device_rows.specs.Jobs.{is_fill_out}
 use Rattle.device_rows.specs.Ready.{is_sensor_out}
 use Rattle.cam_types.specs.declared.stream.StreamSpec.{StreamSpec}
 use Rattle.device_rows.specs.Rows.{row_at, target_in}
-use Rattle.device_store.specs.Stored.{IsParkedWith, are_before}
+use Rattle.device_core.specs.Stored.{IsParkedWith, are_before}
 use Rattle.hal_device_model.specs.State.{HalDeviceState, Spare, Spares, no_spare, streams_in}
 use Rattle.hal_device.specs.declared.steps.Delivered.{Delivered}
 use Rattle.sha2.specs.Sha256.{sha256}

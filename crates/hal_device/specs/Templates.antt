@@ -5,8 +5,8 @@ use Rattle.hal_device_model.specs.Calls.{is_over}
 use Rattle.hal_device_model.specs.State.{HalDeviceState}
 use Rattle.hal_device_model.specs.declared.error.CallError.{CallError}
 use Rattle.hal_device_model.specs.declared.error.CallError.TheVariants.{InvalidArgument, NoDevice, WrongSequence}
-use Rattle.metadata_rules.specs.Templates.{template_of}
-use Rattle.metadata_rules.specs.declared.rule.Template.TheVariants.{Preview, Still}
+use Rattle.metadata.specs.Templates.{template_of}
+use Rattle.metadata.specs.declared.rule.Template.TheVariants.{Preview, Still}
 
 -- the header has the templates 1 to 6
 abbrev pub template_error : ℕ → HalDeviceState → Option CallError

@@ -2,7 +2,7 @@
 ghost use Rattle.std.specs.Prelude.{◌≡◌, IfErr, IfOk, None, slice_get};
 ghost use Rattle.hal_device_model.specs.Calls.{IsRefusal, open_error};
 ghost use Rattle.hal_device_model.specs.State.{opened};
-ghost use Rattle.device_store.specs.Stored.{no_plan};
+ghost use Rattle.device_core.specs.Stored.{no_plan};
 
 use crate::quiet::QuietDevice;
 use crate::shelves::Shelves;

@@ -8,7 +8,7 @@ use cam_types::{
     TargetView,
 };
 use hal_model::HalTarget;
-use metadata_rules::range_fault;
+use metadata::range_fault;
 
 /// The settings of the request; without any those of the one before.
 pub(crate) fn settings_of(settings: Option<Settings>, last: Option<Settings>) -> Option<Settings>

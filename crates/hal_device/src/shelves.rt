@@ -2,7 +2,7 @@
 ghost use Rattle.std.specs.Prelude.{◌≡◌, ◌≤◌, length, false, None, IfOk, IsTrue};
 ghost use Rattle.buffer_pool.specs.Blocks.{block_length};
 ghost use Rattle.cam_types.specs.Picture.{is_offered, length_in};
-ghost use Rattle.device_store.specs.Stored.{AreParked, IsParkedWith, specs_of};
+ghost use Rattle.device_core.specs.Stored.{AreParked, IsParkedWith, specs_of};
 ghost use Rattle.hal_device.specs.Kept.{AreFit, Fits, IsParkedBy, IsSizedAt, are_packed, are_in_place, spares_by, spare_by};
 ghost use Rattle.hal_device_model.specs.Calls.{lacks_block, lacks_blocks, lent_for, lent_to};
 ghost use Rattle.hal_device_model.specs.State.{back_at, no_spares};

@@ -1,7 +1,7 @@
 //! The device is initialized, and takes the streams of a configuration.
 ghost use Rattle.std.specs.Prelude.{◌≡◌, [], None, IsTrue, IfErr, IfOk, OnErr, OnOk, if◌then◌else◌, length};
 ghost use Rattle.std.specs.Result.{result_err};
-ghost use Rattle.device_store.specs.Stored.{specs_of};
+ghost use Rattle.device_core.specs.Stored.{specs_of};
 ghost use Rattle.hal_device.specs.Kept.{are_offered, are_packed, spares_by, with_plan_and};
 ghost use Rattle.hal_device_model.specs.Calls.{IsRefusal, configure_error, configured, initialize_error, is_over, sequence_error};
 ghost use Rattle.hal_device_model.specs.Log.{Initialize, after_call};

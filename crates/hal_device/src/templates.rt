@@ -6,7 +6,7 @@ ghost use Rattle.hal_device.specs.Templates.{default_settings, template_error};
 use crate::device::HalDevice;
 use cam_types::Settings;
 use hal_device_model::CallError;
-use metadata_rules::{Template, template};
+use metadata::{Template, template};
 
 impl HalDevice {
     /// `construct_default_request_settings`: the settings of `still` for template 2, STILL_CAPTURE, else of `preview`.

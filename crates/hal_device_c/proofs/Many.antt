@@ -5,7 +5,7 @@ use Rattle.std.proofs.lemmas.List.{length-map}
 use Rattle.cam_types.specs.Four.{four_list}
 use Rattle.cam_types.specs.declared.four.Four.{Four}
 use Rattle.cam_types.specs.declared.item.Settings.{Settings}
-use Rattle.device_store.specs.Stored.{spec_of}
+use Rattle.device_core.specs.Stored.{spec_of}
 use Rattle.hal_device_c.proofs.Few.{many-bad}
 use Rattle.hal_device_c.specs.Records.{target_of}
 use Rattle.hal_device_c.specs.declared.records.TargetRecord.{TargetRecord}

@@ -15,7 +15,7 @@ use Rattle.cam_types.specs.declared.row.TargetState.{TargetState}
 use Rattle.cam_types.specs.declared.row.TargetState.TheVariants.{Out}
 use Rattle.cam_types.specs.declared.row.TargetView.{TargetView}
 use Rattle.device_rows.specs.Rows.{exposed, target_at, with_part, fill_begun, fill_ended, filled_after}
-use Rattle.device_store.proofs.Targets.{four-mapped}
+use Rattle.device_core.proofs.Targets.{four-mapped}
 use Rattle.hal_device_model.proofs.Fits.{RowFits, all_in_place, in_place, is_target}
 use Rattle.hal_device_model.proofs.Found.{found_beside}
 use Rattle.hal_model.specs.Words.{has_notice, is_back, is_part, stands, targets_of}

@@ -6,7 +6,7 @@ use Rattle.std.proofs.lemmas.Bool.{and_parts, cases_Bool, eqb-true, false≢true
 use Rattle.std.proofs.lemmas.Bool.Decides.{nat_tests}
 use Rattle.cam_types.specs.declared.row.RowView.{RowView}
 use Rattle.device_rows.specs.Rows.{row_at, with_row}
-use Rattle.device_store.specs.Stored.{frame_number, rises}
+use Rattle.device_core.specs.Stored.{frame_number, rises}
 use Rattle.basic_lemmas.proofs.Lists.{all-found, found-changed, found-passes}
 
 other-key : (k m n : ℕ) → (k == n) ≡ true → (m == n) ≡ false → (k == m) ≡ false

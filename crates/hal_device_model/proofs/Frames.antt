@@ -17,7 +17,7 @@ use Rattle.cam_types.specs.declared.row.TargetView.{TargetView}
 use Rattle.cam_types.specs.declared.script.Fault.{Fault}
 use Rattle.device_rows.specs.Ready.{is_delivery_ready, is_same_state, may_deliver as may_deliver_row, may_return_failed as may_return_failed_row}
 use Rattle.device_rows.specs.Rows.{all_stopped, delivered, exposed, fill_begun, fill_ended, returned_failed, row_at, sensor_home, target_in, with_error, with_part, with_row}
-use Rattle.device_store.proofs.Ops.{met}
+use Rattle.device_core.proofs.Ops.{met}
 use Rattle.device_rows.specs.declared.entry.ErrorEntry.{ErrorEntry}
 use Rattle.device_rows.specs.declared.entry.ErrorEntry.TheVariants.{Request as LostRequest, Result as LostResult, Buffer as LostBuffer, Device as LostDevice}
 use Rattle.hal_device_model.proofs.Apart.{speaks}

@@ -10,7 +10,7 @@ use Rattle.hal_device_model.proofs.Fits.{is_target}
 use Rattle.hal_device_model.proofs.Found.{Each, found_left}
 use Rattle.hal_device_model.specs.Calls.{settled}
 use Rattle.device_rows.specs.Ready.{is_retire_ready}
-use Rattle.device_store.specs.Stored.{frame_number}
+use Rattle.device_core.specs.Stored.{frame_number}
 use Rattle.hal_model.specs.Words.{accepts, begins, is_accepted, is_all_back, is_back, is_begun, is_complete, is_done, is_ended, is_error_request, is_error_result, is_failed, is_last_part, is_live, is_metadata_ended, is_passed, is_point, is_refused, is_unannounced, is_whole, refuses, targets_of}
 use Rattle.hal_model.specs.declared.event.HalEvent.{HalEvent}
 use Rattle.hal_model.specs.declared.event.HalEvent.TheVariants.{RequestBegin, RequestOk, Results}

@@ -15,8 +15,8 @@ use Rattle.cam_types.specs.declared.script.Fault.{Fault}
 use Rattle.device_rows.specs.Faults.{fault_of_buffer, fault_of_request}
 use Rattle.device_rows.specs.Ready.{if_exposed, is_home, is_passed, is_retire_ready, is_sensor_out, is_sound, is_same_state, may_be_last, may_expose, may_fill as may_fill_row, may_return_failed as may_return_failed_row, may_send_part, next_exposure, next_part, partial_of, part_with, shutter_row}
 use Rattle.device_rows.specs.Rows.{all_stopped, row_at, with_row, without}
-use Rattle.device_store.proofs.General.{rises-filtered, rises-mapped, rises-push}
-use Rattle.device_store.specs.Stored.{are_before, frame_number, rises}
+use Rattle.device_core.proofs.General.{rises-filtered, rises-mapped, rises-push}
+use Rattle.device_core.specs.Stored.{are_before, frame_number, rises}
 use Rattle.hal_device_model.specs.Calls.{settled}
 use Rattle.hal_device_model.proofs.Apart.{speaks}
 use Rattle.hal_device_model.proofs.Fits.{Fits, RowFits, fits_beside}

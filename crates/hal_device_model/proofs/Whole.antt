@@ -19,7 +19,7 @@ use Rattle.device_rows.specs.Marks.{marked}
 use Rattle.device_rows.specs.declared.mark.Mark.TheVariants.{Announced, RequestError as MarkRequest, ResultError as MarkResult}
 use Rattle.device_rows.specs.Order.{each_below, holds_back}
 use Rattle.device_rows.specs.Rows.{delivered, exposed, fill_begun, fill_ended, returned_failed, row_at, sensor_home, target_at, target_in, with_error, with_part, with_row}
-use Rattle.device_store.proofs.Ops.{met}
+use Rattle.device_core.proofs.Ops.{met}
 use Rattle.device_rows.specs.declared.entry.ErrorEntry.{ErrorEntry}
 use Rattle.device_rows.specs.declared.entry.ErrorEntry.TheVariants.{Request as LostRequest, Result as LostResult, Buffer as LostBuffer, Device as LostDevice}
 use Rattle.buffer_pool.specs.Fences.{is_signalled, no_fences}

@@ -8,7 +8,7 @@ use Rattle.cam_types.specs.declared.row.RowView.{RowView}
 use Rattle.cam_types.specs.declared.script.Fault.{Fault}
 use Rattle.cam_types.specs.declared.stream.StreamSpec.{StreamSpec}
 use Rattle.device_core.specs.View.{DeviceView, with_rows}
-use Rattle.device_store.specs.Stored.{no_plan, specs_of}
+use Rattle.device_core.specs.Stored.{no_plan, specs_of}
 
 -- the spare blocks of a stream: the bytes of each, how many there are, and how many there is room for
 pub record Spare : Type 0 where

@@ -4,17 +4,17 @@ ghost use Rattle.hal_model.specs.Rules.{at, at_buffers, at_frames, at_stream, at
 ghost use Rattle.hal_model.specs.Device.{is_idle_most, is_unnamed};
 ghost use Rattle.hal_rows.specs.Judged.{at_rows, at_target_rows, is_row_silent, is_target_unknown_in, row_astray, row_silences};
 ghost use Rattle.hal_rows.specs.Row.{is_row_unannounced_at};
-ghost use Rattle.hal_calls.specs.Meant.{is_meant};
+ghost use Rattle.hal_checks.specs.Meant.{is_meant};
 ghost use Rattle.hal_judge.specs.Meant.{frame_of, silence_of};
-ghost use Rattle.hal_callbacks.specs.Buffers.{is_buffer_wrong, is_flawed};
-ghost use Rattle.hal_calls.specs.Targets.{is_target_wrong};
+ghost use Rattle.hal_checks.specs.Buffers.{is_buffer_wrong, is_flawed};
+ghost use Rattle.hal_checks.specs.Targets.{is_target_wrong};
 ghost use Rattle.hal_table.specs.State.{state_of};
 
 use cam_types::NoMemory;
-use hal_callbacks::back::{BufferFault, BufferFlaw, is_astray, is_buffer_wrong, is_flawed};
-use hal_calls::framework::{TargetFault, is_target_wrong};
-use hal_calls::meant::{Which, is_meant, is_silent};
-use hal_calls::stream::{is_idle_most, is_target_unknown_in, is_unnamed};
+use hal_checks::back::{BufferFault, BufferFlaw, is_astray, is_buffer_wrong, is_flawed};
+use hal_checks::framework::{TargetFault, is_target_wrong};
+use hal_checks::meant::{Which, is_meant, is_silent};
+use hal_checks::stream::{is_idle_most, is_target_unknown_in, is_unnamed};
 use hal_model::{Fault, HalEvent, HalStream, HalTarget, Returned, StreamMax};
 use hal_row::row::is_unannounced_at;
 use hal_rows::{Row, TargetRow};

@@ -3,10 +3,9 @@ ghost use Rattle.std.specs.Prelude.{◌≡◌};
 ghost use Rattle.hal_rows.specs.Judged.{breaks_at};
 ghost use Rattle.hal_table.specs.State.{state_of};
 
-use hal_callbacks::back::{self, BufferFault, BufferFlaw};
-use hal_callbacks::said;
-use hal_calls::framework::{self, TargetFault};
-use hal_calls::{left, returns};
+use hal_checks::back::{self, BufferFault, BufferFlaw};
+use hal_checks::framework::{self, TargetFault};
+use hal_checks::{left, returns, said};
 use hal_model::{HalEvent, Rule};
 use hal_table::HalTable;
 

@@ -3,8 +3,8 @@ ghost use Rattle.std.specs.Prelude.{◌≡◌, ◌∷◌, ◌++◌, [], None, fi
 ghost use Rattle.hal_model.specs.Rules.{at, at_buffers, frame_in};
 ghost use Rattle.hal_judge.specs.Judged.{named_in};
 ghost use Rattle.hal_rows.specs.Judged.{all_breaches_at, at_target_rows, breach_of, breaches_at, faults_at, for_row, is_target_unknown_in, row_astray};
-ghost use Rattle.hal_callbacks.specs.Buffers.{buffer_rule, flaw_rule, is_buffer_wrong};
-ghost use Rattle.hal_calls.specs.Targets.{target_rule};
+ghost use Rattle.hal_checks.specs.Buffers.{buffer_rule, flaw_rule, is_buffer_wrong};
+ghost use Rattle.hal_checks.specs.Targets.{target_rule};
 ghost use Rattle.hal_table.specs.State.{state_of};
 
 use crate::fault::{
@@ -14,9 +14,9 @@ use crate::fault::{
 use crate::order::ordered;
 use crate::rule::breaks;
 use cam_types::NoMemory;
-use hal_callbacks::back::{BufferFault, BufferFlaw};
-use hal_calls::framework::TargetFault;
-use hal_calls::meant::Which;
+use hal_checks::back::{BufferFault, BufferFlaw};
+use hal_checks::framework::TargetFault;
+use hal_checks::meant::Which;
 use hal_model::{Breach, Fault, HalEvent, HalStream, Returned, Rule};
 use hal_rows::Row;
 use hal_table::{HalTable, frame_in};

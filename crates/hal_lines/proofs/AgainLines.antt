@@ -11,8 +11,8 @@ use Rattle.hal_model.specs.declared.event.HalStream.{HalStream}
 use Rattle.hal_model.specs.declared.event.StreamMax.{StreamMax}
 use Rattle.hal_model.specs.declared.event.Pack.{Pack}
 use Rattle.hal_model.specs.declared.event.Pack.TheVariants as pack
-use Rattle.hal_spelling.specs.Fits.{few, is_max_typed, is_returned_typed, is_small, is_small_or_none, is_stream_typed, is_target_typed, is_typed, is_well_made}
-use Rattle.hal_spelling.specs.Spelling.{event_words, mark_words, max_text, mode_words, number_or, pack_text, returned_text, settings_text, stream_text, target_text}
+use Rattle.hal_model.specs.Fits.{few, is_max_typed, is_returned_typed, is_small, is_small_or_none, is_stream_typed, is_target_typed, is_typed, is_well_made}
+use Rattle.hal_model.specs.Spelling.{event_words, mark_words, max_text, mode_words, number_or, pack_text, returned_text, settings_text, stream_text, target_text}
 use Rattle.hal_lines.specs.declared.cause.Cause.{Cause}
 use Rattle.hal_lines.specs.declared.kind.Ending.TheVariants as ending
 use Rattle.hal_lines.specs.Lines.{asked_streams, before_marks, close_of, configure_end, configure_of, each, ending_of, event_in, event_of, flaws_of, from_marks, given_streams, input_of, is_mark, kind_of, list_of, notice_of, request_of, result_of, stage_of, streams_of, template_stage, event_by_words}

@@ -23,8 +23,8 @@ use Rattle.hal_model.specs.declared.event.Returned.{Returned}
 use Rattle.hal_model.specs.declared.event.Status.{Status}
 use Rattle.hal_model.specs.declared.event.Status.TheVariants.{Filled}
 use Rattle.hal_model.specs.declared.event.StreamMax.{StreamMax}
-use Rattle.hal_spelling.specs.Fits.{error_fits, is_error_name, is_format_typed, is_letter, is_max_typed, is_release_typed, is_returned_typed, is_small, is_small_or_none, is_stream_typed, is_target_typed, name_fits}
-use Rattle.hal_spelling.specs.Spelling.{acquire_text, direction_text, error_text, format_text, max_text, number_or, release_text, returned_text, rotation_text, size_text, status_text, stream_text, target_text}
+use Rattle.hal_model.specs.Fits.{error_fits, is_error_name, is_format_typed, is_letter, is_max_typed, is_release_typed, is_returned_typed, is_small, is_small_or_none, is_stream_typed, is_target_typed, name_fits}
+use Rattle.hal_model.specs.Spelling.{acquire_text, direction_text, error_text, format_text, max_text, number_or, release_text, returned_text, rotation_text, size_text, status_text, stream_text, target_text}
 use Rattle.hal_lines.specs.Lines.{is_mark}
 use Rattle.hal_lines.specs.Values.{acquire, direction_by, error_of, fences_by, format_of, known, large, max_of, release, returned_of, size_by, small, status_of, stream_of, target_of, turned_by}
 use Rattle.hal_lines.proofs.HexadecimalAgain.{hexadecimal-again, hexadecimal-all}

@@ -4,7 +4,7 @@ use Rattle.std.specs.Prelude.{bytes_eq, codes, replicate}
 use Rattle.std.specs.List.{list_all}
 use Rattle.std.proofs.lemmas.Bool.{and_parts, leb-true, eq-eqb}
 use Rattle.std.proofs.lemmas.List.{length-append, length-drop}
-use Rattle.hal_spelling.specs.Fits.{is_error_name, is_letter, name_fits}
+use Rattle.hal_model.specs.Fits.{is_error_name, is_letter, name_fits}
 
 abbrev pub zeros : List ℕ
 zeros = replicate 15 0

@@ -2,7 +2,7 @@
 use Rattle.std.specs.Prelude.{ℕ, Bool, true, false, ◌&&◌, ◌||◌, List, [], ◌∷◌, length, nat_lt, Option, Some, None, Result, Ok, Err, if◌then◌else◌, codes, bytes_eq}
 use Rattle.hal_model.specs.declared.event.HalEvent.{HalEvent}
 use Rattle.hal_model.specs.declared.event.HalEvent.TheVariants.{OpenBegin, OpenOk, OpenError, InitBegin, InitOk, InitError, TemplateBegin, TemplateOk, TemplateNull, ConfigureBegin, ConfigureOk, ConfigureError, RequestBegin, RequestOk, RequestError, Shutter, ErrorRequest, ErrorResult, ErrorBuffer, ErrorDevice, Results, FlushBegin, FlushOk, FlushError, CloseBegin, CloseEnd}
-use Rattle.hal_spelling.specs.Fits.{part_limit}
+use Rattle.hal_model.specs.Fits.{part_limit}
 use Rattle.hal_lines.specs.declared.cause.Cause.{Cause}
 use Rattle.hal_lines.specs.declared.cause.Cause.TheVariants.{BadLine}
 use Rattle.hal_lines.specs.declared.kind.Kind.{Kind}

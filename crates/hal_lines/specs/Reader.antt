@@ -5,7 +5,7 @@ use Rattle.hal_lines.specs.declared.cause.LineRefused.{LineRefused}
 use Rattle.hal_lines.specs.declared.cause.LineRefused.TheVariants as line
 use Rattle.hal_lines.specs.declared.kind.Ending.{Ending}
 use Rattle.hal_lines.specs.declared.kind.Ending.TheVariants as ending
-use Rattle.hal_spelling.specs.Fits.{error_fits}
+use Rattle.hal_model.specs.Fits.{error_fits}
 
 -- a reader's refusal is the definition's, unless memory ran out
 abbrev pub Refuses : {A : Type 0} → LineRefused → Result A Cause → Type 0

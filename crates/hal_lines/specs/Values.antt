@@ -18,7 +18,7 @@ use Rattle.hal_model.specs.declared.event.Returned.{Returned}
 use Rattle.hal_model.specs.declared.event.Status.{Status}
 use Rattle.hal_model.specs.declared.event.Status.TheVariants.{Filled, Failed, Unknown}
 use Rattle.hal_model.specs.declared.event.StreamMax.{StreamMax}
-use Rattle.hal_spelling.specs.Fits.{is_error_name, part_limit}
+use Rattle.hal_model.specs.Fits.{is_error_name, part_limit}
 use Rattle.hal_lines.specs.declared.cause.Cause.{Cause}
 use Rattle.hal_lines.specs.declared.cause.Cause.TheVariants.{BadNumber, BadLine}
 use Rattle.text_parts.specs.Cuts.{in_two, parts_at, two_parts}

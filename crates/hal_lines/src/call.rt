@@ -2,7 +2,7 @@
 
 ghost use Rattle.std.specs.Prelude.{◌≡◌, ◌∷◌, IfOk, IfSome, IsTrue, List, ℕ};
 ghost use Rattle.text_parts.specs.Words.{loose_words};
-ghost use Rattle.hal_spelling.specs.Fits.{error_fits, is_well_made};
+ghost use Rattle.hal_model.specs.Fits.{error_fits, is_well_made};
 ghost use Rattle.hal_lines.specs.Lines.{asked_of, asked_streams, close_of, configure_end, configure_of, ended_of, ending_of, flush_of, given_streams, init_of, open_of, request_of, stage_of, streams_of, template_end, template_of, template_stage};
 ghost use Rattle.hal_lines.specs.Reader.{is_ending_valid};
 ghost use Rattle.hal_lines.specs.Reader.{Gives};

@@ -2,7 +2,7 @@
 
 ghost use Rattle.std.specs.Prelude.{◌≡◌, IfOk, IsTrue};
 ghost use Rattle.text_parts.specs.Words.{loose_words};
-ghost use Rattle.hal_spelling.specs.Fits.{is_well_made};
+ghost use Rattle.hal_model.specs.Fits.{is_well_made};
 ghost use Rattle.hal_lines.specs.Lines.{notice_in, notice_of, result_of, result_with, shutter_of};
 ghost use Rattle.hal_lines.specs.Reader.{Gives};
 

@@ -2,7 +2,7 @@
 
 ghost use Rattle.std.specs.Prelude.{◌≡◌, ◌∷◌, IfOk, IsTrue};
 ghost use Rattle.text_parts.specs.Words.{loose_words};
-ghost use Rattle.hal_spelling.specs.Fits.{is_count, is_well_made};
+ghost use Rattle.hal_model.specs.Fits.{is_count, is_well_made};
 ghost use Rattle.hal_lines.specs.Lines.{count_of, event_in, event_of, kind_of};
 ghost use Rattle.hal_lines.specs.Reader.{Gives};
 

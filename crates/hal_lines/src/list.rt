@@ -2,7 +2,7 @@
 
 ghost use Rattle.std.specs.Prelude.{◌≡◌, ◌<◌, ◌≤◌, ◌++◌, length, IfOk, IsTrue};
 ghost use Rattle.text_parts.specs.Words.{loose_words};
-ghost use Rattle.hal_spelling.specs.Fits.{few, part_limit};
+ghost use Rattle.hal_model.specs.Fits.{few, part_limit};
 ghost use Rattle.hal_lines.specs.Lines.{are_read, before_marks, each, flaws_of, from_marks, input_of, is_mark, list_of, nothing, one_flaw};
 
 use crate::cause::Cause;

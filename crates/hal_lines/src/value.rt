@@ -4,7 +4,7 @@ ghost use Rattle.std.specs.Prelude.{◌≡◌, ◌+◌, ◌<◌, ◌≤◌, ◌^
 ghost use Rattle.std.specs.List.{list_all};
 ghost use Rattle.std.specs.Char.{digit_value};
 ghost use Rattle.std.specs.Str.Parse.{digits_value};
-ghost use Rattle.hal_spelling.specs.Fits.{error_fits, is_count, is_error_name, is_letter};
+ghost use Rattle.hal_model.specs.Fits.{error_fits, is_count, is_error_name, is_letter};
 ghost use Rattle.hal_lines.specs.Values.{acquire, both, count, error_of, format_of, hexadecimal, is_hexadecimal, is_hexadecimal_number, known, large, pack_of, release, rotation, settings_of, small, status_of};
 
 use crate::cause::Cause;

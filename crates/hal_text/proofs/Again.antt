@@ -6,8 +6,8 @@ use Rattle.std.proofs.lemmas.Bool.Decides.{nat_tests}
 use Rattle.std.proofs.lemmas.List.{append-nil}
 use Rattle.hal_model.specs.declared.event.HalEvent.{HalEvent}
 use Rattle.hal_model.specs.declared.event.HalEvent.TheVariants.{OpenBegin}
-use Rattle.hal_spelling.specs.Fits.{fits, has_begin, have_begins, is_count, is_typed, is_valid, is_well_made}
-use Rattle.hal_spelling.specs.Spelling.{event_line, event_words, first_words, text_of}
+use Rattle.hal_model.specs.Fits.{fits, has_begin, have_begins, is_count, is_typed, is_valid, is_well_made}
+use Rattle.hal_model.specs.Spelling.{event_line, event_words, first_words, text_of}
 use Rattle.hal_text.specs.declared.log.HalLog.{HalLog}
 use Rattle.hal_text.specs.Drafts.{longer}
 use Rattle.hal_lines.specs.Lines.{count_of, event_by_words}

@@ -5,7 +5,7 @@ use Rattle.std.proofs.lemmas.Bool.{and_parts, and_from, eq-eqb}
 use Rattle.std.proofs.lemmas.List.{append-nil, length-append}
 use Rattle.std.proofs.lemmas.List.Folds.{list_all-append}
 use Rattle.hal_model.specs.declared.event.HalEvent.{HalEvent}
-use Rattle.hal_spelling.specs.Fits.{has_begin, have_begins, is_count, is_valid, is_well_made}
+use Rattle.hal_model.specs.Fits.{has_begin, have_begins, is_count, is_valid, is_well_made}
 use Rattle.hal_text.specs.Begun.{Knows}
 use Rattle.hal_text.specs.Drafts.{Stands, longer}
 use Rattle.hal_text.specs.declared.begun.Begun.{Begun}

@@ -1,4 +1,4 @@
-pub mod Drafts
 pub mod Again
-pub mod Told
+pub mod Drafts
 mod Places
+pub mod Told

@@ -3,7 +3,7 @@ use Rattle.std.proofs.Common.{◌≡◌, ℕ, ◌+◌, ◌-◌, Bool, true, fals
 use Rattle.std.specs.List.{AllZip, list_all}
 use Rattle.std.proofs.lemmas.List.{length-append}
 use Rattle.hal_model.specs.declared.event.HalEvent.{HalEvent}
-use Rattle.hal_spelling.specs.Fits.{has_begin}
+use Rattle.hal_model.specs.Fits.{has_begin}
 use Rattle.hal_lines.specs.declared.cause.Cause.{Cause}
 use Rattle.hal_lines.specs.declared.cause.Cause.TheVariants.{BadLine, TooLong}
 use Rattle.hal_text.specs.declared.refused.LogRefused.{LogRefused}

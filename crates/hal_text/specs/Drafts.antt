@@ -1,6 +1,6 @@
 -- What stands after some lines of a text.
 use Rattle.std.specs.Prelude.{ℕ, ◌==◌, Bool, true, ◌&&◌, List, [], ◌∷◌, ◌++◌, length, nat_lt, Option, Some, None, IsTrue}
-use Rattle.hal_spelling.specs.Fits.{is_valid}
+use Rattle.hal_model.specs.Fits.{is_valid}
 use Rattle.hal_text.specs.Begun.{Knows}
 use Rattle.hal_text.specs.declared.begun.Begun.{Begun}
 use Rattle.hal_text.specs.declared.log.HalLog.{HalLog}

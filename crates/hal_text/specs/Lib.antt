@@ -1,7 +1,12 @@
-pub mod Meaning
 pub mod Begun
+pub mod Clues
+pub mod Drafts
+pub mod Meaning
+pub mod Person
+pub mod PersonRefusal
+pub mod Plain
 pub mod Reader
 pub mod Refusal
+pub mod Sentences
+pub mod Sum
 pub mod Told
-pub mod Drafts
-pub mod Plain

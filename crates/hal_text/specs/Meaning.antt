@@ -2,7 +2,7 @@
 use Rattle.std.specs.Prelude.{ℕ, ◌+◌, List, [], ◌∷◌, ◌++◌, length, nat_lt, Option, Some, None, Result, Ok, Err, if◌then◌else◌}
 use Rattle.std.specs.List.{list_all}
 use Rattle.hal_model.specs.declared.event.HalEvent.{HalEvent}
-use Rattle.hal_spelling.specs.Fits.{has_begin}
+use Rattle.hal_model.specs.Fits.{has_begin}
 use Rattle.hal_lines.specs.declared.cause.Cause.{Cause}
 use Rattle.hal_lines.specs.declared.cause.Cause.TheVariants.{Truncated, BadLine, TooLong}
 use Rattle.hal_text.specs.declared.refused.LogRefused.{LogRefused}

@@ -4,7 +4,7 @@ ghost use Rattle.std.specs.Prelude.{◌≡◌, ◌++◌, ◌∷◌, [], List, On
 ghost use Rattle.std.specs.BTreeSet.{contains};
 ghost use Rattle.std.specs.Ordering.{nat_cmp};
 ghost use Rattle.hal_model.specs.declared.event.HalEvent.{HalEvent as AnEvent};
-ghost use Rattle.hal_spelling.specs.Fits.{has_begin};
+ghost use Rattle.hal_model.specs.Fits.{has_begin};
 ghost use Rattle.hal_text.specs.Begun.{Knows};
 
 use cam_types::NoMemory;

@@ -2,8 +2,8 @@
 
 ghost use Rattle.std.specs.Prelude.{◌≡◌, ◌≤◌, ℕ, List, Ok, IsTrue, length};
 ghost use Rattle.hal_model.specs.declared.event.HalEvent.{HalEvent as AnEvent};
-ghost use Rattle.hal_spelling.specs.Fits.{fits};
-ghost use Rattle.hal_spelling.specs.Spelling.{text_of};
+ghost use Rattle.hal_model.specs.Fits.{fits};
+ghost use Rattle.hal_model.specs.Spelling.{text_of};
 ghost use Rattle.text_parts.specs.Lines.{lines_of};
 ghost use Rattle.hal_text.specs.declared.log.HalLog.{HalLog as ALog};
 ghost use Rattle.hal_text.specs.Told.{IsTold};

@@ -1,8 +1,8 @@
 //! What is printed is read again.
 
 ghost use Rattle.std.specs.Prelude.{◌≡◌, ◌≤◌, Ok, length, IsTrue, IfOk};
-ghost use Rattle.hal_spelling.specs.Fits.{is_valid};
-ghost use Rattle.hal_spelling.specs.Spelling.{text_of};
+ghost use Rattle.hal_model.specs.Fits.{is_valid};
+ghost use Rattle.hal_model.specs.Spelling.{text_of};
 ghost use Rattle.hal_text.specs.Meaning.{log_of, said, text_limit};
 
 use cam_types::NoMemory;
@@ -17,6 +17,6 @@ pub fn print(alloc: Global, parts: u32, events: &[HalEvent]) -> Result<Vec<u8>, 
     ensures again { IfOk result (λ text. length text.items ≤ text_limit →
         said (log_of text.items) ≡ Ok (parts, events.now)) }
 {
-    let text = hal_spelling::print(alloc, parts, events)?;
+    let text = hal_model::print(alloc, parts, events)?;
     Ok(text)
 }

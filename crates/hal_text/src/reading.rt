@@ -2,7 +2,7 @@
 
 ghost use Rattle.std.specs.Prelude.{◌≡◌, ◌<◌, ◌≤◌, ◌+◌, Some, true, IfOk, IsTrue, OnOk, length};
 ghost use Rattle.text_parts.specs.Words.{loose_words};
-ghost use Rattle.hal_spelling.specs.Fits.{is_valid, is_well_made};
+ghost use Rattle.hal_model.specs.Fits.{is_valid, is_well_made};
 ghost use Rattle.hal_text.specs.Begun.{Knows};
 ghost use Rattle.hal_text.specs.Drafts.{Stands, is_short};
 ghost use Rattle.hal_text.specs.Meaning.{added, after, after_words, at_end, log_of};

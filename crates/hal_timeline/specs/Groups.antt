@@ -4,7 +4,7 @@ use Rattle.hal_model.specs.Rules.{breaches_in, known, plain_rules}
 use Rattle.hal_model.specs.Words.{frames, is_live}
 use Rattle.hal_model.specs.declared.event.HalEvent.{HalEvent}
 use Rattle.hal_model.specs.declared.rule.Breach.{Breach}
-use Rattle.hal_spelling.specs.Spelling.{event_line}
+use Rattle.hal_model.specs.Spelling.{event_line}
 use Rattle.timeline_model.specs.Lines.{front_of}
 use Rattle.timeline_model.specs.declared.chart.Group.{Group}
 use Rattle.hal_timeline.specs.Pieces.{pieces_of}

@@ -2,8 +2,8 @@
 use Rattle.std.specs.Prelude.{ℕ, ◌-◌, ◌==◌, List, [], ◌∷◌, ◌++◌, Option, Some, None, codes, decimal, length, map, nat_lt, take, if◌then◌else◌}
 use Rattle.hal_model.specs.Names.{rule_name, side_of}
 use Rattle.hal_model.specs.declared.rule.Breach.{Breach}
-use Rattle.hal_person.specs.Person.{is_same_heading}
-use Rattle.hal_person.specs.Sentences.{sentence_of}
+use Rattle.hal_text.specs.Person.{is_same_heading}
+use Rattle.hal_text.specs.Sentences.{sentence_of}
 use Rattle.hal_text.specs.Plain.{side_text}
 use Rattle.hal_timeline.specs.Groups.{number_at}
 

@@ -1,7 +1,7 @@
 //! A hal log as a chart.
 ghost use Rattle.std.specs.Prelude.{◌≡◌, [], IfOk, IsTrue, map};
 ghost use Rattle.std.specs.List.{list_all};
-ghost use Rattle.hal_spelling.specs.Fits.{is_well_made};
+ghost use Rattle.hal_model.specs.Fits.{is_well_made};
 ghost use Rattle.hal_timeline.specs.Charts.{breaches_of, chart_of};
 ghost use Rattle.hal_timeline.specs.Groups.{is_some_breach};
 ghost use Rattle.hal_timeline.specs.Passes.{IsPast};

@@ -3,7 +3,7 @@ ghost use Rattle.std.specs.Prelude.{◌≡◌, ◌<◌, ◌∷◌, [], IfOk, IsT
 ghost use Rattle.std.specs.List.{list_all};
 ghost use Rattle.hal_model.specs.declared.event.HalEvent.{HalEvent as AnEvent};
 ghost use Rattle.hal_judge.specs.Judged.{IsOf};
-ghost use Rattle.hal_spelling.specs.Fits.{is_well_made};
+ghost use Rattle.hal_model.specs.Fits.{is_well_made};
 ghost use Rattle.hal_timeline.specs.Groups.{all_groups, group_of, is_broken, is_changed, live_count, number_at, shown_event};
 ghost use Rattle.hal_timeline.specs.Passes.{IsPast};
 
@@ -11,8 +11,7 @@ use crate::piece::pieces_of;
 use crate::walk::Walk;
 use cam_types::{Listing, NoMemory};
 use hal_judge::{Place, judge_next, rules_for};
-use hal_model::{Breach, EventList, HalEvent};
-use hal_spelling::write_event;
+use hal_model::{Breach, EventList, HalEvent, write_event};
 use hal_table::HalTable;
 use std::alloc::Global;
 use timeline_model::{Group, Series, front_of};

@@ -5,8 +5,7 @@ ghost use Rattle.hal_timeline.specs.Notes.{breach_notes, count_text, heading_tex
 use crate::group::number_at;
 use cam_types::{Listing, NoMemory};
 use hal_model::Breach;
-use hal_person::{front, is_same_heading, sentence_of};
-use hal_text::side_text;
+use hal_text::{front, is_same_heading, sentence_of, side_text};
 use std::alloc::Global;
 use timeline_model::Series;
 

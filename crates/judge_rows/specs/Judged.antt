@@ -12,7 +12,7 @@ use Rattle.state_facts.specs.Turns.{Turns, next_of}
 use Rattle.state_facts.specs.Homes as buffers
 use Rattle.state_facts.specs.Clients as client
 use Rattle.client_calls.specs.Around.{Fits}
-use Rattle.capture_queue.specs.Captures.{CanTake}
+use Rattle.client_calls.specs.Captures.{CanTake}
 use Rattle.state_facts.specs.FrameReadings.{finishes_in, time_after}
 use Rattle.state_facts.specs.Runs.{no_state}
 use Rattle.state_facts.specs.Turns.{repeats_next}

@@ -5,7 +5,7 @@ ghost use Rattle.state_facts.specs.Turns.{turns_after};
 ghost use Rattle.judge_rows.specs.Judged.{CanCapture, CanTakeAt, TakesOne};
 
 use cam_types::{Reply, Script, Word};
-use capture_queue::CaptureQueue;
+use client_calls::CaptureQueue;
 use trace_model::Entry;
 
 /// Does what an answered call of the script's command at the place asks of the queue.

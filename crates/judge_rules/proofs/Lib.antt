@@ -1,4 +1,9 @@
+pub mod FillLaws
+pub mod ListLemmas
+pub mod PastLemmas
+pub mod ReplyLemmas
+pub mod RuleLaws
 pub mod RuleLemmas
 pub mod SameEntry
-pub mod RuleLaws
-pub mod FillLaws
+pub mod SinceLemmas
+pub mod StreamLemmas

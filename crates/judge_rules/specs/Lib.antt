@@ -1,3 +1,7 @@
-pub mod Times
-pub mod Rules
+pub mod Asked
 pub mod Fills
+pub mod Made
+pub mod Rules
+pub mod Since
+pub mod Steps
+pub mod Times

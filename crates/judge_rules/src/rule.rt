@@ -12,8 +12,8 @@ use crate::buffer::{failed_due, releases, signals_next};
 use crate::client::begin_due;
 use crate::error::{may_fail_buffer, may_fail_device, may_fail_request, may_fail_result};
 use crate::filled::{delivers, fills_late};
-use crate::metadata::part_numbered;
 use crate::queued::is_named;
+use crate::result_metadata::part_numbered;
 use crate::same::is_due;
 use crate::sensor::exposes;
 use cam_types::{

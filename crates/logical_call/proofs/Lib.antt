@@ -1,2 +1,17 @@
+pub mod Choices
+pub mod Courses
+pub mod Ends
+pub mod Frames
+pub mod Joint
+pub mod LogicalSides
+pub mod Numbers
+pub mod Opening
+pub mod Replies
 pub mod Running
+pub mod Settings
+pub mod Sides
+pub mod Steady
+pub mod Stepping
 pub mod Telling
+pub mod Turning
+pub mod Whole

@@ -3,12 +3,12 @@ use Rattle.std.proofs.Common.{◌≡◌, ℕ, ◌+◌, ◌*◌, ◌/◌, ◌≤�
 use Rattle.std.proofs.lemmas.List.{append-nil}
 use Rattle.cam_types.specs.declared.script.Script.{Script}
 use Rattle.cam_types.specs.Script.{is_valid}
-use Rattle.logical_camera.specs.Both.{Both, camera, with_move}
-use Rattle.logical_camera.specs.Runs.{AreNamed, Deed, both_by, sides_by}
-use Rattle.logical_camera.specs.Turns.{AnswersStep, AreEntries, IsTurn, choice, pair_by}
-use Rattle.logical_camera.specs.declared.logical.LogicalStep.TheVariants.{Did}
-use Rattle.logical_camera.proofs.Joint.{entries-by, long-by, script-by}
-use Rattle.logical_camera.specs.declared.pair.Paired.{Paired}
+use Rattle.logical_call.specs.Both.{Both, camera, with_move}
+use Rattle.logical_call.specs.Runs.{AreNamed, Deed, both_by, sides_by}
+use Rattle.logical_call.specs.Turns.{AnswersStep, AreEntries, IsTurn, choice, pair_by}
+use Rattle.logical_call.specs.declared.logical.LogicalStep.TheVariants.{Did}
+use Rattle.logical_call.proofs.Joint.{entries-by, long-by, script-by}
+use Rattle.logical_call.specs.declared.pair.Paired.{Paired}
 use Rattle.run_model.specs.Bounds.{move_bound}
 use Rattle.run_model.specs.Played.{pick_at}
 use Rattle.run_model.proofs.Few.{few}

@@ -4,15 +4,15 @@ use Rattle.io_edge.specs.States.{SinkState, Writes}
 use Rattle.cam_types.specs.declared.script.Script.{Script}
 use Rattle.call_parts.specs.Answers.{Answers, AnswersWithMemory, AreAnswers, TellsBy}
 use Rattle.call_parts.proofs.Done.{meant}
-use Rattle.judge_text.specs.Lines.{refused_script_text}
-use Rattle.logical_camera.specs.Both.{Both, at_first}
-use Rattle.logical_camera.specs.LogicalLaws.{EachItemHasOnePair, IsBounded}
-use Rattle.logical_camera.specs.Runs.{Deed, both_by}
-use Rattle.logical_camera.proofs.Joint.{script-by}
-use Rattle.logical_camera.specs.Turns.{IsRefused}
-use Rattle.logical_camera.specs.declared.logical.LogicalRefused.{LogicalRefused}
-use Rattle.logical_camera.specs.declared.logical.LogicalRefused.TheVariants.{NotLogical}
-use Rattle.logical_camera.specs.Orderless.{is_logical, without_faults}
+use Rattle.call_parts.specs.Lines.{refused_script_text}
+use Rattle.logical_call.specs.Both.{Both, at_first}
+use Rattle.logical_call.specs.LogicalLaws.{EachItemHasOnePair, IsBounded}
+use Rattle.logical_call.specs.Runs.{Deed, both_by}
+use Rattle.logical_call.proofs.Joint.{script-by}
+use Rattle.logical_call.specs.Turns.{IsRefused}
+use Rattle.logical_call.specs.declared.logical.LogicalRefused.{LogicalRefused}
+use Rattle.logical_call.specs.declared.logical.LogicalRefused.TheVariants.{NotLogical}
+use Rattle.logical_call.specs.Orderless.{is_logical, without_faults}
 use Rattle.run_model.specs.Lawful.{KeepsLaws}
 use Rattle.run_model.specs.History.{trace_of}
 use Rattle.script_text.specs.Grammar.{script_of}

@@ -1,2 +1,14 @@
+pub mod Both
+pub mod Courses
+pub mod Laws
 pub mod Lines
 pub mod Logical
+pub mod LogicalLaws
+pub mod Orderless
+pub mod Pairing
+pub mod Pairs
+pub mod Runs
+pub mod Sides
+pub mod Taken
+pub mod Turns
+pub mod Whose

@@ -1,11 +1,11 @@
 -- How the run of two cameras is spelled. (docs/FORMATS.md, logical camera)
 use Rattle.std.specs.Prelude.{ℕ, List, [], ◌∷◌, ◌++◌, Option, codes, decimal, option_to_list}
 use Rattle.std.specs.List.{flat_map}
-use Rattle.logical_camera.specs.Runs.{Deed, sides_by}
-use Rattle.logical_camera.specs.Turns.{pair_by}
-use Rattle.logical_camera.specs.declared.pair.PairEnd.{PairEnd}
-use Rattle.logical_camera.specs.declared.pair.PairEnd.TheVariants.{Ok, Error, Drop}
-use Rattle.logical_camera.specs.declared.pair.Paired.{Paired}
+use Rattle.logical_call.specs.Runs.{Deed, sides_by}
+use Rattle.logical_call.specs.Turns.{pair_by}
+use Rattle.logical_call.specs.declared.pair.PairEnd.{PairEnd}
+use Rattle.logical_call.specs.declared.pair.PairEnd.TheVariants.{Ok, Error, Drop}
+use Rattle.logical_call.specs.declared.pair.Paired.{Paired}
 use Rattle.text_parts.specs.Lines.{line_text}
 use Rattle.trace_model.specs.declared.entry.Entry.{Entry}
 use Rattle.trace_text.specs.Spelling.{line_of}

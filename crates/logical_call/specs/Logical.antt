@@ -2,12 +2,12 @@
 use Rattle.std.specs.Prelude.{◌≡◌, ℕ, ◌*◌, ◌≤◌, Bool, true, false, List, Result, Ok, Err, count_by, length, nat_lt, if◌then◌else◌, IsTrue}
 use Rattle.io_edge.specs.States.{SinkState, Writes}
 use Rattle.cam_types.specs.declared.script.Script.{Script}
-use Rattle.judge_text.specs.Lines.{refused_script_text}
+use Rattle.call_parts.specs.Lines.{refused_script_text}
 use Rattle.call_parts.specs.Meanings.{OfScript}
-use Rattle.logical_camera.specs.Runs.{Deed, IsJointRun, both_by, sides_by}
-use Rattle.logical_camera.specs.Courses.{items}
-use Rattle.logical_camera.specs.Orderless.{is_logical, without_faults}
-use Rattle.logical_camera.specs.Sides.{is_pair_of, pairs}
+use Rattle.logical_call.specs.Runs.{Deed, IsJointRun, both_by, sides_by}
+use Rattle.logical_call.specs.Courses.{items}
+use Rattle.logical_call.specs.Orderless.{is_logical, without_faults}
+use Rattle.logical_call.specs.Sides.{is_pair_of, pairs}
 use Rattle.run_model.specs.Lawful.{KeepsLaws}
 use Rattle.run_model.specs.Bounds.{move_bound}
 use Rattle.run_model.specs.History.{trace_of}

@@ -3,18 +3,18 @@ ghost use Rattle.std.specs.Prelude.{◌≡◌, IsTrue};
 ghost use Rattle.cam_types.specs.Script.{is_valid};
 ghost use Rattle.call_parts.specs.Answers.{OnDone, Tells, TellsBy};
 ghost use Rattle.call_parts.specs.Ends.{KeepsEnds};
-ghost use Rattle.logical_camera.specs.Both.{at_first};
+ghost use Rattle.logical_call.specs.Both.{at_first};
 ghost use Rattle.logical_call.specs.Logical.{IsLogicalWhole, TellsBoth, TellsOfRun, TellsOfScript};
 ghost use Rattle.call_parts.specs.Status.{status_number};
 
 use crate::text::run_text;
-use call_parts::{ScriptInput, ScriptWork, Status, answer, answer_input, refuse_script};
-use cam_types::{SCRIPT_BYTES, Script};
-use io_edge::{Sink, Source};
-use logical_camera::{
+use crate::{
     Logical, LogicalRefused, a_joint_run_has_one_pair_for_each_item, a_joint_run_is_a_run_of_both,
     a_joint_run_is_bounded,
 };
+use call_parts::{ScriptInput, ScriptWork, Status, answer, answer_input, refuse_script};
+use cam_types::{SCRIPT_BYTES, Script};
+use io_edge::{Sink, Source};
 use run_model::a_complete_run_keeps_the_laws;
 use std::alloc::Global;
 

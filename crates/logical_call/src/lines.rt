@@ -4,8 +4,8 @@ ghost use Rattle.std.specs.List.{flat_map};
 ghost use Rattle.trace_model.specs.Printable.{is_printable};
 ghost use Rattle.logical_call.specs.Lines.{camera_line, camera_text, pair_line};
 
+use crate::{PairEnd, Paired};
 use cam_types::NoMemory;
-use logical_camera::{PairEnd, Paired};
 use std::alloc::Global;
 use trace_model::Entry;
 use trace_text::Printer;

@@ -1,12 +1,12 @@
 //! Two cameras are run by the script's picks to their end, and told.
 ghost use Rattle.std.specs.Prelude.{◌≡◌, IfOk, length};
 ghost use Rattle.run_model.specs.Played.{pick_at};
-ghost use Rattle.logical_camera.specs.Both.{at_first};
+ghost use Rattle.logical_call.specs.Both.{at_first};
 ghost use Rattle.logical_call.specs.Logical.{IsRunText};
 
 use crate::lines::{put_entry, put_pair};
+use crate::{Logical, LogicalStep};
 use cam_types::{NoMemory, Script};
-use logical_camera::{Logical, LogicalStep};
 use std::alloc::Global;
 use trace_text::Printer;
 

@@ -1,8 +1,10 @@
-pub mod Pieces
 pub mod Bytes
-pub mod Payload
-pub mod Slots
-pub mod Loop
-pub mod Whole
 pub mod Found
 pub mod Kept
+pub mod KeptParts
+pub mod Loop
+pub mod Parts
+pub mod Payload
+pub mod Pieces
+pub mod Slots
+pub mod Whole

@@ -1,6 +1,9 @@
-pub mod Values
 pub mod Entries
 pub mod Fitting
+pub mod Numbers
+pub mod Parts
 pub mod Places
-pub mod Spelling
 pub mod Reading
+pub mod Spelling
+pub mod Templates
+pub mod Values

@@ -1,5 +1,6 @@
 pub mod GainLemmas
-pub mod RowLemmas
-pub mod RawLemmas
+pub mod KeyLemmas
 pub mod PartLemmas
 pub mod PlaneLemmas
+pub mod RawLemmas
+pub mod RowLemmas

@@ -1,2 +1,4 @@
-pub mod Line
 pub mod Cells
+pub mod Keys
+pub mod Line
+pub mod Told

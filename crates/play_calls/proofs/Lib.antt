@@ -1,3 +1,6 @@
-pub mod Telling
+pub mod Commands
 pub mod Fronts
+pub mod Steps
+pub mod Telling
 pub mod TraceTelling
+pub mod Valid

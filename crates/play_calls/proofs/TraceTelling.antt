@@ -8,8 +8,8 @@ use Rattle.trace_reader.specs.declared.cause.TraceRefused.{TraceRefused}
 use Rattle.trace_reader.specs.declared.cause.TraceRefused.TheVariants.{Bad as BadTrace, NoMemory as NoTraceMemory}
 use Rattle.script_text.specs.Grammar.{script_of}
 use Rattle.trace_reader.specs.Grammar.{trace_of}
-use Rattle.judge_text.specs.Parts.{first_line, script_part, trace_part}
-use Rattle.judge_text.specs.Meaning.{JudgesBoth, JudgesParts, JudgesTrace, JudgesWhole}
+use Rattle.call_parts.specs.Parts.{first_line, script_part, trace_part}
+use Rattle.call_parts.specs.Meaning.{JudgesBoth, JudgesParts, JudgesTrace, JudgesWhole}
 use Rattle.call_parts.specs.Answers.{AreAnswers}
 use Rattle.call_parts.proofs.Meanings.{of_verdict}
 use Rattle.play_calls.specs.Converting.{Converts}

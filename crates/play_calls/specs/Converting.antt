@@ -7,8 +7,8 @@ use Rattle.trace_reader.specs.Grammar.{trace_of}
 use Rattle.trace_reader.specs.declared.cause.TraceRefused.{TraceRefused}
 use Rattle.trace_reader.specs.declared.cause.TraceRefused.TheVariants.{Bad, NoMemory}
 use Rattle.trace_text.specs.Spelling.{spelling}
-use Rattle.judge_text.specs.Lines.{refused_trace_text}
-use Rattle.judge_text.specs.Profiles.{profile_of}
+use Rattle.call_parts.specs.Lines.{refused_trace_text}
+use Rattle.call_parts.specs.Profiles.{profile_of}
 use Rattle.call_parts.specs.Meanings.{OfLimited}
 
 -- a trace as one of version 2: its first line names its profile, and the lines behind it are as they are

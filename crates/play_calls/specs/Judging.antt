@@ -7,8 +7,8 @@ use Rattle.script_text.specs.Grammar.{script_of}
 use Rattle.trace_model.specs.declared.list.TraceList.{TraceList}
 use Rattle.trace_model.specs.Complete.{IsComplete}
 use Rattle.trace_reader.specs.Grammar.{trace_of}
-use Rattle.judge_text.specs.Parts.{first_line, script_part, trace_part}
-use Rattle.judge_text.specs.Profiles.{profile_of}
+use Rattle.call_parts.specs.Parts.{first_line, script_part, trace_part}
+use Rattle.call_parts.specs.Profiles.{profile_of}
 
 -- the input is a script and a trace of its profile, the trace is a complete legal run of the script, which keeps the
 -- laws, and `legal` was written

@@ -1,3 +1,5 @@
-pub mod Says
-pub mod Judging
 pub mod Converting
+pub mod Generated
+pub mod Judging
+pub mod Says
+pub mod Words

@@ -2,7 +2,7 @@
 use Rattle.std.specs.Prelude.{◌≡◌, ℕ, List, ◌++◌, Ok}
 use Rattle.io_edge.specs.States.{SinkState, Writes}
 use Rattle.cam_types.specs.declared.script.Script.{Script}
-use Rattle.generated_scripts.specs.Generated.{generated}
+use Rattle.play_calls.specs.Generated.{generated}
 use Rattle.run_model.specs.Lawful.{KeepsLaws}
 use Rattle.script_text.specs.Grammar.{script_of}
 use Rattle.run_model.specs.History.{trace_of}

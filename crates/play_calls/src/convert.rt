@@ -7,9 +7,8 @@ ghost use Rattle.call_parts.specs.Ends.{KeepsEnds};
 ghost use Rattle.play_calls.specs.Converting.{Converts, ConvertsInput, IsConverted};
 ghost use Rattle.call_parts.specs.Status.{status_number};
 
-use call_parts::{Status, TraceInput, TraceWork, answer_input, refuse_trace};
+use call_parts::{Status, TraceInput, TraceWork, answer_input, profile_of, refuse_trace};
 use io_edge::{Sink, Source};
-use judge_text::profile_of;
 use std::alloc::Global;
 use trace_model::TraceList;
 use trace_reader::{TRACE_BYTES, TraceRefused, read, read_is_spelled};

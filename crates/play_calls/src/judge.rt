@@ -1,20 +1,19 @@
 //! `check`: a script and a trace are read, and the trace is judged.
 ghost use Rattle.std.specs.Prelude.{◌≤◌, length};
 ghost use Rattle.trace_reader.specs.Grammar.{trace_of};
-ghost use Rattle.judge_text.specs.Lines.{verdict_status, verdict_text};
-ghost use Rattle.judge_text.specs.Meaning.{Judges, JudgesBoth, JudgesTrace, JudgesWhole};
+ghost use Rattle.call_parts.specs.Lines.{verdict_status, verdict_text};
+ghost use Rattle.call_parts.specs.Meaning.{Judges, JudgesBoth, JudgesTrace, JudgesWhole};
 ghost use Rattle.call_parts.specs.Answers.{AnswersWithMemory, OnDone, Tells, TellsBy};
 ghost use Rattle.call_parts.specs.Ends.{KeepsEnds};
 ghost use Rattle.play_calls.specs.Judging.{IsJudgedLegal};
 ghost use Rattle.call_parts.specs.Status.{status_number};
 
 use call_parts::{
-    PROFILE_DIFFERS, Status, TraceInput, TraceWork, answer_input, answer_made, refuse_script,
-    refuse_trace, status_of,
+    PROFILE_DIFFERS, Status, TraceInput, TraceWork, answer_input, answer_made, parts_of,
+    profiles_agree, refuse_script, refuse_trace, status_of, verdict_text,
 };
 use cam_types::Script;
 use io_edge::{Sink, Source};
-use judge_text::{parts_of, profiles_agree, verdict_text};
 use run_model::a_complete_run_keeps_the_laws;
 use std::alloc::Global;
 use text_parts::TextRefused;
@@ -27,7 +26,7 @@ use trace_reader::{TRACE_BYTES, TraceRefused};
 struct Check;
 
 impl TraceWork for Check {
-    ghost use Rattle.judge_text.specs.Meaning.{JudgesWhole};
+    ghost use Rattle.call_parts.specs.Meaning.{JudgesWhole};
 
     ghost belongs = { λ _. JudgesWhole };
 

@@ -2,16 +2,16 @@
 //! of its trace written.
 ghost use Rattle.std.specs.Prelude.{◌≡◌, ◌≤◌, ◌⊎◌, IsTrue};
 ghost use Rattle.cam_types.specs.Script.{is_valid};
-ghost use Rattle.generated_scripts.specs.Generated.{generated};
+ghost use Rattle.play_calls.specs.Generated.{generated};
 ghost use Rattle.call_parts.specs.Answers.{OnDone, Tells, TellsBy};
 ghost use Rattle.call_parts.specs.Ends.{CountsSink, KeepsEnds};
 ghost use Rattle.play_calls.specs.Says.{IsWhole, IsWholeRun, Says, SaysOfScript, SaysOfSeed};
 ghost use Rattle.call_parts.specs.Status.{status_number};
 
 use crate::prepared::{play_prepared, prepare};
+use crate::{generate, generated_scripts_are_valid};
 use call_parts::{Output, ScriptInput, ScriptWork, Status, answer_input};
 use cam_types::{SCRIPT_BYTES, Script};
-use generated_scripts::{generate, generated_scripts_are_valid};
 use io_edge::{Sink, Source};
 use run_model::a_complete_run_keeps_the_laws;
 use std::alloc::Global;

@@ -9,9 +9,9 @@ ghost use Rattle.call_parts.specs.Status.{status_number};
 
 use call_parts::{Output, Status, named_profile, write_run};
 use cam_types::{NoMemory, Script};
-use digest_memory::DigestMemory;
 use fill_jobs::Hands;
 use io_edge::Sink;
+use picture_stages::DigestMemory;
 use run_model::early_bound;
 use service_parts::no_job_is_out_at_first;
 use settle::{Service, close, play};
@@ -109,8 +109,9 @@ fn write_behind<K: Sink>(
     ensures { Answers 0 (front.now ++ text_in output service.now.script service.now.history) (status_number result)
         (K.state sink.old) (K.state sink.new) }
 {
+    service.is_a_run();
     match writer.write_front(front, sink) {
-        Ok(()) => write_run(writer, service, output, sink),
+        Ok(()) => write_run(writer, service.trace(), output, sink),
         Err(_) => Status::SinkFailed,
     }
 }

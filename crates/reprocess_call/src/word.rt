@@ -8,7 +8,7 @@ ghost use Rattle.text_parts.specs.Words.{loose_words};
 ghost use Rattle.reprocess_call.specs.Grammar.{output_of as output_by, request_of as request_by, size_of as size_by, yuv as yuv_stream};
 
 use cam_types::{Format, Settings, StreamSpec};
-use metadata_rules::range_fault;
+use metadata::range_fault;
 use text_parts::{Cause, four_numbers, is_end, next_loose_word};
 
 /// A YUV stream.

@@ -2,7 +2,7 @@
 use Rattle.std.proofs.Common.{◌≡◌, ℕ, true, List, ap}
 use Rattle.cam_types.specs.Picture.{is_offered, picture}
 use Rattle.cam_types.specs.declared.stream.StreamSpec.{StreamSpec}
-use Rattle.digest_memory.proofs.KeyLemmas.{by-key}
+use Rattle.picture_stages.proofs.KeyLemmas.{by-key}
 use Rattle.reprocess_model.specs.Plan.{is_yuv}
 use Rattle.reprocess_model.specs.Reduce.{reduced, reduced_to}
 use Rattle.reprocess_core.specs.Keys.{key_of, output_by}

@@ -1,7 +1,7 @@
 use Rattle.std.specs.Prelude.{◌≡◌, ℕ, List, Option, IfSome}
 use Rattle.cam_types.specs.declared.stream.StreamSpec.{StreamSpec}
-use Rattle.digest_memory.specs.Keys.{picture_by}
-use Rattle.digest_memory.specs.Keys as picture
+use Rattle.picture_stages.specs.Keys.{picture_by}
+use Rattle.picture_stages.specs.Keys as picture
 use Rattle.reprocess_model.specs.Reduce.{reduced_to}
 use Rattle.reprocess_core.specs.Tickets.{TicketView}
 use Rattle.reprocess_core.specs.declared.key.OutputKey.{OutputKey}

@@ -4,7 +4,7 @@ ghost use Rattle.reprocess_core.specs.Keys.{key_of};
 
 use crate::ticket::InputTicket;
 use cam_types::StreamSpec;
-use digest_memory::{PictureKey, turn_of};
+use picture_stages::{PictureKey, turn_of};
 
 /// What the picture of an output depends on. Outputs with equal keys show equal pictures.
 #[derive(Clone, Copy, PartialEq, Eq, Hash)]

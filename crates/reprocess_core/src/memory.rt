@@ -10,7 +10,7 @@ ghost use Rattle.sha2.specs.Sha256.{sha256};
 use crate::key::{OutputKey, is_same_key, key_of};
 use crate::ticket::InputTicket;
 use cam_types::{NoMemory, StreamSpec};
-use digest_memory::{TRIES, tries_of};
+use picture_stages::{TRIES, tries_of};
 use std::alloc::Global;
 use std::marker::Model;
 

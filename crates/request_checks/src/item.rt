@@ -7,7 +7,7 @@ use cam_types::{
     BAD_SETTING, EMPTY_LIST, Item, ItemList, NO_TARGETS, REPEATED_STREAM, Reply, Targets,
     UNKNOWN_STREAM,
 };
-use metadata_rules::range_fault;
+use metadata::range_fault;
 
 /// The targets that were written.
 #[tactic(auto, using(std::proofs::lemmas::List::take_all))]

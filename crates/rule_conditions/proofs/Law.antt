@@ -7,11 +7,11 @@ use Rattle.trace_model.specs.declared.entry.Entry.{Entry}
 use Rattle.trace_model.specs.declared.entry.Entry.TheVariants.{Begin, Call, Send, Dropped, Shutter, Partial, Filled, Failed, ErrorRequest, ErrorResult, ErrorBuffer, ErrorDevice, Release, Signal, Early, Late}
 use Rattle.trace_model.specs.Allowed.{IsAllowed}
 use Rattle.rule_conditions.specs.Conditions.{conditions_of, first_failed, holds}
-use Rattle.rule_conditions.proofs.Client.{begin_meets, call_meets, release_meets, signal_meets}
-use Rattle.rule_conditions.proofs.Errors.{buffer_error_meets, device_error_meets, request_error_meets, result_error_meets}
-use Rattle.rule_conditions.proofs.Results.{partial_meets, shutter_meets}
-use Rattle.rule_conditions.proofs.Returns.{early_meets, failed_meets, filled_meets, late_meets}
-use Rattle.rule_conditions.proofs.Sends.{drop_meets, send_meets}
+use Rattle.rule_conditions.proofs.ClientLaws.{begin_meets, call_meets, release_meets, signal_meets}
+use Rattle.rule_conditions.proofs.ErrorLaws.{buffer_error_meets, device_error_meets, request_error_meets, result_error_meets}
+use Rattle.rule_conditions.proofs.ResultLaws.{partial_meets, shutter_meets}
+use Rattle.rule_conditions.proofs.ReturnLaws.{early_meets, failed_meets, filled_meets, late_meets}
+use Rattle.rule_conditions.proofs.SendLaws.{drop_meets, send_meets}
 use Rattle.rule_conditions.proofs.Tests.{by_test}
 
 pub meets : (script : Script) (past : List Entry) (e : Entry) → IsTrue (list_all (holds script past e) (conditions_of e)) ↔ IsAllowed script past e

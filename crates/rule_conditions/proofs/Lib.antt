@@ -1,7 +1,8 @@
-pub mod Tests
-pub mod Sends
-pub mod Results
-pub mod Returns
-pub mod Errors
-pub mod Client
+pub mod ClientLaws
+pub mod ErrorLaws
+pub mod FailedFirst
 pub mod Law
+pub mod ResultLaws
+pub mod ReturnLaws
+pub mod SendLaws
+pub mod Tests

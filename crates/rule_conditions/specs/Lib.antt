@@ -1,6 +1,10 @@
-pub mod Sends
-pub mod Results
-pub mod Returns
-pub mod Errors
 pub mod Client
 pub mod Conditions
+pub mod Errors
+pub mod Mentions
+pub mod Parts
+pub mod Results
+pub mod Returns
+pub mod Rules
+pub mod Sends
+pub mod Sentences

@@ -5,16 +5,18 @@ ghost use Rattle.turn_lock.specs.Lending.{IsIdle};
 ghost use Rattle.turn_lock.specs.Seats.{fixed_of, view};
 ghost use Rattle.shared_camera.specs.Cameras.{script_of};
 ghost use Rattle.run_calls.specs.Finished.{FinishesAs};
+ghost use Rattle.call_parts.specs.Answers.{Answers};
 ghost use Rattle.call_parts.specs.Status.{status_number};
+ghost use Rattle.run_model.specs.History.{trace_of};
+ghost use Rattle.trace_text.specs.Spelling.{spelling};
 
 use call_parts::{Status, write_trace};
-use camera_workers::{Gate, run_workers};
-use digest_memory::DigestMemory;
 use fill_jobs::Hands;
 use io_edge::Sink;
+use picture_stages::DigestMemory;
 use run_model::a_complete_run_keeps_the_laws;
 use settle::{Service, close, settle};
-use shared_camera::{CamSeat, Shared, no_job_is_out_of_an_idle_root};
+use shared_camera::{CamSeat, Gate, Shared, no_job_is_out_of_an_idle_root, run_workers};
 use std::sync::Wait;
 use std::thread::Threads;
 use std::time::Clock;
@@ -62,6 +64,15 @@ pub fn scrap_shared(shared: Shared, root: CamSeat)
     close(service, Hands::new());
 }
 
+/// Writes the trace of a service. It takes no memory.
+fn write_trace_of<K: Sink>(writer: &mut TraceWriter, service: &Service, sink: &mut K) -> Status
+    ensures { Answers 0 (spelling writer.old (reverse (trace_of service.now.history))) (status_number result)
+        (K.state sink.old) (K.state sink.new) }
+{
+    service.is_a_run();
+    write_trace(writer, service.trace(), sink)
+}
+
 /// Makes the steps that are left of a service of which no job is out, and writes its trace.
 fn settle_and_write<K: Sink>(mut service: Service, writer: &mut TraceWriter, sink: &mut K) -> Status
     requires { AreOut service.script service.history [] }
@@ -72,7 +83,7 @@ fn settle_and_write<K: Sink>(mut service: Service, writer: &mut TraceWriter, sin
     let mut hands = Hands::new();
     settle(&mut service, &mut hands);
     service.is_a_run();
-    let status = write_trace(writer, &service, sink);
+    let status = write_trace_of(writer, &service, sink);
     close(service, hands);
     status
 }

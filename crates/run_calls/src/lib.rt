@@ -8,6 +8,6 @@
 mod finish;
 mod runner;
 
-pub use camera_workers::{Gate, OpenGate};
 pub use finish::{finish_run, scrap_shared};
 pub use runner::{PreparedRun, prepare_run, run_call, run_prepared};
+pub use shared_camera::{Gate, OpenGate};

@@ -5,21 +5,20 @@ ghost use Rattle.call_parts.specs.Answers.{AreAnswers, OnDone, Tells, TellsBy};
 ghost use Rattle.call_parts.specs.Ends.{KeepsEnds};
 ghost use Rattle.run_calls.specs.Finished.{FinishesAs};
 ghost use Rattle.run_calls.specs.Running.{IsRunWhole, Runs, SaysOfRun};
-ghost use Rattle.judge_text.specs.Lines.{refused_script_text};
+ghost use Rattle.call_parts.specs.Lines.{refused_script_text};
 ghost use Rattle.call_parts.specs.Texts.{named_profile};
 ghost use Rattle.call_parts.specs.Status.{status_number};
 
 use crate::finish::finish_run;
 use call_parts::{Status, named_profile, refuse_script};
 use cam_types::{NoMemory, SCRIPT_BYTES, Script};
-use camera_workers::Gate;
-use digest_memory::DigestMemory;
 use fill_jobs::Hands;
 use io_edge::{ReadBytes, ReadFault, Sink, Source, read_all};
+use picture_stages::DigestMemory;
 use run_model::early_bound;
 use service_parts::no_job_is_out_at_first;
 use settle::{Service, close};
-use shared_camera::{CamSeat, Shared};
+use shared_camera::{CamSeat, Gate, Shared};
 use std::alloc::{AllocError, Global};
 use std::marker::Model;
 use std::sync::Wait;
@@ -43,7 +42,7 @@ impl Model for PreparedRun {
     ghost use Rattle.turn_lock.specs.Lending.{IsIdle};
     ghost use Rattle.turn_lock.specs.Seats.{fixed_of, view as view_of};
     ghost use Rattle.shared_camera.specs.Cameras.{script_of};
-    ghost use Rattle.judge_text.specs.Lines.{refused_script_text};
+    ghost use Rattle.call_parts.specs.Lines.{refused_script_text};
     ghost use Rattle.call_parts.specs.Texts.{named_profile};
 
     ghost Value = { AScript };

@@ -14,14 +14,14 @@ use Rattle.cam_types.specs.declared.script.Command.TheVariants as command
 use Rattle.cam_types.specs.declared.script.Fault.{Fault}
 use Rattle.cam_types.specs.declared.script.Script.{Script}
 use Rattle.cam_types.specs.Script.{awaited_by, is_closing_command}
-use Rattle.script_spelling.proofs.Fitting.{targets_fit, item_fits, settings_fit, spec_fits, command_fits, script-both}
-use Rattle.script_spelling.specs.Fits.{fault_typed, fits}
+use Rattle.script_text.proofs.Fitting.{targets_fit, item_fits, settings_fit, spec_fits, command_fits, script-both}
+use Rattle.script_text.specs.Fits.{fault_typed, fits}
 use Rattle.text_parts.specs.Lines.{lines_of}
 use Rattle.text_parts.specs.LineReading.{is_printable, is_comment, text_limit}
 use Rattle.script_text.specs.Lines.{Line, FaultLine, EarlyLine, DeviceLine, PickLine, CommandLine, line_of}
 use Rattle.script_text.specs.Within.{item_within, within}
 use Rattle.script_text.specs.Grammar.{closed, Begun, begun, empty, plain_profile, counts_within, added, after_words, after, script_from, script_of}
-use Rattle.script_spelling.specs.Spelling.{arguments_of, command_line_words, device_lines, early_lines, fault_arguments, fault_words, pick_lines, text_of, version_words}
+use Rattle.script_text.specs.Spelling.{arguments_of, command_line_words, device_lines, early_lines, fault_arguments, fault_words, pick_lines, text_of, version_words}
 use Rattle.basic_lemmas.proofs.Lists.{all-where}
 use Rattle.basic_lemmas.proofs.Tests.{chosen}
 use Rattle.text_parts.specs.CommandWords.{word_of, word_text}

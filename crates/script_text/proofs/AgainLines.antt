@@ -10,14 +10,14 @@ use Rattle.cam_types.specs.declared.script.Fault.{Fault}
 use Rattle.cam_types.specs.declared.script.Fault.TheVariants as fault
 use Rattle.cam_types.specs.declared.script.Word.{Word}
 use Rattle.cam_types.specs.declared.script.Word.TheVariants.{Configure, Once, Burst, Repeat, Stop, Wait, Await, Flush, Close, Disconnect}
-use Rattle.script_spelling.proofs.Fitting.{item_fits, spec_fits, command_fits}
-use Rattle.script_spelling.specs.Fits.{fault_typed}
+use Rattle.script_text.proofs.Fitting.{item_fits, spec_fits, command_fits}
+use Rattle.script_text.specs.Fits.{fault_typed}
 use Rattle.text_parts.specs.LineWords.{picks_of}
 use Rattle.script_text.specs.Values.{spec_of, item_of}
 use Rattle.text_parts.specs.Values.{number}
 use Rattle.script_text.specs.Lines.{FaultLine, PickLine, CommandLine, EarlyLine, DeviceLine, profile_number, raw_and_yuv, device_of, frame_and_stream, fault_of, command_of, other_line, line_of}
 use Rattle.text_parts.specs.LineReading.{is_comment}
-use Rattle.script_spelling.specs.Spelling.{spec_text, item_text, fault_arguments, fault_words, arguments_of, command_line_words}
+use Rattle.script_text.specs.Spelling.{spec_text, item_text, fault_arguments, fault_words, arguments_of, command_line_words}
 use Rattle.text_parts.specs.CommandWords.{word_of, word_text}
 use Rattle.text_parts.proofs.Texts.{word-again, a-word}
 use Rattle.cam_types.specs.declared.profile.Profile.{Profile}

@@ -12,11 +12,11 @@ use Rattle.cam_types.specs.declared.item.Targets.{Targets}
 use Rattle.cam_types.specs.declared.stream.Format.{Format}
 use Rattle.cam_types.specs.declared.stream.Format.TheVariants.{Raw16, Yuv, Other}
 use Rattle.cam_types.specs.declared.stream.StreamSpec.{StreamSpec}
-use Rattle.script_spelling.proofs.Fitting.{settings_fit, targets_fit, item_fits, format_fits, spec_fits}
+use Rattle.script_text.proofs.Fitting.{settings_fit, targets_fit, item_fits, format_fits, spec_fits}
 use Rattle.text_parts.specs.Numbers.{number_below}
 use Rattle.text_parts.specs.Values.{all_of, four_numbers}
 use Rattle.script_text.specs.Values.{format_of, side_of, stream_of, spec_of, settings_of, targets, joined_targets, targets_of, item_of}
-use Rattle.script_spelling.specs.Spelling.{settings_text, targets_text, item_text, format_text, spec_text}
+use Rattle.script_text.specs.Spelling.{settings_text, targets_text, item_text, format_text, spec_text}
 use Rattle.script_text.proofs.Valid.{is_byte}
 use Rattle.basic_lemmas.proofs.Lists.{all-where, all-taken}
 use Rattle.text_parts.specs.Words.{is_plain, is_word}

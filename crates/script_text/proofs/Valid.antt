@@ -10,7 +10,7 @@ use Rattle.cam_types.specs.declared.item.Settings.{Settings}
 use Rattle.cam_types.specs.declared.item.Targets.{Targets}
 use Rattle.cam_types.specs.declared.stream.Format.{Format}
 use Rattle.cam_types.specs.declared.stream.StreamSpec.{StreamSpec}
-use Rattle.script_spelling.proofs.Fitting.{settings_fit, targets_fit, item_fits, format_fits, spec_fits}
+use Rattle.script_text.proofs.Fitting.{settings_fit, targets_fit, item_fits, format_fits, spec_fits}
 use Rattle.text_parts.proofs.Spelled.{number-below}
 use Rattle.text_parts.specs.Numbers.{number_below}
 use Rattle.text_parts.specs.Cuts.{parts_at}

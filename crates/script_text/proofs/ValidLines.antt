@@ -16,8 +16,8 @@ use Rattle.cam_types.specs.declared.script.Word.{Word}
 use Rattle.cam_types.specs.declared.script.Word.TheVariants.{Configure, Once, Burst, Repeat, Stop, Wait, Await, Flush, Close, Disconnect}
 use Rattle.cam_types.specs.declared.stream.StreamSpec.{StreamSpec}
 use Rattle.cam_types.specs.Script.{is_closing_command, awaited_by}
-use Rattle.script_spelling.proofs.Fitting.{item_fits, spec_fits, command_fits, script_fits, script-both}
-use Rattle.script_spelling.specs.Fits.{fault_typed, fits}
+use Rattle.script_text.proofs.Fitting.{item_fits, spec_fits, command_fits, script_fits, script-both}
+use Rattle.script_text.specs.Fits.{fault_typed, fits}
 use Rattle.text_parts.specs.declared.cause.Cause.{Cause}
 use Rattle.text_parts.specs.declared.cause.Cause.TheVariants.{NotAscii, UnknownWord, Limit, FaultAfterCommand}
 use Rattle.text_parts.specs.declared.cause.TextRefused.{TextRefused}

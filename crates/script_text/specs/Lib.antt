@@ -1,4 +1,6 @@
-pub mod Values
-pub mod Lines
-pub mod Within
+pub mod Fits
 pub mod Grammar
+pub mod Lines
+pub mod Spelling
+pub mod Values
+pub mod Within

@@ -1,5 +1,5 @@
-//! Client scripts as text: what a text means as a script, and `read`, which finds it. The one spelling of a script is
-//! that of `script_spelling`; what is printed is read again as the same script.
+//! Client scripts as text: what a text means as a script, and `read`, which finds it; the one spelling of each script,
+//! and `print`, which writes it. What is printed is read again as the same script.
 #![tactic(auto)]
 
 mod draft;
@@ -9,6 +9,9 @@ mod line;
 mod list;
 mod printing;
 mod reading;
+mod spelled_line;
+mod spelled_value;
+mod spelling;
 mod stream;
 
 pub use laws::one_profile_is_plain;

@@ -2,10 +2,11 @@
 
 ghost use Rattle.std.specs.Prelude.{◌≡◌, ◌≤◌, Ok, length, IsTrue, IfOk};
 ghost use Rattle.cam_types.specs.Script.{is_valid};
-ghost use Rattle.script_spelling.specs.Spelling.{text_of};
+ghost use Rattle.script_text.specs.Spelling.{text_of};
 ghost use Rattle.text_parts.specs.LineReading.{text_limit};
 ghost use Rattle.script_text.specs.Grammar.{script_of};
 
+use crate::spelling;
 use cam_types::{NoMemory, Script};
 use std::alloc::Global;
 
@@ -16,6 +17,6 @@ pub fn print(alloc: Global, script: &Script) -> Result<Vec<u8>, NoMemory>
     ensures text { IfOk result (λ text. text.items ≡ text_of script.now) }
     ensures again { IfOk result (λ text. length text.items ≤ text_limit → script_of text.items ≡ Ok script.now) }
 {
-    let text = script_spelling::print(alloc, script)?;
+    let text = spelling::print(alloc, script)?;
     Ok(text)
 }

@@ -4,7 +4,7 @@ ghost use Rattle.std.specs.Prelude.{◌≡◌, ◌∷◌, IsTrue, IfOk};
 ghost use Rattle.std.specs.Option.{option_map};
 ghost use Rattle.cam_types.specs.Script.{is_valid};
 ghost use Rattle.text_parts.specs.CommandWords.{command_word};
-ghost use Rattle.script_spelling.specs.Fits.{fits};
+ghost use Rattle.script_text.specs.Fits.{fits};
 ghost use Rattle.text_parts.specs.Words.{loose_words};
 ghost use Rattle.script_text.specs.Lines.{command_line, device_line, early_line, line_of, other_line};
 ghost use Rattle.text_parts.specs.Reader.{GivesBy, Answers, refused};

@@ -37,7 +37,7 @@ use Rattle.device_rows.specs.Jobs.{fill_job, sensor_job}
 use Rattle.device_rows.specs.Jobs as device
 use Rattle.device_rows.specs.Ready.{if_exposed, may_expose as may_expose_row, shutter_row}
 use Rattle.device_rows.specs.Rows.{row_at}
-use Rattle.device_store.specs.Steps.{fill_job_for, fill_job_with}
+use Rattle.device_core.specs.Steps.{fill_job_for, fill_job_with}
 use Rattle.run_rows.specs.Entries.{shutter_entry}
 use Rattle.run_model.specs.Moves.{Moves, with_move}
 use Rattle.service_state.specs.Answers as step

@@ -25,7 +25,7 @@ use Rattle.trace_laws.proofs.Refusals.{refuses, refusal-refuses}
 use Rattle.trace_laws.proofs.ValidLemmas.{at-most, valid}
 use Rattle.state_facts.proofs.Served.{list-none, or-none}
 use Rattle.state_facts.specs.Turns.{turns}
-use Rattle.capture_queue.specs.Captures.{CanTake}
+use Rattle.client_calls.specs.Captures.{CanTake}
 use Rattle.basic_lemmas.proofs.Lists.{all-at}
 
 -- ---- no refusal held

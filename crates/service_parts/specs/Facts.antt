@@ -37,7 +37,7 @@ use Rattle.run_model.specs.Rows.{rows}
 use Rattle.run_model.specs.Run.{IsRun}
 use Rattle.state_facts.specs.Turns.{turns}
 use Rattle.state_facts.specs.Homes.{Homes, all_home, held_in, homes, late_in, place_in}
-use Rattle.capture_queue.specs.Captures.{CanTake}
+use Rattle.client_calls.specs.Captures.{CanTake}
 use Rattle.device_rows.specs.Kept as fences
 use Rattle.device_rows.specs.Rows.{target_in}
 use Rattle.run_rows.specs.Kept.{is_no_row}

@@ -12,8 +12,8 @@ use Rattle.buffer_manager.specs.Managed.{IsBufferAt}
 use Rattle.device_rows.specs.Ready.{is_early_ready}
 use Rattle.device_rows.specs.Rows.{target_in}
 use Rattle.std.specs.Option.{option_map}
-use Rattle.device_store.specs.Steps.{IsBackAt, ShowsAt}
-use Rattle.device_store.specs.Stored.{specs_of}
+use Rattle.device_core.specs.Steps.{IsBackAt, ShowsAt}
+use Rattle.device_core.specs.Stored.{specs_of}
 use Rattle.service_state.specs.Serving.{IsKept, IsServing, Serving}
 use Rattle.service_state.specs.declared.state.ServiceState.TheInside.{Inside}
 use Rattle.service_state.proofs.Fitting.{offered_left}

@@ -27,7 +27,7 @@ use Rattle.request_checks.proofs.Accepted.{few_specs}
 use Rattle.state_facts.specs.Homes as buffers
 use Rattle.state_facts.specs.Clients as client
 use Rattle.client_calls.specs.Around.{Fits}
-use Rattle.capture_queue.specs.Captures.{CanTake}
+use Rattle.client_calls.specs.Captures.{CanTake}
 use Rattle.state_facts.specs.Turns.{settings_next}
 use Rattle.state_facts.specs.States.{last_after}
 use Rattle.device_rows.specs.Rows.{all_stopped}
@@ -43,7 +43,7 @@ use Rattle.trace_model.specs.Reply.{made_for}
 use Rattle.trace_model.specs.Calls.{is_repeating, is_waiting_command, request_count}
 use Rattle.state_facts.specs.Clients.{Clients}
 use Rattle.state_facts.specs.Replies.{begin_with, call_with, may_answer_in, reply_in}
-use Rattle.capture_queue.specs.Room.{IsSubmitted}
+use Rattle.client_calls.specs.Room.{IsSubmitted}
 use Rattle.service_parts.specs.Parts.{kinds}
 use Rattle.std.proofs.lemmas.List.FromFn.{length-map-range_with_len}
 use Rattle.service_parts.proofs.AtRest.{configured_home, configured_rest}

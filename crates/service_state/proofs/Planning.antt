@@ -5,7 +5,7 @@ use Rattle.cam_types.specs.Four.{four_list}
 use Rattle.cam_types.specs.Picture.{is_offered}
 use Rattle.cam_types.specs.declared.profile.Profile.{Profile}
 use Rattle.cam_types.specs.declared.stream.StreamSpec.{StreamSpec}
-use Rattle.device_store.specs.Stored.{spec_of, specs_of}
+use Rattle.device_core.specs.Stored.{spec_of, specs_of}
 use Rattle.request_checks.specs.Plan.{plan_of, plan_stream}
 use Rattle.request_checks.specs.declared.plan.Plan.{Plan}
 use Rattle.request_checks.proofs.InOrder.{in-order}

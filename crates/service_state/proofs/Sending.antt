@@ -29,7 +29,7 @@ use Rattle.cam_types.specs.declared.stream.StreamSpec.{StreamSpec}
 use Rattle.buffer_pool.specs.declared.parked.Parked.{Parked}
 use Rattle.state_facts.specs.Homes.{least_in, put_all}
 use Rattle.buffer_manager.specs.Taking.{AreTaken, IsTakenAt, IsTakenFor, least_targets_in, target_with_fence}
-use Rattle.device_store.specs.Stored.{AreParked, IsParkedAt, IsParkedIn}
+use Rattle.device_core.specs.Stored.{AreParked, IsParkedAt, IsParkedIn}
 use Rattle.trace_model.specs.Send.{with_target}
 use Rattle.state_facts.specs.States.{target_in}
 use Rattle.run_rows.specs.Kept.{IsSound, are_below}

@@ -6,7 +6,7 @@ use Rattle.std.proofs.lemmas.Bool.{and_from, and_parts}
 use Rattle.std.proofs.lemmas.Bool.Decides.{nat_tests}
 use Rattle.cam_types.specs.Shown.{Shown}
 use Rattle.cam_types.specs.Picture.{is_offered, picture as picture_for}
-use Rattle.device_store.proofs.Outs.{picture-buffer}
+use Rattle.device_core.proofs.Outs.{picture-buffer}
 use Rattle.cam_types.specs.Four.{four_list}
 use Rattle.cam_types.specs.declared.number.FenceNo.{FenceNo}
 use Rattle.cam_types.specs.declared.row.RowView.{RowView}
@@ -21,7 +21,7 @@ use Rattle.trace_model.specs.Picture.{digest, digest_on}
 use Rattle.device_rows.specs.Kept.{has_made_fence, have_made_fences, is_made}
 use Rattle.device_rows.specs.Ready.{is_passed, is_same_state}
 use Rattle.device_rows.specs.Rows.{row_at, target_at, target_in}
-use Rattle.device_store.specs.Steps.{IsBackAt, IsBackRow, IsBackTarget, ShowsAt, ShowsRow, ShowsTarget, waiter_kept, waiter_left}
+use Rattle.device_core.specs.Steps.{IsBackAt, IsBackRow, IsBackTarget, ShowsAt, ShowsRow, ShowsTarget, waiter_kept, waiter_left}
 use Rattle.run_rows.specs.Entries.{failed_fence}
 use Rattle.run_rows.specs.Kept.{has_given_fences}
 use Rattle.service_parts.specs.Moves.{settings_at}

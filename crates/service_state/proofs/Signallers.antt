@@ -8,7 +8,7 @@ use Rattle.state_facts.specs.Clients.{Clients}
 use Rattle.buffer_manager.specs.Managed.{Managed}
 use Rattle.buffer_pool.specs.Fences.{FencesMade}
 use Rattle.buffer_pool.specs.Pending.{Pending, are_below, stands, without}
-use Rattle.capture_queue.specs.Captures.{Captures}
+use Rattle.client_calls.specs.Captures.{Captures}
 use Rattle.device_core.specs.View.{DeviceView}
 use Rattle.service_state.specs.Serving.{IsKept, unsignalled}
 

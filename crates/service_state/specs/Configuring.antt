@@ -12,7 +12,7 @@ use Rattle.cam_types.specs.declared.script.Command.TheVariants.{Configure}
 use Rattle.cam_types.specs.declared.script.Word.{Word}
 use Rattle.trace_model.specs.Calls.{word_of}
 use Rattle.state_facts.specs.Turns.{Turns}
-use Rattle.capture_queue.specs.Captures.{CanTake}
+use Rattle.client_calls.specs.Captures.{CanTake}
 
 -- A command that begins, or is answered.
 

@@ -9,10 +9,10 @@ use Rattle.run_model.specs.Run.{IsRun}
 use Rattle.state_facts.specs.Clients.{Clients}
 use Rattle.buffer_pool.specs.Fences.{FencesMade}
 use Rattle.buffer_pool.specs.Pending.{Pending}
-use Rattle.capture_queue.specs.Captures.{Captures}
+use Rattle.client_calls.specs.Captures.{Captures}
 use Rattle.buffer_manager.specs.Managed.{Managed, homes_with}
 use Rattle.device_core.specs.View.{DeviceView}
-use Rattle.device_store.specs.Stored.{specs_of}
+use Rattle.device_core.specs.Stored.{specs_of}
 use Rattle.cam_types.specs.declared.row.RowView.{RowView}
 use Rattle.device_rows.specs.Ready.{is_retire_ready}
 use Rattle.device_rows.specs.Rows.{without}

@@ -10,8 +10,7 @@ ghost use Rattle.service_state.specs.Serving.{left};
 
 use crate::state::ServiceState;
 use cam_types::{FrameNo, Script};
-use capture_queue::CaptureQueue;
-use client_calls::ClientCalls;
+use client_calls::{CaptureQueue, ClientCalls};
 use device_core::Device;
 use trace_model::Entry;
 

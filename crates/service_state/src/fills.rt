@@ -3,7 +3,7 @@ ghost use Rattle.std.specs.Prelude.{◌≡◌, IfSome, None, Some, is_some};
 ghost use Rattle.run_model.specs.declared.step.StepName.TheVariants.{FillDone, TakeFill};
 ghost use Rattle.device_rows.specs.Jobs.{IsFillJobOut};
 ghost use Rattle.device_rows.specs.Rows.{row_at};
-ghost use Rattle.device_store.specs.Steps.{fill_job_for};
+ghost use Rattle.device_core.specs.Steps.{fill_job_for};
 ghost use Rattle.service_state.specs.Answers.{AnswersSilently, Makes, move_with};
 ghost use Rattle.service_state.specs.Serving.{IsServing};
 

@@ -10,7 +10,7 @@ ghost use Rattle.run_rows.specs.Changes.{fresh_row, fresh_target};
 ghost use Rattle.state_facts.specs.States.{has_room_in};
 ghost use Rattle.device_core.specs.View.{with_rows};
 ghost use Rattle.device_rows.specs.Kept.{is_fresh, rise_from};
-ghost use Rattle.device_store.specs.Stored.{AreParked, are_before, is_some_target, specs_of};
+ghost use Rattle.device_core.specs.Stored.{AreParked, are_before, is_some_target, specs_of};
 ghost use Rattle.service_parts.specs.Moves.{may_go_by};
 ghost use Rattle.service_parts.specs.Parts.{base};
 ghost use Rattle.service_state.specs.Answers.{Answers};

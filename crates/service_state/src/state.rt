@@ -7,8 +7,7 @@ ghost use Rattle.service_parts.specs.After.{is_over};
 use buffer_manager::BufferManager;
 use buffer_pool::{Fences, PendingSignals};
 use cam_types::{Script, Settings};
-use capture_queue::CaptureQueue;
-use client_calls::ClientCalls;
+use client_calls::{CaptureQueue, ClientCalls};
 use device_core::Device;
 use std::marker::Model;
 

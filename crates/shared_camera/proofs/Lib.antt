@@ -1,7 +1,7 @@
-pub mod Lists
-pub mod Outs
 pub mod Firsts
-pub mod Making
-pub mod Turning
+pub mod IdleRoots
 pub mod LentSeats
-pub mod Idle
+pub mod Lists
+pub mod Making
+pub mod Outs
+pub mod Turning

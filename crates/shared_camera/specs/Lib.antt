@@ -1,5 +1,5 @@
-pub mod JobsOut
 pub mod Cameras
 pub mod Choices
-pub mod Turns
+pub mod JobsOut
 pub mod Moves
+pub mod Turns

@@ -13,7 +13,7 @@ pub fn the_jobs_that_are_out()
 {}
 
 /// Where a root has no job as its camera is closed, no job of the service is out: what `settle`, `play` and `close` of
-/// `settle` ask of a service with empty hands. A root that `run_workers` of `camera_workers` leaves has none.
+/// `settle` ask of a service with empty hands. A root that `run_workers` leaves has none.
 pub fn no_job_is_out_of_an_idle_root()
     ensures { (script : SomeScript) (h : List SomeMove) → IsRun script h → IsPermutation (jobs_out script h) []
         → AreOut script h [] }

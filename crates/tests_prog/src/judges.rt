@@ -8,7 +8,7 @@ mod changed;
 use crate::failure::NotTried;
 use crate::input_of;
 use agreement::{Places, judge_all};
-use judge_text::parts_of;
+use call_parts::parts_of;
 use trace_reader::TRACE_BYTES;
 
 /// Judges the trace of the standard input at the places that the words name, and tells whether both judges always said

@@ -5,11 +5,11 @@ use Rattle.hal_call.specs.Judging.{IsUnbroken, Judges}
 use Rattle.hal_call.specs.declared.form.Form.{Form}
 use Rattle.hal_call.specs.declared.form.Form.TheVariants.{Person, Plain}
 use Rattle.hal_call.specs.Shown.{IsShown as IsHalLog, Shows as ShowsHalLog}
-use Rattle.candidates_call.specs.Says.{IsWhole as IsMoves, Says as SaysMoves}
+use Rattle.run_views.specs.Says.{IsWhole as IsMoves, Says as SaysMoves}
 use Rattle.explain_call.specs.Explaining.{Explains, IsExplainedLegal}
-use Rattle.timeline_call.specs.Shown.{IsShown as IsTimeline, Shows as ShowsTimeline}
-use Rattle.timeline_call.specs.declared.form.Form.{Form as Drawing}
-use Rattle.timeline_call.specs.declared.form.Form.TheVariants.{Perfetto, Svg}
+use Rattle.run_views.specs.Shown.{IsShown as IsTimeline, Shows as ShowsTimeline}
+use Rattle.run_views.specs.declared.form.Form.{Form as Drawing}
+use Rattle.run_views.specs.declared.form.Form.TheVariants.{Perfetto, Svg}
 use Rattle.video_call.specs.Shows.{IsShown as IsFilm, Shows as ShowsFilm}
 use Rattle.video_call.specs.declared.wanted.Wanted.{Wanted}
 use Rattle.video_call.specs.declared.wanted.Wanted.TheVariants.{Film, Picture as OnePicture}

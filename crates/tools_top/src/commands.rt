@@ -13,12 +13,11 @@ ghost use Rattle.call_parts.specs.Status.{status_number};
 use crate::{Tool, tool_of};
 use call_parts::{Status, answer};
 use cam_types::{FrameNo, StreamIx};
-use candidates_call::candidates_call;
 use explain_call::explain_call;
 use hal_call::{Form, hal_call, hal_of_call};
 use io_edge::{Sink, Source};
+use run_views::{Form as Drawing, candidates_call, timeline_call};
 use std::alloc::Global;
-use timeline_call::{Form as Drawing, timeline_call};
 use video_call::{picture_call, video_call};
 
 /// The line of words that ask for no tool.

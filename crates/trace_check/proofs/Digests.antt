@@ -9,7 +9,7 @@ use Rattle.trace_model.specs.declared.entry.Entry.{Entry}
 use Rattle.trace_model.specs.Configuration.{streams}
 use Rattle.trace_model.specs.Frames.{settings_of}
 use Rattle.trace_model.specs.Picture.{digest_of, digest_on}
-use Rattle.judge_due.proofs.Dark.{digest-picture}
+use Rattle.trace_check.proofs.Dark.{digest-picture}
 
 abbrev pub dark : Settings
 dark = record { pattern = 0; level = 0; exposure = 100000; iso = 100 }

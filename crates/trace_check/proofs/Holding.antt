@@ -50,7 +50,7 @@ use Rattle.service_parts.proofs.Room.{requests_fit}
 use Rattle.service_parts.proofs.Taken.{call_taken}
 use Rattle.judge_rows.specs.Views.{are_free, is_free, is_none_given}
 use Rattle.judge_rows.specs.Judged.{CanCapture, CanNote, CanTakeAt, Judged, TakesOne}
-use Rattle.judge_due.specs.Drawing.{CanDraw, is_drawable}
+use Rattle.trace_check.specs.Drawing.{CanDraw, is_drawable}
 use Rattle.trace_check.specs.Held.{held, missing_in}
 use Rattle.trace_model.specs.Verdict.{first_missing}
 use Rattle.trace_check.proofs.Accepted.{answered, few-streams, frame-in-range, streams-offered}

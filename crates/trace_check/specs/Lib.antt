@@ -1,3 +1,3 @@
-pub mod Kinds
-pub mod Released
+pub mod Drawing
 pub mod Held
+pub mod Released

@@ -1,19 +1,20 @@
 //! Whether an entry is allowed after the entries before it.
 ghost use Rattle.std.specs.Prelude.{◌≡◌, ◌↔◌, false, reverse, IsTrue};
-ghost use Rattle.trace_check.specs.Kinds.{has_digest};
+ghost use Rattle.trace_check.specs.Drawing.{has_digest};
 ghost use Rattle.trace_model.specs.Allowed.{IsAllowed};
 ghost use Rattle.trace_model.specs.Legal.{IsLegal};
 
-use crate::filled::{Fill, is_filled_due, is_late_due};
+use crate::filled::{is_filled_due, is_late_due};
+use crate::pictures::Fill;
 use cam_types::Script;
-use digest_memory::Canvas;
-use judge_calls::answer::is_call_due;
-use judge_calls::rule::is_send_due;
+use judge_rules::answer::is_call_due;
+use judge_rules::call_rule::is_send_due;
 use judge_rules::rule::{
     is_begin_due, is_dropped_due, is_early_due, is_error_buffer_due, is_error_device_due,
     is_error_request_due, is_error_result_due, is_failed_due, is_partial_due, is_release_due,
     is_shutter_due, is_signal_due,
 };
+use picture_stages::Canvas;
 use trace_model::Entry;
 
 /// Whether the entry, if it is one without a digest, is due.

@@ -9,32 +9,13 @@ ghost use Rattle.trace_model.specs.Frames.{settings_of};
 ghost use Rattle.trace_model.specs.Legal.{IsLegal};
 ghost use Rattle.trace_model.specs.Picture.{digest_of};
 
-use cam_types::{
-    BufferId, DeviceFenceNo, FenceNo, FrameNo, Script, Settings, StreamIx, StreamSpec,
-};
-use digest_memory::Canvas;
+use crate::pictures::{DARK, Fill, is_same_digest};
+use cam_types::{DeviceFenceNo, FrameNo, Script, Settings, StreamIx, StreamSpec};
 use judge_filters::configuration::streams;
 use judge_filters::frame::item_of;
 use judge_rules::rule::{is_fill_due, late_due};
+use picture_stages::Canvas;
 use trace_model::Entry;
-
-/// A buffer that came back with its picture, as its entry says.
-#[derive(Clone, Copy)]
-pub struct Fill {
-    pub frame: FrameNo,
-    pub stream: StreamIx,
-    pub buffer: BufferId,
-    pub fence: Option<FenceNo>,
-    pub digest: [u8; 32],
-}
-
-/// The settings of a frame of which no item is known: they give the dark picture, as settings of zeros would.
-const DARK: Settings = Settings {
-    pattern: 0,
-    level: 0,
-    exposure: 100_000,
-    iso: 100,
-};
 
 /// The stream at the place.
 fn stream_at(script: &Script, entries: &[Entry], stream: StreamIx) -> Option<StreamSpec>
@@ -54,13 +35,6 @@ fn settings_to_draw(script: &Script, entries: &[Entry], frame: FrameNo) -> Setti
         Some(item) => item.settings,
         None => DARK,
     }
-}
-
-/// Whether two digests are the same.
-fn is_same_digest(a: [u8; 32], b: [u8; 32]) -> bool
-    ensures { IsTrue result ↔ (a ≡ b) }
-{
-    a == b
 }
 
 /// Whether the digest is that of the frame's picture for the stream.

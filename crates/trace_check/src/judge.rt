@@ -9,7 +9,7 @@ use crate::missing::first_missing;
 use crate::passing::check_once;
 use crate::rule::rule_of;
 use cam_types::{NoMemory, Script};
-use digest_memory::Canvas;
+use picture_stages::Canvas;
 use run_model::a_complete_run_keeps_the_laws;
 use std::alloc::Global;
 use trace_model::{Entry, TraceList, Verdict};

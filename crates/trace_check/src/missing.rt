@@ -7,11 +7,11 @@ ghost use Rattle.trace_check.specs.Released.{on_release};
 ghost use Rattle.trace_model.specs.Verdict.{first_missing};
 
 use cam_types::Script;
-use judge_calls::over::is_queue_empty;
-use judge_calls::pool::all_in_pool;
 use judge_entries::number::call_count;
 use judge_filters::fence::is_signalled;
 use judge_filters::open::is_quiet;
+use judge_rules::over::is_queue_empty;
+use judge_rules::pool::all_in_pool;
 use trace_model::{Entry, MissingPart};
 
 /// Whether every command of the script was called.

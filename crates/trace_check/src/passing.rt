@@ -8,11 +8,11 @@ ghost use Rattle.trace_model.specs.Legal.{IsLegal};
 ghost use Rattle.trace_check.specs.Held.{held, missing_in};
 ghost use Rattle.trace_model.specs.Verdict.{IsVerdict, first_missing};
 
+use crate::is_due;
 use crate::rule::rule_of;
 use cam_types::{NoMemory, Script};
-use digest_memory::PictureDigests;
-use judge_due::is_due;
 use judge_rows::JudgeTables;
+use picture_stages::PictureDigests;
 use std::alloc::Global;
 use trace_laws::every_script_is_typed;
 use trace_model::{Entry, MissingPart, TraceList, Verdict};

@@ -18,8 +18,8 @@ use Rattle.hex.specs.Hex.{IsBytes}
 use Rattle.metadata.specs.Reading.{list_of}
 use Rattle.metadata.specs.Spelling.{bytes_of}
 use Rattle.metadata.proofs.Whole.{all_again}
-use Rattle.metadata_rules.specs.Parts.{part_entries, part_in}
-use Rattle.metadata_rules.proofs.Parts.{part_packed, part_numbers, part_again}
+use Rattle.metadata.specs.Parts.{part_entries, part_in}
+use Rattle.metadata.proofs.Parts.{part_packed, part_numbers, part_again}
 use Rattle.trace_model.specs.Printable.{is_small, is_byte, fence_fits, is_filled, sent_fits, made_fits, reply_fits, part_fits, is_digest, is_printable}
 use Rattle.trace_model.specs.declared.entry.Entry.{Entry}
 use Rattle.trace_model.specs.declared.entry.Entry.TheVariants.{Begin, Call, Send, Dropped, Shutter, Partial, Filled, Failed, ErrorRequest, ErrorResult, ErrorBuffer, ErrorDevice, Release, Signal, Early, Late}

@@ -13,9 +13,9 @@ use Rattle.metadata.specs.Entries.{values_at, IsPacked, NumbersFit}
 use Rattle.metadata.specs.Reading.{list_of}
 use Rattle.metadata.specs.Spelling.{bytes_of}
 use Rattle.metadata.proofs.Whole.{all_takes}
-use Rattle.metadata_rules.specs.Numbers.{one_byte, one_int32, one_int64}
-use Rattle.metadata_rules.specs.Parts.{◌>>=◌, part_entries, part_in, look_in, light_in, time_in}
-use Rattle.metadata_rules.proofs.Parts.{byte_is, int32_is, int64_is, one_entry, two_entries}
+use Rattle.metadata.specs.Numbers.{one_byte, one_int32, one_int64}
+use Rattle.metadata.specs.Parts.{◌>>=◌, part_entries, part_in, look_in, light_in, time_in}
+use Rattle.metadata.proofs.Parts.{byte_is, int32_is, int64_is, one_entry, two_entries}
 use Rattle.trace_model.specs.Printable.{part_fits}
 use Rattle.trace_reader.specs.Lines.{part_from, metadata_is, metadata}
 use Rattle.basic_lemmas.proofs.Tests.{chosen, given-where}

@@ -12,7 +12,7 @@ use Rattle.metadata.specs.declared.values.Values.{Values}
 use Rattle.metadata.specs.declared.values.Values.TheVariants.{Bytes, Int32, Int64}
 use Rattle.metadata.specs.Values.{type_number, type_of, count_of, payload, int32_bytes, int64_bytes}
 use Rattle.metadata.specs.Spelling.{u32_bytes, rounded, filled, is_short, data_of, field_of, entry_bytes, entries_bytes, data_area, bytes_of}
-use Rattle.metadata_rules.specs.Parts.{part_entries}
+use Rattle.metadata.specs.Parts.{part_entries}
 use Rattle.trace_model.specs.Printable.{is_byte, part_fits}
 
 abbrev Bytes-alone : List ℕ → Type 0

@@ -21,7 +21,7 @@ use Rattle.cam_types.specs.declared.script.Word.TheVariants.{Configure, Once, Bu
 use Rattle.hex.specs.Hex.{IsBytes, encode_lower, lower_digits}
 use Rattle.hex.proofs.HexLemmas.{length-encode_with}
 use Rattle.metadata.specs.Spelling.{bytes_of}
-use Rattle.metadata_rules.specs.Parts.{part_entries}
+use Rattle.metadata.specs.Parts.{part_entries}
 use Rattle.trace_model.specs.Printable.{is_small, is_byte, fence_fits, number_fits, is_filled, sent_fits, made_fits, reply_fits, part_fits, is_digest, is_printable}
 use Rattle.trace_model.specs.declared.entry.Entry.{Entry}
 use Rattle.trace_model.specs.declared.entry.Entry.TheVariants.{Begin, Call, Send, Dropped, Shutter, Partial, Filled, Failed, ErrorRequest, ErrorResult, ErrorBuffer, ErrorDevice, Release, Signal, Early, Late}

@@ -9,7 +9,7 @@ use Rattle.cam_types.specs.declared.profile.Profile.{Profile}
 use Rattle.cam_types.specs.declared.reply.Reply.{Reply}
 use Rattle.cam_types.specs.declared.reply.Reply.TheVariants as reply
 use Rattle.cam_types.specs.declared.script.Word.{Word}
-use Rattle.metadata_rules.specs.Parts.{part_in}
+use Rattle.metadata.specs.Parts.{part_in}
 use Rattle.metadata.specs.Reading.{list_of}
 use Rattle.metadata.specs.declared.entry.Entry.{Entry as MetaEntry}
 use Rattle.metadata.specs.declared.refused.PackedRefused.{PackedRefused}

@@ -11,7 +11,7 @@ use Rattle.cam_types.specs.declared.reply.Made.{Made}
 use Rattle.cam_types.specs.declared.reply.Reply.{Reply}
 use Rattle.cam_types.specs.declared.reply.Reply.TheVariants.{Ok, Submitted, Configured, Refused}
 use Rattle.hex.specs.Hex.{encode_lower}
-use Rattle.metadata_rules.specs.Parts.{part_entries}
+use Rattle.metadata.specs.Parts.{part_entries}
 use Rattle.metadata.specs.Spelling.{bytes_of}
 use Rattle.text_parts.specs.Lines.{line_text}
 use Rattle.trace_model.specs.declared.entry.Entry.{Entry}

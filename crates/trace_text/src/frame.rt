@@ -2,7 +2,7 @@
 
 ghost use Rattle.std.specs.Prelude.{◌≡◌, ◌≤◌, ◌+◌, ◌++◌, ◌∷◌, length, map, option_to_list};
 ghost use Rattle.cam_types.specs.Four.{four_list};
-ghost use Rattle.metadata_rules.specs.Parts.{PartFits};
+ghost use Rattle.metadata.specs.Parts.{PartFits};
 ghost use Rattle.text_parts.specs.Lines.{line_text};
 ghost use Rattle.trace_text.specs.Spelling.{behind_spaces, sent_text, part_text, mark_text, place_text, entry_words};
 
@@ -11,7 +11,7 @@ use cam_types::{
     BufferId, DeviceFenceNo, FenceNo, Four, FrameNo, PartialResult, RequestId, StreamIx,
 };
 use io_edge::{ROOM, Room};
-use metadata_rules::part_bytes;
+use metadata::part_bytes;
 use trace_model::{Entry, Sent};
 
 /// Writes a target behind a space, if there is one.

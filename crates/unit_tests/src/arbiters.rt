@@ -1,11 +1,11 @@
 //! Two threads share an arbiter: each client has a camera of its own, and no line of the log is lost.
 ghost use Rattle.std.specs.Prelude.{◌≡◌, IsTrue};
-ghost use Rattle.camera_arbiter.specs.Ranges.{is_session};
-ghost use Rattle.camera_arbiter.specs.Turns.{cameras_of};
+ghost use Rattle.arbiter_call.specs.Ranges.{is_session};
+ghost use Rattle.arbiter_call.specs.Turns.{cameras_of};
 ghost use Rattle.turn_lock.specs.Lending.{IsDone, IsIdle};
 ghost use Rattle.turn_lock.specs.Seats.{fixed_of, view};
 
-use camera_arbiter::{
+use arbiter_call::{
     Answer, Arbiter, ArbiterLine, CameraId, ClientId, LogLine, Session, answer_turn,
 };
 use std::alloc::Global;

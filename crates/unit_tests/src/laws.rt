@@ -1,8 +1,8 @@
 //! A law on the templates: a function that does nothing, and whose contract says it.
 
 ghost use Rattle.std.specs.Prelude.{◌≡◌};
-ghost use Rattle.metadata_rules.specs.declared.rule.Template.TheVariants.{Preview, Still};
-ghost use Rattle.metadata_rules.specs.Templates.{template_of};
+ghost use Rattle.metadata.specs.declared.rule.Template.TheVariants.{Preview, Still};
+ghost use Rattle.metadata.specs.Templates.{template_of};
 ghost use Rattle.script_text.specs.Values.{preview, still};
 
 /// The settings that `preview` and `still` stand for in the text of a script are those of the templates.

@@ -1,7 +1,6 @@
 //! Worked bytes of packed metadata, and each refusal of bytes.
 use cam_types::Settings;
-use metadata::{Packed, PackedRefused, Ratio, Values};
-use metadata_rules::{SettingsRefused, packed_of, settings_of};
+use metadata::{Packed, PackedRefused, Ratio, SettingsRefused, Values, packed_of, settings_of};
 use std::test::Fail;
 
 /// Two entries: the byte 0 under 0x80000000, and the INT32 100 under 0x80000001.

@@ -1,6 +1,6 @@
 //! Worked digests, and which pictures are remembered: the ramp's by the frame modulo 256, the bars' by no frame.
 use cam_types::{Format, FrameNo, Settings, StreamSpec};
-use digest_memory::{PictureDigests, REMEMBERED_LIMIT};
+use picture_stages::{PictureDigests, REMEMBERED_LIMIT};
 use std::test::Fail;
 
 const YUV: StreamSpec = StreamSpec {

@@ -1,5 +1,5 @@
 //! The one spelling of scripts that are read, and of those that seeds generate.
-use generated_scripts::generate;
+use play_calls::generate;
 use script_text::{print, read};
 use std::test::Fail;
 

@@ -17,8 +17,8 @@ use Rattle.cam_types.specs.declared.stream.StreamSpec.{StreamSpec}
 use Rattle.judge_rules.specs.Fills.{early_in}
 use Rattle.run_rows.proofs.Ranges.{sent-range}
 use Rattle.service_state.proofs.Fitting.{offered_streams}
-use Rattle.stream_film.specs.Film.{brought, film, shot_for, shot_on}
-use Rattle.stream_film.specs.declared.shot.Shot.{Shot}
+use Rattle.video_call.specs.Film.{brought, film, shot_for, shot_on}
+use Rattle.video_call.specs.declared.shot.Shot.{Shot}
 use Rattle.trace_laws.proofs.Shapes.{filled-is, late-is}
 use Rattle.trace_model.specs.declared.entry.Entry.{Entry}
 use Rattle.trace_model.specs.declared.entry.Entry.TheVariants.{Begin, Call, Send, Dropped, Shutter, Partial, Filled, Failed, ErrorRequest, ErrorResult, ErrorBuffer, ErrorDevice, Release, Signal, Early, Late}

@@ -6,10 +6,10 @@ use Rattle.std.proofs.lemmas.Bool.{and_parts, cases_Bool}
 use Rattle.std.proofs.lemmas.List.{reverse-reverse}
 use Rattle.std.specs.declared.alloc.AllocError.{AllocError}
 use Rattle.cam_types.specs.declared.script.Script.{Script}
-use Rattle.stream_film.specs.Choice.{alike_or_none, cause_of, has_stream, is_alike, or_cause}
-use Rattle.stream_film.specs.Film.{film}
-use Rattle.stream_film.specs.declared.choice.NoFilm.{NoFilm}
-use Rattle.stream_film.specs.declared.shot.Shot.{Shot}
+use Rattle.video_call.specs.Choice.{alike_or_none, cause_of, has_stream, is_alike, or_cause}
+use Rattle.video_call.specs.Film.{film}
+use Rattle.video_call.specs.declared.choice.NoFilm.{NoFilm}
+use Rattle.video_call.specs.declared.shot.Shot.{Shot}
 use Rattle.trace_model.specs.declared.entry.Entry.{Entry}
 use Rattle.trace_model.specs.Legal.{IsLegal}
 use Rattle.video_call.specs.Chosen.{IsChosenOf, can_draw, chosen_file}

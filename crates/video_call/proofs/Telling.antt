@@ -4,7 +4,7 @@ use Rattle.io_edge.specs.States.{SinkState}
 use Rattle.call_parts.specs.Answers.{AreAnswers, TellsBy}
 use Rattle.cam_types.specs.declared.script.Script.{Script}
 use Rattle.run_model.specs.History.{trace_of}
-use Rattle.stream_film.specs.declared.choice.NoFilm.{NoFilm}
+use Rattle.video_call.specs.declared.choice.NoFilm.{NoFilm}
 use Rattle.video_call.specs.Chosen.{IsOfRun, chosen_file}
 use Rattle.video_call.specs.Shows.{ShowsFile, ShowsRun, file_of}
 use Rattle.video_call.specs.declared.chosen.Chosen.{Chosen}

@@ -9,8 +9,8 @@ use Rattle.std.proofs.lemmas.List.{flat_map_more, take-append-le, take_more}
 use Rattle.std.specs.List.{flat_map}
 use Rattle.io_edge.specs.States.{Breaks, SinkState, Writes}
 use Rattle.cam_types.specs.declared.stream.StreamSpec.{StreamSpec}
-use Rattle.stream_film.specs.Files.{film_file, film_frame, film_head, frame_head}
-use Rattle.stream_film.specs.declared.shot.Shot.{Shot}
+use Rattle.video_call.specs.Files.{film_file, film_frame, film_head, frame_head}
+use Rattle.video_call.specs.declared.shot.Shot.{Shot}
 use Rattle.video_call.specs.Shows.{bytes_of, frame_of}
 
 -- ---- two pieces

@@ -4,8 +4,8 @@ use Rattle.cam_types.specs.declared.script.Script.{Script}
 use Rattle.run_model.specs.History.{trace_of}
 use Rattle.run_model.specs.Played.{IsPlayedRun}
 use Rattle.run_model.specs.declared.step.Move.{Move}
-use Rattle.stream_film.specs.Choice.{film_or_none, shot_or_none}
-use Rattle.stream_film.specs.declared.choice.NoFilm.{NoFilm}
+use Rattle.video_call.specs.Choice.{film_or_none, shot_or_none}
+use Rattle.video_call.specs.declared.choice.NoFilm.{NoFilm}
 use Rattle.trace_model.specs.declared.entry.Entry.{Entry}
 use Rattle.video_call.specs.declared.chosen.Chosen.{Chosen}
 use Rattle.video_call.specs.declared.chosen.Chosen.TheVariants.{Film, Picture, Nothing}

@@ -3,7 +3,7 @@ use Rattle.std.specs.Prelude.{Bool, ◌&&◌, List, is_none}
 use Rattle.std.specs.List.{list_all}
 use Rattle.cam_types.specs.Metadata.{range_fault}
 use Rattle.cam_types.specs.Picture.{is_offered}
-use Rattle.stream_film.specs.declared.shot.Shot.{Shot}
+use Rattle.video_call.specs.declared.shot.Shot.{Shot}
 
 abbrev pub is_drawable : Shot → Bool
 is_drawable shot = is_none (range_fault shot.settings) && is_offered shot.spec

@@ -1,4 +1,9 @@
-pub mod Shows
-pub mod Drawing
+pub mod Choice
 pub mod Chosen
+pub mod Colours
 pub mod Digests
+pub mod Drawing
+pub mod Files
+pub mod Film
+pub mod Samples
+pub mod Shows

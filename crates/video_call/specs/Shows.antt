@@ -5,15 +5,15 @@ use Rattle.cam_types.specs.Picture.{picture}
 use Rattle.cam_types.specs.declared.script.Script.{Script}
 use Rattle.cam_types.specs.declared.stream.Format.{Format}
 use Rattle.call_parts.specs.Meanings.{OfScript}
-use Rattle.stream_film.specs.Files.{body_in, film_file, picture_file}
+use Rattle.video_call.specs.Files.{body_in, film_file, picture_file}
 use Rattle.run_model.specs.Lawful.{KeepsLaws}
 use Rattle.run_model.specs.History.{trace_of}
 use Rattle.run_model.specs.Played.{IsPlayedRun}
 use Rattle.run_model.specs.declared.step.Move.{Move}
 use Rattle.script_text.specs.Grammar.{script_of}
-use Rattle.stream_film.specs.Choice.{film_or_none, number_of, shot_or_none}
-use Rattle.stream_film.specs.declared.choice.NoFilm.{NoFilm}
-use Rattle.stream_film.specs.declared.shot.Shot.{Shot}
+use Rattle.video_call.specs.Choice.{film_or_none, number_of, shot_or_none}
+use Rattle.video_call.specs.declared.choice.NoFilm.{NoFilm}
+use Rattle.video_call.specs.declared.shot.Shot.{Shot}
 use Rattle.trace_model.specs.declared.entry.Entry.{Entry}
 use Rattle.video_call.specs.declared.wanted.Wanted.{Wanted}
 use Rattle.video_call.specs.declared.wanted.Wanted.TheVariants.{Film, Picture}

@@ -6,14 +6,14 @@ ghost use Rattle.video_call.specs.Chosen.{IsChosenOf, IsOfRun, can_draw, chosen_
 ghost use Rattle.video_call.specs.Shows.{file_of};
 
 use crate::wanted::Wanted;
+use crate::{NoFilm, Shot, film_or_none, shot_or_none};
 use cam_types::{NoMemory, Script};
-use digest_memory::DigestMemory;
 use fill_jobs::Hands;
+use picture_stages::DigestMemory;
 use run_model::early_bound;
 use service_parts::no_job_is_out_at_first;
 use settle::{Service, close, play};
 use std::alloc::Global;
-use stream_film::{NoFilm, Shot, film_or_none, shot_or_none};
 use trace_model::Entry;
 
 /// What there is of what was wanted.

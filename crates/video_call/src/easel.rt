@@ -5,11 +5,11 @@ ghost use Rattle.cam_types.specs.Picture.{is_offered, is_yuv_size, picture_of, r
 ghost use Rattle.video_call.specs.Drawing.{is_drawable};
 ghost use Rattle.video_call.specs.Shows.{bytes_of};
 
+use crate::Shot;
 use cam_types::{BufferId, Format, NoMemory, PixelBuf, RAW_BLOCK, Readout, StreamSpec};
 use picture_stages::{SensorJob, a_readout_lies_between_dark_and_full, draw_raw, draw_yuv};
 use std::alloc::Global;
 use std::marker::Model;
-use stream_film::Shot;
 
 /// The sensor's readout, and a block that the largest picture fits. A contract sees the length of the block.
 #[derive(Drop)]

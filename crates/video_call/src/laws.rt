@@ -2,8 +2,8 @@
 ghost use Rattle.std.specs.Prelude.{◌≡◌, ℕ, List, ◌∷◌, Some};
 ghost use Rattle.cam_types.specs.declared.script.Script.{Script as SomeScript};
 ghost use Rattle.sha2.specs.Sha256.{sha256};
-ghost use Rattle.stream_film.specs.Film.{brought, shot_for};
-ghost use Rattle.stream_film.specs.declared.shot.Shot.{Shot as SomeShot};
+ghost use Rattle.video_call.specs.Film.{brought, shot_for};
+ghost use Rattle.video_call.specs.declared.shot.Shot.{Shot as SomeShot};
 ghost use Rattle.trace_model.specs.Legal.{IsLegal};
 ghost use Rattle.trace_model.specs.declared.entry.Entry.{Entry as SomeEntry};
 ghost use Rattle.video_call.specs.Shows.{bytes_of};

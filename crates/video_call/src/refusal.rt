@@ -4,12 +4,12 @@ ghost use Rattle.call_parts.specs.Answers.{AnswersWithMemory};
 ghost use Rattle.video_call.specs.Shows.{refusal_of};
 ghost use Rattle.call_parts.specs.Status.{status_number};
 
+use crate::NoFilm;
 use crate::wanted::Wanted;
 use call_parts::{Status, answer_made};
 use cam_types::NoMemory;
 use io_edge::Sink;
 use std::alloc::Global;
-use stream_film::NoFilm;
 
 /// The line that refuses what is wanted.
 fn refusal_text(alloc: Global, wanted: Wanted, cause: NoFilm) -> Result<Vec<u8>, NoMemory>

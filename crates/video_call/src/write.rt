@@ -4,7 +4,7 @@ ghost use Rattle.std.specs.List.{flat_map};
 ghost use Rattle.call_parts.specs.Answers.{AnswersWithMemory, TellsBy};
 ghost use Rattle.io_edge.specs.Faults.{Counts};
 ghost use Rattle.io_edge.specs.States.{Breaks, Writes};
-ghost use Rattle.stream_film.specs.Files.{film_file, film_head, frame_head};
+ghost use Rattle.video_call.specs.Files.{film_file, film_head, frame_head};
 ghost use Rattle.video_call.specs.Chosen.{can_draw, chosen_file};
 ghost use Rattle.video_call.specs.Drawing.{are_drawable, is_drawable};
 ghost use Rattle.video_call.specs.Shows.{ShowsFile, bytes_of, film_text, frame_of, picture_text};
@@ -14,11 +14,11 @@ use crate::chosen::Chosen;
 use crate::easel::Easel;
 use crate::refusal::refuse_wanted;
 use crate::wanted::Wanted;
+use crate::{Shot, film_head, frame_head, make_body, picture_file};
 use call_parts::{Status, answer};
 use cam_types::{Format, NoMemory, StreamSpec};
 use io_edge::{Failed, Sink, write_all};
 use std::alloc::Global;
-use stream_film::{Shot, film_head, frame_head, make_body, picture_file};
 
 /// What a film is written with: its head, what stands before each picture, and what these are drawn with.
 #[derive(Drop)]

@@ -1,6 +1,6 @@
-mod Walk
-mod Words
+pub mod Bad
 pub mod Growth
 mod Texts
-pub mod Bad
+mod Walk
 mod WordTexts
+mod Words

@@ -1,7 +1,9 @@
-pub mod Places
-pub mod Laws
 pub mod Kinds
-pub mod WordPlaces
+pub mod Laws
 pub mod Lines
-pub mod Shown
 pub mod Picks
+pub mod Places
+pub mod Refused
+pub mod Sentences
+pub mod Shown
+pub mod WordPlaces

@@ -1,6 +1,6 @@
 use Rattle.std.proofs.Common.{◌≡◌, ℕ, List, arith, ap, ◌∙◌}
 use Rattle.std.proofs.lemmas.Result.{IfOk-weaker}
-use Rattle.camera_arbiter.specs.Answers.{log_of}
+use Rattle.arbiter_call.specs.Answers.{log_of}
 use Rattle.arbiter_call.proofs.LogTexts.{all-fit, log-text}
 use Rattle.arbiter_call.proofs.call.text_of.Goals as goal
 

@@ -1,6 +1,6 @@
 use Rattle.std.proofs.Common.{◌≡◌, ◌++◌, drop, filter}
 use Rattle.hal_model.specs.Rules.{at_buffers}
-use Rattle.hal_callbacks.specs.Buffers.{is_flawed}
+use Rattle.hal_checks.specs.Buffers.{is_flawed}
 use Rattle.hal_judge.proofs.fault.buffers_flawed.Given as goal
 
 -- what is told and what is left are all that are flawed

@@ -1,6 +1,6 @@
 use Rattle.std.proofs.Common.{◌≡◌, ◌++◌, drop, filter}
 use Rattle.hal_model.specs.Rules.{at_buffers}
-use Rattle.hal_callbacks.specs.Buffers.{is_buffer_wrong}
+use Rattle.hal_checks.specs.Buffers.{is_buffer_wrong}
 use Rattle.hal_table.specs.State.{state_of}
 use Rattle.hal_judge.proofs.fault.buffers_wrong.Given as goal
 

@@ -1,6 +1,6 @@
 use Rattle.std.proofs.lemmas.Map.Iter.{rest_all, rest_more}
 use Rattle.std.specs.Map.Iter.{deref_pair}
-use Rattle.hal_calls.specs.Meant.{is_meant}
+use Rattle.hal_checks.specs.Meant.{is_meant}
 use Rattle.hal_judge.proofs.Faults.{frames_end, frames_next}
 use Rattle.hal_judge.proofs.fault.frames_meant.Goals as goal
 

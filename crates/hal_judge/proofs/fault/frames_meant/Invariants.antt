@@ -1,6 +1,6 @@
 use Rattle.std.proofs.Common.{◌≡◌, ◌++◌, filter, map}
 use Rattle.std.specs.Map.{values_of}
-use Rattle.hal_calls.specs.Meant.{is_meant}
+use Rattle.hal_checks.specs.Meant.{is_meant}
 use Rattle.hal_judge.specs.Meant.{frame_of}
 use Rattle.hal_judge.proofs.fault.frames_meant.Given as goal
 

@@ -1,7 +1,7 @@
 use Rattle.std.proofs.Common.{◌≡◌, ◌++◌, drop, filter}
 use Rattle.hal_model.specs.Rules.{at_targets}
 use Rattle.hal_table.specs.State.{state_of}
-use Rattle.hal_calls.specs.Targets.{is_target_wrong}
+use Rattle.hal_checks.specs.Targets.{is_target_wrong}
 use Rattle.hal_judge.proofs.fault.targets_wrong.Given as goal
 
 -- what is told and what is left are all that are at fault

@@ -1,7 +1,7 @@
 use Rattle.std.proofs.Common.{◌≡◌, true, false, rules, arith}
 use Rattle.std.specs.Prelude.{bytes_eq, codes}
 use Rattle.std.proofs.lemmas.Grind.{common_steps}
-use Rattle.hal_spelling.specs.Fits.{is_error_name}
+use Rattle.hal_model.specs.Fits.{is_error_name}
 use Rattle.hal_lines.proofs.Names.{name-fits}
 use Rattle.hal_lines.proofs.value.error_of.Goals as goal
 

@@ -1,5 +1,5 @@
 use Rattle.std.proofs.Common.{◌≡◌, ◌≤◌, length}
-use Rattle.hal_spelling.specs.Spelling.{text_of}
+use Rattle.hal_model.specs.Spelling.{text_of}
 use Rattle.hal_text.specs.Meaning.{text_limit}
 use Rattle.hal_text.proofs.Again.{text-again}
 use Rattle.hal_text.proofs.printing.print.Goals as goal

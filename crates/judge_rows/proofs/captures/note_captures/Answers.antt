@@ -1,5 +1,5 @@
 use Rattle.std.proofs.Common.{◌∙◌, sym, ap, length}
-use Rattle.capture_queue.specs.Captures.{Captures}
+use Rattle.client_calls.specs.Captures.{Captures}
 use Rattle.judge_rows.proofs.captures.note_captures.Goals as goal
 
 pub returns-in-Send-clause-turns : goal.returns-in-Send-clause-turns

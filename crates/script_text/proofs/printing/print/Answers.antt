@@ -1,5 +1,5 @@
 use Rattle.std.proofs.Common.{◌≡◌, ◌≤◌, length}
-use Rattle.script_spelling.specs.Spelling.{text_of}
+use Rattle.script_text.specs.Spelling.{text_of}
 use Rattle.text_parts.specs.LineReading.{text_limit}
 use Rattle.script_text.proofs.Again.{text-again}
 use Rattle.script_text.proofs.printing.print.Goals as goal

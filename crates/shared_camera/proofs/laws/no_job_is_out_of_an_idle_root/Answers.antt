@@ -1,5 +1,5 @@
 use Rattle.std.proofs.Common.{[], refl}
-use Rattle.shared_camera.proofs.Idle.{none-out}
+use Rattle.shared_camera.proofs.IdleRoots.{none-out}
 use Rattle.shared_camera.proofs.laws.no_job_is_out_of_an_idle_root.Goals as goal
 
 pub returns : goal.returns

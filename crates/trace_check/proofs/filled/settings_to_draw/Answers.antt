@@ -3,7 +3,7 @@ use Rattle.cam_types.specs.Picture.{picture}
 use Rattle.trace_model.specs.Frames.{settings_in}
 use Rattle.trace_check.proofs.Accepted.{frame-in-range}
 use Rattle.trace_check.proofs.filled.settings_to_draw.Goals as goal
-use Rattle.judge_due.proofs.Dark.{dark-picture}
+use Rattle.trace_check.proofs.Dark.{dark-picture}
 
 pub returns-in-Some-clause-range : goal.returns-in-Some-clause-range
 returns-in-Some-clause-range c = frame-in-range c.args.script.now (reverse c.args.entries.now) c.requires c.args.frame.0 c.in-Some.item (sym c.item_of.ensures ∙ c.in-Some.is)

@@ -1,5 +1,5 @@
 use Rattle.std.proofs.Common.{◌<◌, ◌+◌, ◌^◌, length, reverse, subst, sym}
-use Rattle.judge_due.specs.Drawing.{CanDraw}
+use Rattle.trace_check.specs.Drawing.{CanDraw}
 use Rattle.judge_rows.specs.Judged.{Judged}
 use Rattle.trace_check.proofs.Holding.{allowed_by, can_draw}
 use Rattle.trace_check.proofs.passing.is_allowed_by.Goals as goal

@@ -1,5 +1,5 @@
 use Rattle.std.proofs.Common.{length}
-use Rattle.device_store.specs.Stored.{specs_of}
+use Rattle.device_core.specs.Stored.{specs_of}
 use Rattle.hal_device_model.specs.Calls.{failed_rows}
 use Rattle.hal_device.proofs.Keeping.{before_failed, block_number, block_sized, kept_back}
 use Rattle.hal_device.proofs.device.HalDevice.return_failed.Goals as goal

@@ -2,7 +2,7 @@ use Rattle.std.proofs.Common.{◌≡◌, refl, ◌∙◌}
 use Rattle.device_core.specs.View.{with_rows}
 use Rattle.device_rows.specs.Ready.{is_fill_ready}
 use Rattle.device_rows.specs.Rows.{fill_begun, with_row}
-use Rattle.device_store.specs.Stored.{specs_of}
+use Rattle.device_core.specs.Stored.{specs_of}
 use Rattle.buffer_pool.specs.Fences.{is_signalled, no_fences}
 use Rattle.hal_device_model.specs.Calls.{filled_rows}
 use Rattle.hal_device.proofs.Jobs.{fill_out_as, filled_as}

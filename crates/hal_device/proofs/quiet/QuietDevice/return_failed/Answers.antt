@@ -1,6 +1,6 @@
 use Rattle.std.proofs.Common.{refl, ◌∙◌}
 use Rattle.device_rows.specs.Ready.{is_failed_return_ready}
-use Rattle.device_store.specs.Stored.{specs_of}
+use Rattle.device_core.specs.Stored.{specs_of}
 use Rattle.hal_device.proofs.Backs.{back_free}
 use Rattle.hal_device.proofs.Resting.{failed_rests, fences_made, not_ready}
 use Rattle.hal_device.proofs.quiet.QuietDevice.return_failed.Goals as goal

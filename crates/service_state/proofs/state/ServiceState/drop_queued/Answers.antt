@@ -1,5 +1,5 @@
 use Rattle.std.proofs.Common.{sym, ap, ◌∙◌}
-use Rattle.capture_queue.specs.Captures.{Captures}
+use Rattle.client_calls.specs.Captures.{Captures}
 use Rattle.service_state.proofs.Made.{held, makes_as, serving_as}
 use Rattle.service_state.proofs.Sending.{drop_numbered}
 use Rattle.service_state.proofs.Steps.{dropped}

@@ -1,5 +1,5 @@
 use Rattle.std.proofs.Common.{◌≡◌, [], false, Some, None, refl, sym, ap, subst, ◌∙◌}
-use Rattle.capture_queue.specs.Captures.{Captures}
+use Rattle.client_calls.specs.Captures.{Captures}
 use Rattle.buffer_manager.specs.Managed.{homes_with}
 use Rattle.buffer_manager.specs.Taking.{least_targets_in}
 use Rattle.state_facts.specs.Turns.{next_of}

@@ -1,4 +1,0 @@
-pub mod Finding
-pub mod Sessions
-pub mod Fair
-pub mod Closing

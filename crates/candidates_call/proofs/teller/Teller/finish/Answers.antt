@@ -1,6 +1,0 @@
-use Rattle.candidates_call.proofs.Pieces.{broken_at_end}
-use Rattle.candidates_call.proofs.teller.Teller.finish.Goals as goal
-
-pub returns : goal.returns
-returns g c = λ first text h.
-    broken_at_end c.args.self.pieces text c.args.self.broken first (g.K.Sink.state c.args.sink.now) (g.K.Sink.state c.flush.new.sink) c.if-self.false h c.in-Err.ensures.failed c.in-Err.ensures.faults

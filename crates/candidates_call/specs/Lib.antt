@@ -1,4 +1,0 @@
-pub mod Names
-pub mod Listing
-pub mod Told
-pub mod Says

@@ -1,8 +1,0 @@
-use Rattle.std.proofs.Common.{◌≡◌, ◌++◌, take}
-use Rattle.circular_buffer.specs.Buffer.{buffer}
-use Rattle.capture_queue.specs.Requests.{named}
-use Rattle.capture_queue.proofs.queue.append.Given as goal
-
--- the items up to the index are appended
-abbrev pub invariant-loop-index : goal.invariant-loop-index
-invariant-loop-index l = l.waiting ≡ buffer (l.initial.waiting.items ++ named l.request 0 (take l.index l.items)) l.initial.waiting.capacity

@@ -1,5 +1,0 @@
-pub mod Held
-pub mod Kept
-pub mod Stored
-pub mod Steps
-pub mod Unpacked

@@ -1,2 +1,0 @@
-pub mod MissingLists
-pub mod Written

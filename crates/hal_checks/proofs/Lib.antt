@@ -1,0 +1,3 @@
+pub mod Astray
+pub mod LaterRows
+pub mod Lists

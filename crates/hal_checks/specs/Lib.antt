@@ -1,0 +1,5 @@
+pub mod Buffers
+pub mod Meant
+pub mod Packs
+pub mod Streams
+pub mod Targets

@@ -1,5 +1,0 @@
-use Rattle.std.proofs.Common.{rules}
-use Rattle.hal_spelling.proofs.event.write_event.Goals as goal
-
-pub returns-in-RequestError-clause-text : goal.returns-in-RequestError-clause-text
-returns-in-RequestError-clause-text c = search rules

@@ -1,5 +1,0 @@
-pub mod PastLemmas
-pub mod StreamLemmas
-pub mod ListLemmas
-pub mod ReplyLemmas
-pub mod SinceLemmas

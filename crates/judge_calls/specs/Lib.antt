@@ -1,4 +1,0 @@
-pub mod Asked
-pub mod Steps
-pub mod Made
-pub mod Since

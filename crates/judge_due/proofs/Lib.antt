@@ -1,4 +1,0 @@
-pub mod Either
-pub mod Dark
-pub mod Rows
-pub mod Shown

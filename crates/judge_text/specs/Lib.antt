@@ -1,4 +1,0 @@
-pub mod Parts
-pub mod Lines
-pub mod Profiles
-pub mod Meaning

@@ -1,5 +1,0 @@
-use Rattle.logical_camera.proofs.Ends.{pairs_end}
-use Rattle.logical_camera.proofs.laws.a_frame_ends_once.Goals as goal
-
-pub returns-clause-pair : goal.returns-clause-pair
-returns-clause-pair c = pairs_end

@@ -1,4 +1,0 @@
-use Rattle.logical_camera.proofs.pairing.frame_of.Goals as goal
-
-pub returns-in-Late : goal.returns-in-Late
-returns-in-Late c = rw c.in-Late.is c.early_frame.ensures

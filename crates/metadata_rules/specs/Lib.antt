@@ -1,3 +1,0 @@
-pub mod Templates
-pub mod Numbers
-pub mod Parts

@@ -1,0 +1,200 @@
+//! What each condition of the rules says, in a sentence, and where it stands.
+ghost use Rattle.std.specs.Prelude.{◌≡◌};
+ghost use Rattle.rule_conditions.specs.Sentences.{heading_of, section_of, sentence_of};
+
+use crate::Condition;
+use trace_model::RuleName;
+
+/// The sentences of the conditions, in the order of these.
+const SENTENCES: [&str; 77] = [
+    "A send has the next frame number",
+    "A send takes the next item: the first of the queue, else the one in turn of the repeating list",
+    "Nothing is sent while a flush or a disconnect isn't answered, or once the device failed",
+    "Each target of a send takes a buffer of its stream that is in the pool",
+    "Each buffer is sent with the fence that it has in the pool",
+    "The targets of a send are its item's streams, in ascending order",
+    "A frame is sent only where fewer are open than the profile's depth",
+    "Of each target's stream fewer buffers are at the device than the profile has for its format",
+    "No item of the repeating list is sent once a configure or a close has begun",
+    "Since the last call fewer repeating frames were sent than 64, and as many more as an await waits for",
+    "A send is marked same exactly where the frame sent before, since the configuration, had equal settings",
+    "An item is dropped only while a flush or a disconnect isn't answered, or once the device failed",
+    "A drop has the next frame number",
+    "A drop takes the first item of the queue",
+    "A shutter is of a frame that was sent",
+    "A shutter is of a frame that has neither a shutter nor an error",
+    "Every earlier frame has its shutter, or failed whole, before the next one has",
+    "Nothing is exposed while a flush or a disconnect isn't answered, or once the device failed",
+    "A frame that the script has a device fault for has no shutter",
+    "The first shutter is at 1 s, each next one later by the last frame's exposure, at least 33333333 ns",
+    "A partial result comes behind the shutter of its frame",
+    "The partial results of a frame are 1, 2 and 3, in this order",
+    "A partial result has the values of its frame's settings and of its shutter's time",
+    "No partial result comes behind the error of its request or of its metadata",
+    "A frame that the script has a request fault for has no partial result",
+    "A frame that the script has a result fault for has no third partial result",
+    "The last partial result comes once the metadata of every earlier frame ended",
+    "A buffer comes back that is at the device by the send of its frame, for its stream",
+    "A good buffer comes back behind the shutter of its frame",
+    "A buffer that the script has a fault for, or whose request has one, isn't good",
+    "A buffer whose error was told, or that of its request, isn't good",
+    "A good buffer comes back once the fence that it was sent with is signalled",
+    "Good buffers of a stream come in the order of frames: each earlier one is back or its error told",
+    "The digest is that of the picture which the frame's number, settings and stream determine",
+    "A buffer comes back early only where the script has the line early",
+    "An early buffer has the next device fence: the number of early lines before",
+    "A picture comes late only of a buffer that came back early with its device fence",
+    "A device fence is signalled once",
+    "The late digest is that of the picture of the buffer that came back with its device fence",
+    "A request error is of an open frame",
+    "A request error is of a frame without a partial result, a buffer and an error",
+    "A request error has a cause: a request fault, or a flush, disconnect or device failure behind the send",
+    "A request error by a fault alone comes behind the shutter of its frame",
+    "A result error comes behind the shutter of its frame",
+    "A result error is of a frame whose metadata hasn't ended",
+    "A result error comes once the metadata of every earlier frame ended",
+    "A result error has a cause: a result fault, or a flush, disconnect or device failure behind the send",
+    "Without a fault, a result error comes behind a partial result, a buffer or an error of its frame",
+    "A buffer error is of a stream that is a target of its frame",
+    "A buffer error comes behind the shutter of its frame",
+    "No buffer error comes behind the error of its request",
+    "The error of a buffer is told once",
+    "A buffer error is of a buffer that isn't back",
+    "A buffer error has a cause: a fault of it, or a flush, disconnect or device failure behind the send",
+    "Without a fault, a buffer error comes behind a partial result, a buffer or an error of its frame",
+    "A frame with a request fault fails whole, not in part, unless a flush, disconnect or failure stopped it",
+    "The device doesn't fail while a flush or a disconnect isn't answered, nor twice",
+    "The device fails where a frame with a device fault is the next for the sensor",
+    "A failed buffer is at the device by the send of its frame, for its stream",
+    "A failed buffer comes back only behind its error or that of its request",
+    "A failed buffer has its acquire fence where that isn't signalled, else none",
+    "A buffer is released that is at the client",
+    "A buffer that came back early is released once its picture is there",
+    "A release has the next fence: the number of releases before",
+    "A fence is signalled that was released",
+    "A fence is signalled once",
+    "A command begins that is the next one and one that waits",
+    "A command begins with its own word",
+    "A command begins once",
+    "Commands are answered in turn: the number of a call is how many stand before",
+    "A call has the word of its command",
+    "A command that waits is answered behind its begin",
+    "A call has the reply of its command",
+    "A flush, disconnect, configure, wait or close is accepted once no frame is open",
+    "A flush, disconnect, configure, wait or close is accepted once the queue is empty",
+    "A configure, wait or close is accepted once every buffer is in the pool",
+    "An await is accepted once the device became done with as many repeating frames since its begin",
+];
+
+/// The sections that ask for them, in the same order.
+const SECTIONS: [&str; 77] = [
+    "camera3.h, process_capture_request, frame_number",
+    "camera3.h, process_capture_request",
+    "camera3.h, flush, point 4",
+    "camera3.h, process_capture_request, S2",
+    "camera3.h, camera3_stream_buffer",
+    "our own choice",
+    "our own choice",
+    "camera3.h, configure_streams, camera3_stream; the numbers are our own choice",
+    "our own choice",
+    "our own choice",
+    "camera3.h, camera3_capture_request.settings",
+    "camera3.h, flush, point 4, and our own choice",
+    "our own choice",
+    "our own choice",
+    "camera3.h, camera3_shutter_msg",
+    "camera3.h, camera3_shutter_msg",
+    "camera3.h, camera3_shutter_msg",
+    "camera3.h, flush, point 2",
+    "our own choice",
+    "our own choice",
+    "camera3.h, flush, point 3.3",
+    "camera3.h, camera3_capture_result.partial_result",
+    "our own choice",
+    "camera3.h, S6; flush, point 2",
+    "our own choice",
+    "our own choice",
+    "camera3.h, process_capture_result",
+    "camera3.h, process_capture_result",
+    "camera3.h, flush, point 3.3",
+    "camera3.h, S6",
+    "camera3.h, S6; flush, point 2",
+    "camera3.h, camera3_stream_buffer",
+    "camera3.h, process_capture_result",
+    "our own choice",
+    "camera3.h, process_capture_result",
+    "our own choice",
+    "camera3.h, camera3_stream_buffer.release_fence",
+    "camera3.h, camera3_stream_buffer.release_fence",
+    "our own choice",
+    "camera3.h, S6",
+    "camera3.h, S6; flush, points 2 and 3.4",
+    "camera3.h, flush, point 2, and our own choice",
+    "our own choice",
+    "our own choice",
+    "camera3.h, S6; flush, point 3.1",
+    "camera3.h, process_capture_result",
+    "camera3.h, flush, point 3.1",
+    "camera3.h, flush, point 3.1",
+    "camera3.h, camera3_error_msg",
+    "camera3.h, S6",
+    "camera3.h, S6",
+    "camera3.h, S6",
+    "camera3.h, flush, point 3.2",
+    "camera3.h, flush, point 3.2",
+    "camera3.h, flush, point 3.2",
+    "our own choice",
+    "our own choice",
+    "camera3.h, S6",
+    "camera3.h, process_capture_result",
+    "camera3.h, S6; flush, points 2 and 3.6",
+    "camera3.h, flush, point 2",
+    "our own choice",
+    "our own choice",
+    "our own choice",
+    "our own choice",
+    "our own choice",
+    "our own choice",
+    "our own choice",
+    "our own choice",
+    "our own choice",
+    "our own choice",
+    "our own choice",
+    "our own choice",
+    "camera3.h, flush; configure_streams",
+    "camera3.h, flush",
+    "camera3.h, configure_streams",
+    "our own choice",
+];
+
+/// The sentence of a condition, without its full stop. It is the condition's cell in docs/CONTRACT.md.
+#[tactic(auto, unfolding(crate::specs::Sentences::sentence_of))]
+pub fn sentence_of(condition: Condition) -> &'static str
+    ensures { result.now ≡ sentence_of condition }
+{
+    SENTENCES[condition as usize]
+}
+
+/// The section of camera3.h that asks for a condition, or `own`.
+#[tactic(auto, unfolding(crate::specs::Sentences::section_of))]
+pub fn section_of(condition: Condition) -> &'static str
+    ensures { result.now ≡ section_of condition }
+{
+    SECTIONS[condition as usize]
+}
+
+/// The heading in docs/CONTRACT.md under which the conditions of a rule stand.
+#[tactic(auto, unfolding(crate::specs::Sentences::heading_of))]
+pub fn heading_of(rule: RuleName) -> &'static str
+    ensures { result.now ≡ heading_of rule }
+{
+    match rule {
+        RuleName::D9 => "D9: a send",
+        RuleName::D10 => "D10: a drop",
+        RuleName::D11 => "D11: a shutter",
+        RuleName::D12 => "D12: a partial result",
+        RuleName::D13 => "D13: a buffer with its picture",
+        RuleName::D14 => "D14: an error, and a buffer that comes back in error",
+        RuleName::D15 => "D15: the client's entries",
+    }
+}

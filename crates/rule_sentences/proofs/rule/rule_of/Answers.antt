@@ -1,5 +1,0 @@
-use Rattle.std.proofs.Common.{rules}
-use Rattle.rule_sentences.proofs.rule.rule_of.Goals as goal
-
-pub returns-in-DeliveryAtDevice : goal.returns-in-DeliveryAtDevice
-returns-in-DeliveryAtDevice c = search rules

@@ -1,0 +1,9 @@
+pub mod Fronts
+pub mod Kinds
+pub mod Listing
+pub mod Logs
+pub mod Names
+pub mod Notes
+pub mod Says
+pub mod Shown
+pub mod Told

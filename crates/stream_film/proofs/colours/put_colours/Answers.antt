@@ -1,7 +1,0 @@
-use Rattle.stream_film.specs.Colours.{pixel}
-use Rattle.stream_film.proofs.ColourLemmas.{places-next}
-use Rattle.stream_film.proofs.colours.put_colours.Goals as goal
-
-pub loop-place-preserved : goal.loop-place-preserved
-loop-place-preserved c =
-    places-next (pixel c.args.width c.args.height c.args.picture.now) c.loop-place.place c.args.out.now.items c.loop-place.out.items c.extend_from_slice.new.self.items c.pixel-colours.result c.in_ok-extend_from_slice.ensures.items c.loop-place.invariant c.pixel-colours.ensures

@@ -1,6 +1,0 @@
-use Rattle.std.proofs.Common.{◌≡◌}
-use Rattle.stream_film.proofs.SampleLemmas.{exchanged_first}
-use Rattle.stream_film.proofs.samples.exchange.Given as goal
-
-abbrev pub invariant-loop-sample : goal.invariant-loop-sample
-invariant-loop-sample l = l.bytes ≡ exchanged_first l.sample l.initial.bytes

@@ -1,4 +1,0 @@
-use Rattle.stream_film.proofs.shot.brought.Goals as goal
-
-pub returns-in-Late : goal.returns-in-Late
-returns-in-Late c = rw c.in-Late.is c.early_with.ensures

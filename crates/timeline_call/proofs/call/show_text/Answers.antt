@@ -1,5 +1,0 @@
--- Each entry of a trace that was read has a line.
-use Rattle.timeline_call.proofs.call.show_text.Goals as goal
-
-pub show_trace-requires : goal.show_trace-requires
-show_trace-requires g c = (c.read_is_spelled.ensures c.args.first_line c.args.text.now c.in-Ok.trace c.in-Ok.ensures).2

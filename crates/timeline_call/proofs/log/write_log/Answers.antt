@@ -1,6 +1,0 @@
-use Rattle.timeline_call.specs.Logs.{log_text}
-use Rattle.timeline_call.proofs.log.write_log.Goals as goal
-
-pub returns : goal.returns
-unfolding log_text
-returns g c = rw (c.in-Ok.ensures.chart, c.in-Ok.ensures.broken) at c.write_judged.ensures
