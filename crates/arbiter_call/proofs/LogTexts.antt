@@ -1,8 +1,7 @@
 -- The text of a log, line by line.
-use Rattle.std.proofs.Common.{◌≡◌, ℕ, ◌+◌, ◌<◌, true, List, [], ◌∷◌, ◌++◌, Option, Some, None, get_or, take, length, reverse, refl, ap, sym, ◌∙◌, subst, arith, inl, inr, append_assoc, IsTrue}
+use Rattle.std.proofs.Common.{◌≡◌, ℕ, true, List, ◌++◌, Option, Some, reverse, refl, ap, ◌∙◌, subst, arith, inl, inr, append_assoc}
 use Rattle.std.specs.List.{list_all}
-use Rattle.std.proofs.lemmas.List.{append-nil, reverse-append, reverse-reverse, take_more}
-use Rattle.std.proofs.Math.Seq.{take-length}
+use Rattle.std.proofs.lemmas.List.{reverse-reverse}
 use Rattle.call_parts.specs.Answers.{Answers}
 use Rattle.cam_types.specs.declared.script.Script.{Script}
 use Rattle.basic_lemmas.proofs.Lists.{all-where, all-reversed}
@@ -13,7 +12,8 @@ use Rattle.arbiter_call.specs.declared.answer.LogLine.{LogLine}
 use Rattle.arbiter_call.specs.declared.line.ArbiterLine.{ArbiterLine}
 use Rattle.arbiter_call.proofs.Scripts.{fits-logged}
 use Rattle.arbiter_call.proofs.Valid.{parts-of}
-use Rattle.arbiter_call.specs.Scripts.{shots_fit}
+use Rattle.arbiter_call.specs.Scripts.{script_behind, shots_fit}
+use Rattle.arbiter_call.specs.Spelling.{line_of}
 use Rattle.arbiter_call.specs.Valid.{is_valid}
 use Rattle.arbiter_call.specs.declared.text.ArbiterText.{ArbiterText}
 use Rattle.play_calls.proofs.Telling.{KeepsLawsAtEnd}
@@ -21,7 +21,7 @@ use Rattle.play_calls.specs.Says.{PlaysAs}
 use Rattle.run_model.specs.History.{trace_of}
 use Rattle.call_parts.specs.Texts.{text_in}
 use Rattle.call_parts.specs.declared.output.Output.TheVariants.{Summary}
-use Rattle.arbiter_call.specs.Arbitrates.{Adds, IsArbitratedText, IsSummary, IsWholeText}
+use Rattle.arbiter_call.specs.Arbitrates.{Adds, IsArbitratedText, IsBehind, IsLineText, IsSummary, IsWholeText}
 
 -- ---- a session
 
@@ -35,6 +35,11 @@ summed script status xs ys m n law done plays = by plays.answers
     by (inr h) = absurd (omega (arith, done, h.0))
 
 -- ---- a line
+
+-- a line, and behind it the summary of the session that it ends
+pub line-and-summary : (line : LogLine) (script : Script) (words before middle after : List ℕ) → words ≡ line_of line → middle ≡ before ++ words → Some script ≡ script_behind line → Adds (IsSummary script) middle after → Adds (IsLineText line) before after
+line-and-summary line script words before middle after spelled added is (summary, fits, behind) =
+    (line_of line ++ summary, record { summary = summary; behind = subst (λ (o : Option Script). IsBehind o summary) is fits; shown = refl }, behind ∙ (ap (λ (t : List ℕ). t ++ summary) (added ∙ ap (λ (t : List ℕ). before ++ t) spelled) ∙ append_assoc before (line_of line) summary))
 
 -- ---- a log
 

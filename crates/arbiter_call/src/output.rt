@@ -1,6 +1,7 @@
 //! How the lines of a log are written.
-ghost use Rattle.std.specs.Prelude.{◌≡◌, ◌++◌, IfOk, OnOk, string_bytes};
-ghost use Rattle.arbiter_call.specs.Spelling.{line_of};
+ghost use Rattle.std.specs.Prelude.{◌≡◌, ◌++◌, ◌∷◌, IfOk, OnOk, string_bytes};
+ghost use Rattle.text_parts.specs.Lines.{line_text};
+ghost use Rattle.arbiter_call.specs.Spelling.{line_of, session_words};
 
 use crate::{LogLine, Refusal, Session};
 use cam_types::NoMemory;
@@ -33,27 +34,21 @@ fn write_line(out: &mut String, line: LogLine) -> Result<(), NoMemory>
     ensures { OnOk result (string_bytes out.new ≡ string_bytes out.old ++ line_of line) }
 {
     match line {
-        LogLine::Grant(session) => {
-            let (client, camera) = numbers_of(session);
-            writeln!(out, "grant {client} {camera}")
-        }
-        LogLine::Evict(session) => {
-            let (client, camera) = numbers_of(session);
-            writeln!(out, "evict {client} {camera}")
-        }
-        LogLine::Leave(session) => {
-            let (client, camera) = numbers_of(session);
-            writeln!(out, "leave {client} {camera}")
-        }
+        LogLine::Grant(session) => write_session(out, "grant", session),
+        LogLine::Evict(session) => write_session(out, "evict", session),
+        LogLine::Leave(session) => write_session(out, "leave", session),
         LogLine::Refused(why) => write_refusal(out, why),
     }
 }
 
-/// The numbers of a session's client and camera.
-fn numbers_of(session: Session) -> (u32, u32)
-    ensures { result ≡ (session.client.0, session.camera.0) }
+/// Writes the line of a session: a word, and the numbers of its client and its camera.
+fn write_session(out: &mut String, word: &str, session: Session) -> Result<(), NoMemory>
+    ensures { OnOk result
+        (string_bytes out.new ≡ string_bytes out.old ++ line_text (word.now ∷ session_words session)) }
 {
-    (session.client.0, session.camera.0)
+    let client = session.client.0;
+    let camera = session.camera.0;
+    writeln!(out, "{word} {client} {camera}")
 }
 
 /// The text of a line of a log.

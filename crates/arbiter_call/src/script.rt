@@ -1,6 +1,7 @@
 //! What the client of a session does at its camera.
-ghost use Rattle.std.specs.Prelude.{◌≡◌, ◌∷◌, ◌≤◌, [], IfOk, IfSome, IsTrue, true};
+ghost use Rattle.std.specs.Prelude.{◌≡◌, ◌∷◌, ◌≤◌, [], IfOk, IfSome, IsTrue, OnOk, true};
 ghost use Rattle.cam_types.specs.Script.{command_fits, is_closing_command, is_valid};
+ghost use Rattle.call_parts.specs.OwnScripts.{small_stream};
 ghost use Rattle.arbiter_call.specs.Scripts.{preview, script_behind, session_commands, session_script, shots_fit};
 
 use crate::LogLine;
@@ -18,14 +19,23 @@ fn previews(alloc: Global) -> Result<ItemList, NoMemory>
     Ok(items)
 }
 
+/// Adds what a session begins with: it previews until it has seen so many frames.
+fn put_preview(commands: &mut CommandList, alloc: Global, shots: u32) -> Result<(), NoMemory>
+    requires { commands.old ≡ [] }
+    ensures { OnOk result (commands.new
+        ≡ Command.Configure small_stream ∷ Command.Repeat (preview ∷ []) ∷ Command.Await shots ∷ []) }
+{
+    commands.push(Command::Configure(small_stream(alloc)?))?;
+    commands.push(Command::Repeat(previews(alloc)?))?;
+    commands.push(Command::Await(shots))
+}
+
 /// The commands of a session: it previews until it has seen so many frames, and ends by a command.
 fn session_commands(alloc: Global, shots: u32, last: Command) -> Result<CommandList, NoMemory>
     ensures { IfOk result (λ commands. commands ≡ session_commands shots last) }
 {
     let mut commands = CommandList::new(alloc);
-    commands.push(Command::Configure(small_stream(alloc)?))?;
-    commands.push(Command::Repeat(previews(alloc)?))?;
-    commands.push(Command::Await(shots))?;
+    put_preview(&mut commands, alloc, shots)?;
     commands.push(last)?;
     Ok(commands)
 }

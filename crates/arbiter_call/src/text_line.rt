@@ -16,7 +16,9 @@ fn camera_of(cameras: u32, client: u32, words: &[u8]) -> Result<Session, Cause>
     ensures value { result ≡ camera_of cameras client (loose_words words.now) }
     ensures valid { IfOk result (λ session. IsTrue (is_session cameras session)) }
 {
-    let (word, rest) = next_loose_word(words).ok_or(Cause::Missing)?;
+    let Some((word, rest)) = next_loose_word(words) else {
+        return Err(Cause::Missing);
+    };
     let camera = number_from_to(word, 0, u64::from(cameras - 1))?;
     let (priority, shots) = two_numbers(rest, 1_000, 100)?;
     Ok(Session {
@@ -34,7 +36,9 @@ fn session_of(cameras: u32, words: &[u8]) -> Result<Session, Cause>
     ensures value { result ≡ session_of cameras (loose_words words.now) }
     ensures valid { IfOk result (λ session. IsTrue (is_session cameras session)) }
 {
-    let (word, rest) = next_loose_word(words).ok_or(Cause::Missing)?;
+    let Some((word, rest)) = next_loose_word(words) else {
+        return Err(Cause::Missing);
+    };
     let client = number_from_to(word, 0, 15)?;
     camera_of(cameras, client, rest)
 }

@@ -4,6 +4,7 @@ pub mod Spots
 pub mod Moves
 pub mod Pools
 pub mod Pictures
+pub mod Seen
 pub mod Owners
 pub mod Takes
 pub mod Targets

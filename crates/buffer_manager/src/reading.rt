@@ -1,5 +1,5 @@
 //! What is read of the buffers.
-ghost use Rattle.std.specs.Prelude.{◌≡◌, ◌+◌, ◌≤◌, ◌^◌, [], IfSome, find, slice_get};
+ghost use Rattle.std.specs.Prelude.{◌≡◌, ◌+◌, ◌-◌, ◌≤◌, ◌^◌, [], IfSome, None, find, nat_le, slice_get, if◌then◌else◌};
 ghost use Rattle.std.specs.List.{list_all, range_with_len};
 ghost use Rattle.std.specs.Option.{option_map};
 ghost use Rattle.trace_model.specs.Place.{Device, Pool, is_at};
@@ -69,10 +69,7 @@ impl BufferManager {
     fn is_in_pool(&self, buffer: u32) -> bool
         ensures { result ≡ is_at (place_in (homes_with [] self.now) buffer) Pool }
     {
-        if buffer < self.first {
-            return true;
-        }
-        match self.slots.get((buffer - self.first) as usize) {
+        match slot_of(&self.slots, self.first, buffer) {
             Some(slot) => is_home(slot),
             None => true,
         }
@@ -81,10 +78,7 @@ impl BufferManager {
     fn is_away(&self, buffer: u32) -> bool
         ensures { result ≡ is_at (place_in (homes_with [] self.now) buffer) Device }
     {
-        if buffer < self.first {
-            return false;
-        }
-        match self.slots.get((buffer - self.first) as usize) {
+        match slot_of(&self.slots, self.first, buffer) {
             Some(slot) => is_away(slot),
             None => false,
         }
@@ -94,10 +88,7 @@ impl BufferManager {
     pub fn may_release(&self, buffer: BufferId) -> bool
         ensures { result ≡ may_be_released self.now buffer.0 }
     {
-        if buffer.0 < self.first {
-            return false;
-        }
-        match self.slots.get((buffer.0 - self.first) as usize) {
+        match slot_of(&self.slots, self.first, buffer.0) {
             Some(slot) => has_picture(slot),
             None => false,
         }
@@ -108,14 +99,22 @@ impl BufferManager {
     pub fn client_buffer(&self, buffer: BufferId) -> Option<&[u8]>
         ensures { option_map (λ bytes. bytes.now) result ≡ picture_in self.now buffer.0 }
     {
-        if buffer.0 < self.first {
-            return None;
-        }
-        match self.slots.get((buffer.0 - self.first) as usize) {
+        match slot_of(&self.slots, self.first, buffer.0) {
             Some(slot) => picture_of(slot),
             None => None,
         }
     }
+}
+
+/// What is kept for a buffer, where the first is kept first.
+fn slot_of(slots: &[Slot], first: u32, buffer: u32) -> Option<&Slot>
+    ensures { option_map (λ slot. slot.now) result ≡
+        (if nat_le first buffer then slice_get slots.now (buffer - first) else None) }
+{
+    if buffer < first {
+        return None;
+    }
+    slots.get((buffer - first) as usize)
 }
 
 /// The buffers of the stream at a place.

@@ -1,3 +1,4 @@
 pub mod Words
 pub mod Help
 pub mod Commands
+pub mod Does

@@ -1,8 +1,8 @@
 //! What the words ask for.
-ghost use Rattle.std.specs.Prelude.{◌≡◌, ◌≢◌, ◌≤◌, ℕ, true, false, is_some, IfSome, Option};
+ghost use Rattle.std.specs.Prelude.{◌≡◌, ◌≢◌, ◌≤◌, ℕ, true, false, is_some, IfSome, IsTrue, Option};
 ghost use Rattle.std.specs.Io.KnownBytes.{IsAtEnd};
 ghost use Rattle.io_edge.specs.States.{Writes};
-ghost use Rattle.text_parts.specs.Forms.{form_of};
+ghost use Rattle.text_parts.specs.Forms.{form_of, is_in_range};
 ghost use Rattle.play_calls.specs.Generated.{generated};
 ghost use Rattle.call_parts.specs.Answers.{Answers};
 ghost use Rattle.call_parts.specs.Ends.{CountsSink, CountsSource, ReadsBy};
@@ -16,7 +16,8 @@ ghost use Rattle.logical_call.specs.Logical.{IsLogicalWhole};
 ghost use Rattle.reprocess_call.specs.Reprocess.{IsReprocessed};
 ghost use Rattle.run_calls.specs.Running.{IsRunWhole};
 ghost use Rattle.play_calls.specs.Says.{IsWhole, IsWholeRun};
-ghost use Rattle.camera_top.specs.Words.{limit_of};
+ghost use Rattle.camera_top.specs.Does.{Does};
+ghost use Rattle.camera_top.specs.Words.{limit_of, reads_alone};
 ghost use Rattle.call_parts.specs.Status.{status_number};
 
 use arbiter_call::arbiter_call;
@@ -100,17 +101,52 @@ pub fn camera_main<R: Threads + Wait + Clock + Sync, S: Source, K: Sink, G: Gate
     ensures known { status_number result ≤ 5 }
 {
     match form_of(words) {
-        Some(Form::Play) => play_call(alloc, source, sink),
-        Some(Form::Run { workers }) => run_call(alloc, rt, source, sink, gate, workers),
-        Some(Form::Check) => check_call(alloc, source, sink),
-        Some(Form::Convert) => convert_call(alloc, source, sink),
-        Some(Form::Arbiter) => arbiter_call(alloc, source, sink),
-        Some(Form::Auto) => auto_call(alloc, source, sink),
-        Some(Form::Logical) => logical_call(alloc, source, sink),
-        Some(Form::Help) => help_call(sink),
-        Some(Form::Gen { seed, count }) => gen_call(alloc, seed, count, sink),
-        Some(Form::Reprocess) => reprocess_call(alloc, source, sink),
+        Some(form) => answer_form(alloc, rt, form, source, sink, gate),
         None => usage(sink),
+    }
+}
+
+/// Does what a form asks for.
+fn answer_form<R: Threads + Wait + Clock + Sync, S: Source, K: Sink, G: Gate + Sync>(
+    alloc: Global,
+    rt: &R,
+    form: Form,
+    source: &mut S,
+    sink: &mut K,
+    gate: &G,
+) -> Status
+    requires { IsTrue (is_in_range form) }
+    ensures { Does (Option.Some form) (status_number result) (S.left source.old) (S.left source.new)
+        (S.faults source.old) (S.faults source.new) (K.state sink.old) (K.state sink.new) }
+{
+    match form {
+        Form::Run { workers } => run_call(alloc, rt, source, sink, gate, workers),
+        Form::Gen { seed, count } => gen_call(alloc, seed, count, sink),
+        Form::Help => help_call(sink),
+        _ => answer_alone(alloc, form, source, sink),
+    }
+}
+
+/// Does what a form asks for that reads the source, and does the rest on this thread.
+fn answer_alone<S: Source, K: Sink>(
+    alloc: Global,
+    form: Form,
+    source: &mut S,
+    sink: &mut K,
+) -> Status
+    requires { IsTrue (reads_alone form) }
+    ensures { Does (Option.Some form) (status_number result) (S.left source.old) (S.left source.new)
+        (S.faults source.old) (S.faults source.new) (K.state sink.old) (K.state sink.new) }
+{
+    match form {
+        Form::Play => play_call(alloc, source, sink),
+        Form::Check => check_call(alloc, source, sink),
+        Form::Convert => convert_call(alloc, source, sink),
+        Form::Arbiter => arbiter_call(alloc, source, sink),
+        Form::Auto => auto_call(alloc, source, sink),
+        Form::Logical => logical_call(alloc, source, sink),
+        Form::Reprocess => reprocess_call(alloc, source, sink),
+        Form::Run { .. } | Form::Gen { .. } | Form::Help => unreachable!(),
     }
 }
 

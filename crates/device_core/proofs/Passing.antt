@@ -1,16 +1,16 @@
 -- Tests of a row's target that follow from others.
 use Rattle.std.proofs.Common.{◌≡◌, ◌==◌, ℕ, Bool, true, ◌&&◌, List, Option, Some, None, refl}
 use Rattle.std.specs.List.{list_all}
-use Rattle.std.proofs.lemmas.Bool.{and_parts}
+use Rattle.std.proofs.lemmas.Bool.{and_parts, or_right}
 use Rattle.cam_types.specs.Four.{four_list}
 use Rattle.cam_types.specs.declared.row.RowView.{RowView}
-use Rattle.cam_types.specs.declared.row.TargetState.TheVariants.{Waiting}
+use Rattle.cam_types.specs.declared.row.TargetState.TheVariants.{EarlyFilled, Filled, Out, Waiting}
 use Rattle.cam_types.specs.declared.row.TargetView.{TargetView}
 use Rattle.cam_types.specs.declared.script.Fault.{Fault}
 use Rattle.device_rows.specs.Kept.{has_made_fence, have_made_fences, is_made}
-use Rattle.device_rows.specs.Ready.{is_fill_ready, is_home, is_passed, is_sound, is_same_state, may_fill, passes_at, target_passes}
+use Rattle.device_rows.specs.Ready.{is_delivery_ready, is_early_ready, is_fill_ready, is_finish_ready, is_home, is_passed, is_sound, is_same_state, may_deliver, may_fill, may_go_early, may_return, passes_at, target_passes}
 use Rattle.device_rows.specs.Rows.{row_at, target_at}
-use Rattle.device_core.specs.Steps.{has_made, is_fillable, is_open_to}
+use Rattle.device_core.specs.Steps.{has_made, is_fillable, is_filled, is_in_fill, is_open_to}
 use Rattle.device_core.proofs.General.{find-passes}
 use Rattle.buffer_pool.specs.Fences.{FencesMade, is_signalled, made}
 
@@ -67,3 +67,17 @@ open_in faults fences s (Some row) h m = open_at faults fences row (target_at s 
 pub open_to : (faults : List Fault) (fences : FencesMade) (rows : List RowView) (n s : ℕ) → list_all (have_made_fences (made fences)) rows ≡ true → is_fill_ready faults (λ f. is_signalled f fences) rows n s ≡ true → target_passes (is_open_to fences) s (row_at n rows) ≡ true
 open_to faults fences rows n s all h =
     open_in faults fences s (row_at n rows) h (made_target (made fences) n s rows (may_fill faults (λ f. is_signalled f fences)) all h)
+
+-- ---- a buffer that may come back with its picture, or early
+
+pub filled_to_deliver : (faults : List Fault) (rows : List RowView) (n s : ℕ) → is_delivery_ready faults rows n s ≡ true → target_passes is_filled s (row_at n rows) ≡ true
+filled_to_deliver faults rows n s h =
+    target_passes_less (may_deliver faults rows) is_filled s (row_at n rows) (λ row t h. rw (and_parts (is_same_state t.state Filled) (may_return faults rows row t) h).0 refl) h
+
+pub filled_to_finish : (rows : List RowView) (n s : ℕ) → is_finish_ready rows n s ≡ true → target_passes is_filled s (row_at n rows) ≡ true
+filled_to_finish rows n s h =
+    target_passes_less (λ row t. is_same_state t.state EarlyFilled) is_filled s (row_at n rows) (λ row t h. or_right (is_same_state t.state Filled) (is_same_state t.state EarlyFilled) h) h
+
+pub in_fill : (faults : List Fault) (rows : List RowView) (n s : ℕ) → is_early_ready faults rows n s ≡ true → target_passes is_in_fill s (row_at n rows) ≡ true
+in_fill faults rows n s h =
+    target_passes_less (may_go_early faults rows) is_in_fill s (row_at n rows) (λ row t h. (and_parts (is_same_state t.state Out) (may_return faults rows row t) h).0) h

@@ -1,5 +1,5 @@
 -- The waiters of what is held for rows whose fences were made.
-use Rattle.std.proofs.Common.{◌≡◌, ℕ, Bool, true, ◌||◌, not, List, [], ◌∷◌, ◌++◌, map, option_to_list, Option, Some, None, slice_get, refl, ap, ◌∙◌}
+use Rattle.std.proofs.Common.{◌≡◌, ℕ, Bool, true, ◌&&◌, ◌||◌, not, List, [], ◌∷◌, ◌++◌, map, option_to_list, Option, Some, None, slice_get, refl, ap, ◌∙◌}
 use Rattle.std.specs.List.{list_all}
 use Rattle.std.proofs.lemmas.Bool.{and_from, and_parts}
 use Rattle.basic_lemmas.proofs.Lists.{all-mapped, all-where}
@@ -65,3 +65,11 @@ all-back p (y ∷ ys) x all =
 -- what all pass, the last and those before it do
 pub all-last : {X : Type 0} (p : X → Bool) (rows front : List X) (x : X) → rows ≡ front ++ x ∷ [] → list_all p rows ≡ true → (list_all p front ≡ true) × (p x ≡ true)
 all-last p rows front x is all = all-back p front x (rw is at all)
+
+-- what is held for a row, one by one
+pub made-parts : (k : ℕ) (row : Row Held) → is_made_row k row ≡ true → (is_made_at k row.parked.a ≡ true) × (is_made_at k row.parked.b ≡ true) × (is_made_at k row.parked.c ≡ true) × (is_made_at k row.parked.d ≡ true)
+made-parts k row h =
+    let a = and_parts (is_made_at k row.parked.a) (is_made_at k row.parked.b && (is_made_at k row.parked.c && is_made_at k row.parked.d)) h in
+    let b = and_parts (is_made_at k row.parked.b) (is_made_at k row.parked.c && is_made_at k row.parked.d) a.1 in
+    let c = and_parts (is_made_at k row.parked.c) (is_made_at k row.parked.d) b.1 in
+    (a.0, b.0, c.0, c.1)

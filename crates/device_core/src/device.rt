@@ -142,9 +142,7 @@ fn are_offered(plan: Plan) -> bool
 {
     let streams = plan.streams;
     is_offered_at(streams.a)
-        && is_offered_at(streams.b)
-        && is_offered_at(streams.c)
-        && is_offered_at(streams.d)
+        && (is_offered_at(streams.b) && (is_offered_at(streams.c) && is_offered_at(streams.d)))
 }
 
 fn is_offered_at(stream: Option<PlanStream>) -> bool

@@ -20,9 +20,7 @@ impl Store {
         ensures job { option_map sensor_job (row_at frame.0 self.old.rows) ≡ Some result }
         ensures rows { self.new ≡ with_rows (with_row frame.0 (exposed time) self.old.rows) self.old }
     {
-        let Some((place, row)) = find_row(&self.table, frame) else {
-            unreachable!();
-        };
+        let (place, row) = find_row(&self.table, frame);
         let scratch = match swap_slot(&mut self.slots, place, Slot::Away) {
             Slot::Spare(scratch) => scratch,
             Slot::Home(_) => unreachable!(),
@@ -39,9 +37,7 @@ impl Store {
         ensures { self.new ≡ with_rows (with_row job.frame.0 sensor_home self.old.rows) self.old }
     {
         let frame = job.frame();
-        let Some((place, _row)) = find_row(&self.table, frame) else {
-            unreachable!();
-        };
+        let (place, _row) = find_row(&self.table, frame);
         let home = HomeReadout::of_exposed(job);
         let _ = swap_slot(&mut self.slots, place, Slot::Home(home));
         let _ = self.table.mark(frame, Mark::Sensor(SensorPlace::Home));

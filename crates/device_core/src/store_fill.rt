@@ -11,12 +11,12 @@ ghost use Rattle.device_core.specs.Steps.{fill_job_for, is_fillable, is_open_to,
 ghost use Rattle.device_core.specs.Stored.{specs_of, with_rows};
 
 use crate::buffers::{FilledBuf, Held, WaitingBuf};
-use crate::place::{find_row, swap_slot};
+use crate::place::{find_target, swap_slot};
 use crate::readouts::{HomeReadout, Slot};
 use crate::store::Store;
 use buffer_pool::{Fences, Parked, Waiter};
 use cam_types::{FillTarget, FrameNo, RowView, SensorPlace, StreamIx, TargetState, TargetView};
-use device_rows::{Mark, target_at};
+use device_rows::Mark;
 use fill_jobs::{FillJob, FilledJob};
 
 impl Store {
@@ -29,12 +29,7 @@ impl Store {
         ensures rows { self.new ≡ with_rows (with_row frame.0 (fill_begun stream) self.old.rows) self.old }
         ensures fences { fences.new ≡ fences.old }
     {
-        let Some((place, row)) = find_row(&self.table, frame) else {
-            unreachable!();
-        };
-        let Some(target) = target_at(row, stream) else {
-            unreachable!();
-        };
+        let (place, row, target) = find_target(&self.table, frame, stream);
         let home = match swap_slot(&mut self.slots, place, Slot::Away) {
             Slot::Home(home) => home,
             Slot::Spare(_) => unreachable!(),
@@ -60,12 +55,7 @@ impl Store {
     {
         let frame = job.frame();
         let stream = job.target().stream;
-        let Some((place, row)) = find_row(&self.table, frame) else {
-            unreachable!();
-        };
-        let Some(target) = target_at(row, stream) else {
-            unreachable!();
-        };
+        let (place, _row, target) = find_target(&self.table, frame, stream);
         let (home, filled) = take_apart(job);
         let _ = swap_slot(&mut self.slots, place, Slot::Home(home));
         match self.table.put_target(frame, stream, Held::Filled(filled)) {

@@ -15,9 +15,7 @@ impl Store {
         requires { IsTrue (is_retire_ready self.old.rows frame.0) }
         ensures { self.new ≡ with_rows (without frame.0 self.old.rows) self.old }
     {
-        let Some((place, _row)) = find_row(&self.table, frame) else {
-            unreachable!();
-        };
+        let (place, _row) = find_row(&self.table, frame);
         let readout = match self.slots.remove(place) {
             Slot::Spare(scratch) => scratch.into_readout(),
             Slot::Home(home) => home.into_readout(),

@@ -1,5 +1,5 @@
 //! Bands of a picture of the sensor's size, which are written side by side.
-ghost use Rattle.std.specs.Prelude.{◌≡◌, ◌+◌, ◌*◌, ◌≤◌, length};
+ghost use Rattle.std.specs.Prelude.{◌≡◌, ◌+◌, ◌*◌, ◌/◌, ◌<◌, ◌≤◌, length};
 ghost use Rattle.std.specs.List.{All};
 ghost use Rattle.cam_types.specs.Picture.{chroma_blue, chroma_red};
 ghost use Rattle.picture_stages.specs.Cells.{AreWideRows, AreChromaRows, HaveRoomFor, IsBand, IsReadout};
@@ -7,6 +7,15 @@ ghost use denote.Param.Send.{IsSync};
 
 use crate::wide::write_band;
 use std::thread::{Threads, join_mut};
+
+/// How many of the pairs of rows the front half of so many bands has.
+fn front_pairs(bands: u32, pairs: usize) -> usize
+    requires { 0 < bands }
+    ensures value { result ≡ pairs / bands * (bands / 2) }
+    ensures within { result ≤ pairs }
+{
+    pairs / bands as usize * (bands / 2) as usize
+}
 
 /// Writes what `write_band` writes, in so many bands side by side.
 pub fn write_bands<R: Threads + Sync>(
@@ -35,7 +44,7 @@ pub fn write_bands<R: Threads + Sync>(
     }
     let before = bands / 2;
     let after = bands - before;
-    let front = pairs / bands as usize * before as usize;
+    let front = front_pairs(bands, pairs);
     let (front_luma, back_luma) = luma.split_at_mut(front * 320);
     let (front_blue, back_blue) = blue.split_at_mut(front * 80);
     let (front_red, back_red) = red.split_at_mut(front * 80);

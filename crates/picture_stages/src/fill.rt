@@ -49,7 +49,7 @@ fn write_bands<R: Threads + Sync>(rt: &R, bands: u32, values: &[u16], bytes: &mu
 }
 
 /// The SHA-256 of what a buffer shows.
-fn digest_of(out: &PixelBuf) -> [u8; 32]
+pub(crate) fn digest_of(out: &PixelBuf) -> [u8; 32]
     ensures { result ≡ sha256 out.now.bytes }
 {
     Sha256::digest(out.bytes())

@@ -5,10 +5,10 @@ ghost use Rattle.cam_types.specs.Picture.{is_yuv_size, yuv_picture};
 ghost use Rattle.sha2.specs.Sha256.{sha256};
 
 use crate::bands::write_bands;
+use crate::fill::digest_of;
 use crate::narrow::{write_half_planes, write_quarter_planes};
 use crate::wide::write_band;
 use cam_types::{PixelBuf, Readout};
-use sha2::{Digest, Sha256};
 use std::thread::Threads;
 
 /// The least picture whose rows are divided into bands, in pixels: that of the sensor's size. Beside its digest it takes
@@ -76,13 +76,6 @@ fn write_picture(values: &[u16], width: u32, height: u32, bytes: &mut [u8])
         80 => write_half(values, bytes),
         _ => write_quarter(values, bytes),
     }
-}
-
-/// The SHA-256 of what a buffer shows.
-fn digest_of(out: &PixelBuf) -> [u8; 32]
-    ensures { result ≡ sha256 out.now.bytes }
-{
-    Sha256::digest(out.bytes())
 }
 
 /// Writes the YUV picture of a readout, of 160 x 120, 80 x 60 or 40 x 30 pixels, into a buffer that shows its bytes,

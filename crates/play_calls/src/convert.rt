@@ -7,7 +7,9 @@ ghost use Rattle.call_parts.specs.Ends.{KeepsEnds};
 ghost use Rattle.play_calls.specs.Converting.{Converts, ConvertsInput, IsConverted};
 ghost use Rattle.call_parts.specs.Status.{status_number};
 
-use call_parts::{Status, TraceInput, TraceWork, answer_input, profile_of, refuse_trace};
+use call_parts::{
+    Status, TraceInput, TraceWork, answer_input, profile_of, refuse_trace, write_trace,
+};
 use io_edge::{Sink, Source};
 use std::alloc::Global;
 use trace_model::TraceList;
@@ -59,12 +61,8 @@ fn write_version_two<K: Sink>(alloc: Global, trace: &TraceList, sink: &mut K) ->
     requires { list_all is_printable trace.now.entries ≡ true }
     ensures { TellsBy (Converts (Result.Ok trace.now)) (status_number result) (K.state sink.old) (K.state sink.new) }
 {
-    let mut writer = match TraceWriter::new(alloc, Some(profile_of(trace))) {
-        Ok(writer) => writer,
-        Err(_) => return Status::NoMemory,
-    };
-    match writer.write(trace.as_slice(), sink) {
-        Ok(()) => Status::Done,
-        Err(_) => Status::SinkFailed,
+    match TraceWriter::new(alloc, Some(profile_of(trace))) {
+        Ok(mut writer) => write_trace(&mut writer, trace.as_slice(), sink),
+        Err(_) => Status::NoMemory,
     }
 }

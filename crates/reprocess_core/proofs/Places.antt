@@ -4,11 +4,13 @@ use Rattle.std.proofs.lemmas.Bool.{cases_eq, eq-eqb, ne_eqb, false≢true}
 use Rattle.std.proofs.lemmas.Grind.{common_steps}
 use Rattle.std.proofs.lemmas.List.{get_or_default}
 use Rattle.cam_types.specs.Shown.{Shown}
+use Rattle.cam_types.specs.declared.four.Four.{Four}
 use Rattle.cam_types.specs.declared.number.FrameNo.{FrameNo}
 use Rattle.cam_types.specs.declared.stream.StreamSpec.{StreamSpec}
 use Rattle.reprocess_model.specs.declared.entry.InputId.{InputId}
 use Rattle.reprocess_model.specs.declared.entry.ReEntry.{ReEntry}
-use Rattle.reprocess_model.specs.declared.entry.ReEntry.TheVariants.{Input}
+use Rattle.reprocess_model.specs.declared.entry.ReOut.{ReOut}
+use Rattle.reprocess_model.specs.declared.entry.ReEntry.TheVariants.{Input, Take}
 use Rattle.reprocess_model.specs.declared.plan.Plan.{Plan}
 use Rattle.reprocess_model.specs.Past.{input_holder}
 use Rattle.reprocess_core.specs.declared.input.Place.{Place}
@@ -83,6 +85,12 @@ changed plan e past xs i p are low here others =
             (subst (λ (o : Option ℕ). IsPlace plan o (get_or xs k None)) (sym (others k other)) (are.each k l))
       ];
     }
+
+pub taken-places : (plan : Plan) (past : List ReEntry) (xs : List (Option Place)) (n : FrameNo) (i : InputId) (outs : Four ReOut) (ticket : TicketView) → ArePlaces plan past xs → i.0 < 3 → IsTicket plan n.0 ticket → ArePlaces plan (Take n i outs ∷ past) (set (set xs i.0 None) i.0 (Some (Out ticket)))
+taken-places plan past xs n i outs ticket are low is =
+    let held : input_holder i.0 (Take n i outs ∷ past) ≡ Some n.0 = rw (eq-eqb i.0 i.0 refl) refl in
+    changed plan (Take n i outs) past xs i.0 (Some (Out ticket)) are low (subst (λ (o : Option ℕ). IsPlace plan o (Some (Out ticket))) (sym held) is)
+    (λ k other. rw (ne_eqb i.0 k (λ same. other (sym same))) refl)
 
 pub returned-places : (plan : Plan) (past : List ReEntry) (xs : List (Option Place)) (n : FrameNo) (i : InputId) (pixels : Shown) → ArePlaces plan past xs → i.0 < 3 → HasRoom plan.input pixels → ArePlaces plan (Input n i ∷ past) (set (set xs i.0 None) i.0 (Some (Home pixels)))
 returned-places plan past xs n i pixels are low room =

@@ -37,7 +37,6 @@ fn write_planes<const STEP: usize>(from: &[u8], width: usize, height: usize, byt
 }
 
 /// Writes a picture from one of 160 x 120 pixels.
-#[tactic(auto, unfolding(reprocess_model::specs::Reduce::reduced_to))]
 fn write_from_wide(input: &[u8], width: u32, height: u32, bytes: &mut [u8])
     requires size { IsTrue (is_yuv_size width height) }
     requires len { length input.now ≡ 28800 }
@@ -52,7 +51,6 @@ fn write_from_wide(input: &[u8], width: u32, height: u32, bytes: &mut [u8])
 }
 
 /// Writes a picture from one of 80 x 60 pixels.
-#[tactic(auto, unfolding(reprocess_model::specs::Reduce::reduced_to))]
 fn write_from_half(input: &[u8], width: u32, height: u32, bytes: &mut [u8])
     requires size { IsTrue (is_yuv_size width height) }
     requires smaller { width ≤ 80 }
@@ -67,7 +65,6 @@ fn write_from_half(input: &[u8], width: u32, height: u32, bytes: &mut [u8])
 }
 
 /// Writes a picture from one of 40 x 30 pixels, which is as large.
-#[tactic(auto, unfolding(reprocess_model::specs::Reduce::reduced_to))]
 fn write_from_quarter(input: &[u8], bytes: &mut [u8])
     requires len { length input.now ≡ 1800 }
     requires room { length bytes.old ≡ 1800 }

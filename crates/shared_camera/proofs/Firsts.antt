@@ -1,6 +1,6 @@
 -- The first ready step of a kind is of the kind, and ready.
-use Rattle.std.proofs.Common.{◌≡◌, ℕ, Bool, true, false, List, [], ◌∷◌, Option, Some, None, refl, sym, ap, ◌∙◌, inl, inr, filter, find, is_some}
-use Rattle.std.proofs.lemmas.Bool.{cases_Bool, false≢true}
+use Rattle.std.proofs.Common.{◌≡◌, ℕ, ◌==◌, ◌||◌, Bool, true, false, List, [], ◌∷◌, Option, Some, None, refl, sym, ap, ◌∙◌, inl, inr, filter, find, is_some}
+use Rattle.std.proofs.lemmas.Bool.{cases_Bool, eqb-true, false≢true}
 use Rattle.cam_types.specs.declared.number.FrameNo.{FrameNo}
 use Rattle.cam_types.specs.declared.number.StreamIx.{StreamIx}
 use Rattle.cam_types.specs.declared.script.Script.{Script}
@@ -8,12 +8,12 @@ use Rattle.run_model.specs.declared.step.Kind.{Kind}
 use Rattle.run_model.specs.declared.step.Kind.TheVariants as kind
 use Rattle.run_model.specs.declared.step.Move.{Move}
 use Rattle.run_model.specs.declared.step.StepName.{StepName}
-use Rattle.run_model.specs.declared.step.StepName.TheVariants.{Shutter, SensorDone, TakeFill, FillDone}
+use Rattle.run_model.specs.declared.step.StepName.TheVariants.{Shutter, TakeFill}
 use Rattle.run_model.specs.History.{trace_of}
 use Rattle.run_model.specs.Played.{candidates, steps}
 use Rattle.run_model.specs.Ready.{is_ready, move_of}
 use Rattle.service_parts.specs.Outs.{moves_a_job, takes_a_job}
-use Rattle.service_core.specs.Kinds.{first_of, is_of}
+use Rattle.service_core.specs.Kinds.{first_of, is_of, kind_of, place_of}
 use Rattle.shared_camera.specs.Choices.{first_of_kinds, or_step}
 use Rattle.shared_camera.specs.Moves.{are_alone, is_of_jobs}
 use Rattle.basic_lemmas.proofs.Lists.{found-passes}
@@ -41,17 +41,22 @@ first-moves script h k step first none = false≢true (sym (ap is_some none) ∙
 pub first-of-kind : (script : Script) (h : List Move) (k : Kind) (step : StepName) → first_of k (candidates script h) ≡ Some step → is_of k step ≡ true
 first-of-kind script h k step first = found-passes {X = StepName} (is_of k) (candidates script h) step first
 
+-- the places of the kinds whose steps take a job out, or give one back
+abbrev of-jobs-at : ℕ → Bool
+of-jobs-at n = (n == 7) || ((n == 8) || ((n == 10) || (n == 11)))
+
+kind-at : (k : Kind) → is_of_jobs k ≡ of-jobs-at (place_of k)
+kind-at kind.Shutter = refl
+kind-at _ = refl
+
+step-at : (step : StepName) → moves_a_job step ≡ of-jobs-at (place_of (kind_of step))
+step-at Shutter = refl
+step-at _ = refl
+
 -- a step of a kind that is of no job is of no job
 pub step-alone : (k : Kind) (step : StepName) → is_of k step ≡ true → is_of_jobs k ≡ false → moves_a_job step ≡ false
-step-alone kind.Shutter step is alone = absurd (false≢true (sym alone))
-step-alone kind.SensorDone step is alone = absurd (false≢true (sym alone))
-step-alone kind.TakeFill step is alone = absurd (false≢true (sym alone))
-step-alone kind.FillDone step is alone = absurd (false≢true (sym alone))
-step-alone _ Shutter is alone = absurd (false≢true is)
-step-alone _ (SensorDone n) is alone = absurd (false≢true is)
-step-alone _ (TakeFill n s) is alone = absurd (false≢true is)
-step-alone _ (FillDone n s) is alone = absurd (false≢true is)
-step-alone _ _ is alone = refl
+step-alone k step is alone =
+    step-at step ∙ (ap of-jobs-at (eqb-true (place_of (kind_of step)) (place_of k) is) ∙ (sym (kind-at k) ∙ alone))
 
 pub is-shutter : (step : StepName) → is_of kind.Shutter step ≡ true → step ≡ Shutter
 is-shutter Shutter is = refl

@@ -39,7 +39,6 @@ fn target_passes(target: Option<OpenTarget>, stream: StreamIx) -> bool
 }
 
 /// Whether the frame doesn't hold later buffers of the stream back.
-#[tactic(auto, using(judge_rows::proofs::TargetLemmas::all_four))]
 fn lets_pass(row: &OpenRow, stream: StreamIx) -> bool
     ensures { result ≡ lets_pass_row stream.0 (row_of row.now) }
 {

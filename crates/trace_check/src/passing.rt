@@ -1,5 +1,5 @@
 //! The judge in one pass: each entry is looked at once, over the tables of the state that those before it left.
-ghost use Rattle.std.specs.Prelude.{◌≡◌, ◌↔◌, ◌∷◌, [], true, IfOk, OnOk, IsTrue, reverse};
+ghost use Rattle.std.specs.Prelude.{◌≡◌, ◌∷◌, [], true, IfOk, OnOk, IsTrue, reverse};
 ghost use Rattle.cam_types.specs.Profile.{is_profile};
 ghost use Rattle.cam_types.specs.Script.{is_valid};
 ghost use Rattle.trace_laws.specs.Typed.{is_typed};
@@ -16,23 +16,6 @@ use picture_stages::PictureDigests;
 use std::alloc::Global;
 use trace_laws::every_script_is_typed;
 use trace_model::{Entry, MissingPart, TraceList, Verdict};
-
-/// Whether the entry is allowed after the entries, whose state the tables hold. The entries aren't read.
-fn is_allowed_by(
-    script: &Script,
-    entries: &[Entry],
-    tables: &JudgeTables,
-    entry: &Entry,
-    memory: PictureDigests,
-) -> (bool, PictureDigests)
-    requires valid { IsTrue (is_valid script.now) }
-    requires profile { IsTrue (is_profile script.now.profile) }
-    requires legal { IsLegal script.now (reverse entries.now) }
-    requires held { tables.now ≡ held script.now (reverse entries.now) }
-    ensures { IsTrue result.0 ↔ IsAllowed script.now (reverse entries.now) entry.now }
-{
-    is_due(script, tables, entry, memory)
-}
 
 /// Notes an entry that is allowed after the entries, whose state the tables hold. The entries aren't read. The answer is
 /// an error only where memory runs out.
@@ -92,57 +75,38 @@ fn judge_end_by(script: &Script, entries: &[Entry], tables: &JudgeTables) -> Ver
     }
 }
 
-/// Notes the entry in the tables if it is allowed after the entries, whose state they hold, and says whether it is. The
-/// entries aren't read.
-fn note_allowed_by(
-    script: &Script,
-    entries: &[Entry],
-    tables: &mut JudgeTables,
-    entry: &Entry,
-    memory: PictureDigests,
-) -> Result<(bool, PictureDigests), NoMemory>
-    requires valid { IsTrue (is_valid script.now) }
-    requires profile { IsTrue (is_profile script.now.profile) }
-    requires legal { IsLegal script.now (reverse entries.now) }
-    requires held { tables.old ≡ held script.now (reverse entries.now) }
-    ensures allowed { IfOk result (λ r. IsTrue r.0 ↔ IsAllowed script.now (reverse entries.now) entry.now) }
-    ensures held { IfOk result (λ r. IsTrue r.0 → tables.new ≡ held script.now (entry.now ∷ reverse entries.now)) }
-{
-    every_script_is_typed(script);
-    let (allowed, after) = is_allowed_by(script, entries, tables, entry, memory);
-    if allowed {
-        note_by(script, entries, tables, entry)?;
-    }
-    Ok((allowed, after))
-}
-
-/// Judges entry by entry, with tables that hold no entry's state yet.
+/// Judges entry by entry, with tables that hold no entry's state yet, and gives back the memory for the pictures'
+/// digests.
 fn judge_each_by(
     script: &Script,
     trace: &TraceList,
     tables: &mut JudgeTables,
     memory: PictureDigests,
-) -> Result<Verdict, NoMemory>
+) -> (Result<Verdict, NoMemory>, PictureDigests)
     requires valid { IsTrue (is_valid script.now) }
     requires profile { IsTrue (is_profile script.now.profile) }
     requires held { tables.old ≡ held script.now [] }
-    ensures { IfOk result (λ verdict. IsVerdict script.now trace.now.entries verdict) }
+    ensures { IfOk result.0 (λ verdict. IsVerdict script.now trace.now.entries verdict) }
 {
+    every_script_is_typed(script);
     let entries = trace.as_slice();
     let mut memory = memory;
     for position in 0..trace.len() {
         let place = position as usize;
+        let past = &entries[..place];
         let entry = &entries[place];
-        let (allowed, after) = note_allowed_by(script, &entries[..place], tables, entry, memory)?;
+        let (allowed, after) = is_due(script, tables, entry, memory);
         memory = after;
         if !allowed {
-            return Ok(Verdict::IllegalAt {
-                position,
-                rule: rule_of(entry),
-            });
+            let rule = rule_of(entry);
+            return (Ok(Verdict::IllegalAt { position, rule }), memory);
+        }
+        match note_by(script, past, tables, entry) {
+            Ok(()) => {}
+            Err(error) => return (Err(error), memory),
         }
     }
-    Ok(judge_end_by(script, entries, tables))
+    (Ok(judge_end_by(script, entries, tables)), memory)
 }
 
 /// Judges entry by entry, with tables that hold no entry's state yet, and takes the memory for the pictures' digests.
@@ -158,7 +122,8 @@ fn judge_with_room(
     ensures { IfOk result (λ verdict. IsVerdict script.now trace.now.entries verdict) }
 {
     let memory = PictureDigests::with_room(alloc, trace.len() as usize)?;
-    judge_each_by(script, trace, tables, memory)
+    let (verdict, _) = judge_each_by(script, trace, tables, memory);
+    verdict
 }
 
 /// Judges a trace of a valid script entry by entry.

@@ -1,4 +1,4 @@
-use Rattle.std.proofs.Common.{ℕ, ap, ◌∙◌, arith}
+use Rattle.std.proofs.Common.{ℕ, refl, ap, ◌∙◌, arith}
 use Rattle.std.proofs.lemmas.Grind.{common_steps}
 use Rattle.turn_lock.specs.declared.seat.Seat.{Seat}
 use Rattle.turn_lock.specs.declared.turnstile.Turnstile.{Turnstile}
@@ -6,7 +6,7 @@ use Rattle.turn_lock.specs.declared.view.View.{View}
 use Rattle.turn_lock.specs.Lending.{IsDone, IsReady}
 use Rattle.turn_lock.specs.Seats.{view}
 use Rattle.turn_lock.specs.Turns.{Looks}
-use Rattle.turn_lock.proofs.Beginnings.{begins_through}
+use Rattle.turn_lock.proofs.Beginnings.{begins_itself, begins_through}
 use Rattle.shared_camera.specs.Cameras.{script_of}
 use Rattle.shared_camera.proofs.loops.work.Goals as goal
 
@@ -19,6 +19,17 @@ module _ {S F E J : Type 0} (fixed : S → F) (turnstile : Turnstile S F E J) (v
   -- and so is one whose turns are done
   again : IsDone fixed turnstile (view old) new → IsDone fixed turnstile v new
   again next = (next.0, (next.1.0 ∙ done.1.0, next.1.1 ∙ done.1.1, next.1.2 ∙ done.1.2))
+
+pub loop-init : goal.loop-init
+loop-init g c = record { done = (c.requires, (refl, refl, refl)); begins = begins_itself (view c.args.seat.now).seen }
+
+pub moves-moves-requires : goal.moves-moves-requires
+moves-moves-requires g c = c.loop.invariant.done.0.0
+
+pub is_over-requires : goal.is_over-requires
+is_over-requires g c =
+    let look = c.moves-moves.ensures in
+    (looked script_of c.args.shared.now.turnstile (view c.args.seat.now) c.loop.seat c.moves-moves.new.seat c.loop.invariant.done c.moves-moves.result look.seat look.look).0
 
 pub loop-preserved-in-Watch : goal.loop-preserved-in-Watch
 loop-preserved-in-Watch g c =

@@ -1,14 +1,16 @@
 use Rattle.std.proofs.Common.{◌≡◌, ◌-◌, ℕ, List, Some, true, refl, sym, ap, subst, ◌∙◌, Option}
 use Rattle.std.specs.Prelude.{is_some, slice_get, slice_set}
-use Rattle.std.proofs.lemmas.List.{length-set, map-set, set-set}
+use Rattle.std.proofs.lemmas.List.{length-set, set-set}
 use Rattle.cam_types.specs.Shown.{Shown}
 use Rattle.trace_model.specs.Place.{Pool, is_at}
 use Rattle.buffer_manager.specs.declared.slot.Slot.{Slot}
 use Rattle.buffer_manager.specs.declared.slot.Slot.TheVariants.{Away, Early, Late}
-use Rattle.buffer_manager.specs.Slots.{awaited_of, fence_of, held_of, picture_of, place_of}
-use Rattle.buffer_manager.proofs.Lists.{get-here, map-set-same}
+use Rattle.buffer_manager.specs.Slots.{awaited_of, fence_of, place_of}
+use Rattle.buffer_manager.proofs.Lists.{get-here}
 use Rattle.buffer_manager.proofs.Moves.{kept-same, owner, stocked-away, whole-at}
 use Rattle.buffer_manager.proofs.Pictures.{early-at, timely-late}
+use Rattle.buffer_manager.proofs.Seen.{picture-is-there}
+use Rattle.buffer_manager.proofs.Spots.{client-at}
 use Rattle.buffer_pool.specs.Fences.{with_signal}
 use Rattle.buffer_manager.proofs.manager.BufferManager.finish.Goals as goal
 
@@ -25,6 +27,18 @@ second-is h = cc
 late-slots : (slots empty new : List Slot) (i s w d : ℕ) (pixels : Shown) → Early s w ≡ Early d d → empty ≡ slice_set slots i Away → new ≡ slice_set empty i (Late pixels w) → new ≡ slice_set slots i (Late pixels d)
 late-slots slots empty new i s w d pixels early taken put =
     put ∙ rw (taken, second-is early) (set-set slots i Away (Late pixels d))
+
+pub overflow_sub-place : goal.overflow_sub-place
+overflow_sub-place c =
+    rw c.id.ensures (client-at c.self.inside.first c.self.inside.slots.items c.args.pixels.id.0 (rw (← c.self.view_is) at c.requires.client)).low
+
+pub swap_slot-requires : goal.swap_slot-requires
+swap_slot-requires c =
+    rw c.id.ensures (client-at c.self.inside.first c.self.inside.slots.items c.args.pixels.id.0 (rw (← c.self.view_is) at c.requires.client)).within
+
+pub swap_slot-requires-2 : goal.swap_slot-requires-2
+swap_slot-requires-2 c =
+    rw (c.swap_slot.ensures.new, length-set, c.id.ensures) (client-at c.self.inside.first c.self.inside.slots.items c.args.pixels.id.0 (rw (← c.self.view_is) at c.requires.client)).within
 
 pub take_early-signaller-requires : goal.take_early-signaller-requires
 take_early-signaller-requires c =
@@ -85,4 +99,4 @@ returns-clause-picture c =
     let late : c.signal.new.self ≡ with_signal early.device.0 m.late = rw signaller at c.signal.ensures.signalled in
     let number = c.signal.ensures.number ∙ signaller in
     let old : slice_get m.slots.items (b - m.first) ≡ Some (Early early.device.0 early.device.0) = rw c.id.ensures at c.swap_slot.ensures.old ∙ ap Some early.got in
-    rw (← c.self.view_is, is, late, number, map-set-same place_of m.slots.items (b - m.first) (Early early.device.0 early.device.0) (Late c.args.pixels early.device.0) old refl, map-set-same fence_of m.slots.items (b - m.first) (Early early.device.0 early.device.0) (Late c.args.pixels early.device.0) old refl, map-set-same held_of m.slots.items (b - m.first) (Early early.device.0 early.device.0) (Late c.args.pixels early.device.0) old refl, map-set picture_of m.slots.items (b - m.first) (Late c.args.pixels early.device.0)) refl
+    rw (← c.self.view_is, number) (picture-is-there m.streams.items m.first m.slots.items c.swap_slot-2.new.slots.items m.late c.signal.new.self m.profile b early.device.0 c.args.pixels old is late)

@@ -1,9 +1,9 @@
-use Rattle.std.proofs.Common.{◌≡◌, ℕ, ◌+◌, ◌-◌, [], Some, true, refl, sym, ap, subst, ◌∙◌, arith, length}
+use Rattle.std.proofs.Common.{◌≡◌, ℕ, ◌+◌, ◌-◌, [], None, Some, true, refl, sym, ap, subst, ◌∙◌, arith, length}
 use Rattle.std.specs.List.{position_from}
 use Rattle.std.specs.Prelude.{slice_get, slice_index_or, slice_set}
 use Rattle.cam_types.specs.Shown.{Shown}
 use Rattle.trace_model.specs.Configuration.{is_made}
-use Rattle.std.proofs.lemmas.List.{length-set, map-set}
+use Rattle.std.proofs.lemmas.List.{length-set}
 use Rattle.std.proofs.lemmas.Option.{get_or_from_slice_get}
 use Rattle.trace_model.specs.Place.{Client, Pool, is_at}
 use Rattle.buffer_manager.specs.Kept.{AreKept, AreLent, AreTimely}
@@ -11,13 +11,13 @@ use Rattle.buffer_manager.specs.declared.manager.BufferManager.TheInside.{Inside
 use Rattle.buffer_manager.specs.declared.slot.Slot.{Slot}
 use Rattle.buffer_manager.specs.declared.slot.Slot.TheVariants.{Away, Home}
 use Rattle.buffer_manager.specs.declared.stream.Stream.{Stream}
-use Rattle.buffer_manager.specs.Managed.{homes_with}
-use Rattle.buffer_manager.specs.Slots.{fence_of, has_picture, held_of, is_sound, is_timely, picture_of, pixels_of, place_of}
+use Rattle.buffer_manager.specs.Managed.{homes_with, moved}
+use Rattle.buffer_manager.specs.Slots.{has_picture, is_sound, is_timely, pixels_of, place_of}
 use Rattle.buffer_manager.specs.Streams.{with_given}
-use Rattle.buffer_manager.proofs.Lists.{map-set-same}
 use Rattle.buffer_manager.proofs.Moves.{Found}
 use Rattle.buffer_manager.proofs.Owners.{Returned, returned, stream-found, stream-there}
 use Rattle.buffer_manager.proofs.Pictures.{held-at, number-is, picture-there, pixels-own, release-parts, renumbered}
+use Rattle.buffer_manager.proofs.Seen.{moved-is, stream-same}
 use Rattle.buffer_manager.proofs.Spots.{client-at, place_at}
 use Rattle.buffer_manager.proofs.manager.BufferManager.release.Goals as goal
 
@@ -46,6 +46,14 @@ unreachable-requires c =
     let low = out.low in
     let within = out.within in
     stream-there (m.first + length m.slots.items) m.first c.args.buffer.0 0 m.streams.items c.self.invariant.0.in_turn low (omega (arith, low, within)) (rw c.deref.ensures.value at (sym c.stream_of.ensures ∙ c.in_default.is))
+
+pub overflow_sub-place : goal.overflow_sub-place
+overflow_sub-place c =
+    (client-at c.self.inside.first c.self.inside.slots.items c.args.buffer.0 (rw (← c.self.view_is) at (release-parts (homes_with [] c.args.self.now) c.args.buffer.0 c.requires.may).0)).low
+
+pub swap_slot-slot-requires : goal.swap_slot-slot-requires
+swap_slot-slot-requires c =
+    (client-at c.self.inside.first c.self.inside.slots.items c.args.buffer.0 (rw (← c.self.view_is) at (release-parts (homes_with [] c.args.self.now) c.args.buffer.0 c.requires.may).0)).within
 
 pub take_pixels-requires-clause-picture : goal.take_pixels-requires-clause-picture
 take_pixels-requires-clause-picture c =
@@ -86,6 +94,7 @@ returns c =
     let h = releasing m c.self.invariant.0 c.self.invariant.1 c.self.invariant.2 b c.in-Some.stream (rw (← c.self.view_is) at (release-parts (homes_with [] c.args.self.now) b c.requires.may).0) (rw c.deref.ensures.value at (sym c.stream_of.ensures ∙ c.in-Some.is)) c.swap_slot-slot.result c.swap_slot-slot.ensures.old c.take_pixels.result c.take_pixels.ensures.pixels c.args.waiter in
     let items : c.swap_slot-slot.new.slots.items ≡ slice_set m.slots.items (b - m.first) (Home (Some (record { 0 = c.args.waiter }))) = rw c.number.ensures at c.swap_slot-slot.ensures.new in
     let given = rw h.found.at at c.give_to.ensures.given in
-    let made = map-set-same (λ (s : Stream). s.made) m.streams.items c.in-Some.stream h.found.stream (with_given (record { pixels = c.take_pixels.result; waiter = Some c.args.waiter }) h.found.stream) h.found.at refl in
-    let specs = map-set-same (λ (s : Stream). s.spec) m.streams.items c.in-Some.stream h.found.stream (with_given (record { pixels = c.take_pixels.result; waiter = Some c.args.waiter }) h.found.stream) h.found.at refl in
-    rw (← c.self.view_is, given, items, c.take_pixels.ensures.late, made, specs, map-set place_of m.slots.items (b - m.first) (Home (Some (record { 0 = c.args.waiter }))), map-set fence_of m.slots.items (b - m.first) (Home (Some (record { 0 = c.args.waiter }))), map-set held_of m.slots.items (b - m.first) (Home (Some (record { 0 = c.args.waiter }))), map-set picture_of m.slots.items (b - m.first) (Home (Some (record { 0 = c.args.waiter })))) refl
+    rw (← c.self.view_is, given, c.take_pixels.ensures.late) (
+    moved-is (slice_set m.streams.items c.in-Some.stream (with_given (record { pixels = c.take_pixels.result; waiter = Some c.args.waiter }) h.found.stream)) m.first m.slots.items c.swap_slot-slot.new.slots.items m.late m.profile b (Home (Some (record { 0 = c.args.waiter }))) items
+    ∙ ap (moved b Pool (Some (record { 0 = c.args.waiter })) None None) (stream-same m.streams.items m.first m.slots.items m.late m.profile c.in-Some.stream h.found.stream (with_given (record { pixels = c.take_pixels.result; waiter = Some c.args.waiter }) h.found.stream) h.found.at refl refl)
+    )

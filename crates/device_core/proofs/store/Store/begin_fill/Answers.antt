@@ -24,9 +24,8 @@ use Rattle.buffer_pool.specs.Fences.{FencesMade, is_signalled, made}
 use Rattle.device_core.proofs.Agree.{range-none}
 use Rattle.device_core.proofs.Moves.{begun-moved, is-home-place}
 use Rattle.device_core.proofs.Ops.{met-too}
-use Rattle.device_core.proofs.Outs.{fence-made, fence-passed, home-away, home-same, home-spare, job-for, job-same, not-none, not-waiting, place-of, slot-home, some-none, some-same, Taking, taking, waiting-state}
+use Rattle.device_core.proofs.Outs.{fence-made, fence-passed, home-away, home-same, home-spare, job-for, job-same, not-none, not-waiting, place-of, slot-home, some-same, Taking, taking, waiting-state}
 use Rattle.device_core.proofs.Steps.{slot-at, slot-within}
-use Rattle.device_core.proofs.Views.{find-views}
 use Rattle.device_core.proofs.store.Store.begin_fill.Goals as goal
 
 -- the target that waits, and the readout of its frame
@@ -56,33 +55,27 @@ beginning i kept n s fillable =
       opened = λ fences passed. and_parts (is_made (made fences) g.fence) (is_passed (λ f. is_signalled f fences) g.fence) (met-too (is_open_to fences) s (row_at n (views i.table.rows)) row g k.at k.target.found passed);
     }
 
-pub unreachable-requires : goal.unreachable-requires
-unreachable-requires c =
+pub find_target-place-requires : goal.find_target-place-requires
+find_target-place-requires c =
     let h = beginning c.self.inside c.self.invariant c.args.frame.0 c.args.stream.0 (rw (← c.self.view_is) at c.requires.fillable) in
-    some-none h.row _ (find-views c.args.frame.0 c.self.inside.table.rows ∙ c.in_default.ensures.none refl) h.taken.at
-
-pub unreachable-requires-in_default-target_at : goal.unreachable-requires-in_default-target_at
-unreachable-requires-in_default-target_at c =
-    let h = beginning c.self.inside c.self.invariant c.args.frame.0 c.args.stream.0 (rw (← c.self.view_is) at c.requires.fillable) in
-    let same = some-same h.row c.in-Some.row _ h.taken.at (find-views c.args.frame.0 c.self.inside.table.rows ∙ c.in-Some.ensures.found) in
-    some-none h.target _ (ap (λ (z : RowView). target_at c.args.stream.0 z) same ∙ (sym c.target_at.ensures ∙ c.in_default-target_at.is)) h.taken.target.found
+    rw (h.taken.at, h.taken.target.found) refl
 
 pub swap_slot-requires : goal.swap_slot-requires
 swap_slot-requires c =
-    slot-within c.self.inside.table.rows c.in-Some.place c.in-Some.row c.self.inside.slots.items c.self.invariant.shown c.in-Some.ensures.placed
+    slot-within c.self.inside.table.rows c.find_target-place.result.0 c.find_target-place.result.1 c.self.inside.slots.items c.self.invariant.shown c.find_target-place.ensures.placed
 
-pub unreachable-requires-in-Spare : goal.unreachable-requires-in-Spare
-unreachable-requires-in-Spare c =
+pub unreachable-requires : goal.unreachable-requires
+unreachable-requires c =
     let h = beginning c.self.inside c.self.invariant c.args.frame.0 c.args.stream.0 (rw (← c.self.view_is) at c.requires.fillable) in
-    let same = some-same h.row c.in-Some.row _ h.taken.at (find-views c.args.frame.0 c.self.inside.table.rows ∙ c.in-Some.ensures.found) in
-    let there = slot-at c.self.inside.table.rows c.in-Some.place c.in-Some.row c.self.inside.slots.items c.swap_slot.result c.self.invariant.shown c.in-Some.ensures.placed c.swap_slot.ensures.old ∙ (ap (λ (z : RowView). slot_of z) (sym same) ∙ slot-home h.row h.home) in
+    let same = some-same h.row c.find_target-place.result.1 _ h.taken.at c.find_target-place.ensures.found in
+    let there = slot-at c.self.inside.table.rows c.find_target-place.result.0 c.find_target-place.result.1 c.self.inside.slots.items c.swap_slot.result c.self.invariant.shown c.find_target-place.ensures.placed c.swap_slot.ensures.old ∙ (ap (λ (z : RowView). slot_of z) (sym same) ∙ slot-home h.row h.home) in
     home-spare c.swap_slot.result _ (sensor_job h.row) c.in-Spare.is there
 
 pub unreachable-requires-in-Away : goal.unreachable-requires-in-Away
 unreachable-requires-in-Away c =
     let h = beginning c.self.inside c.self.invariant c.args.frame.0 c.args.stream.0 (rw (← c.self.view_is) at c.requires.fillable) in
-    let same = some-same h.row c.in-Some.row _ h.taken.at (find-views c.args.frame.0 c.self.inside.table.rows ∙ c.in-Some.ensures.found) in
-    let there = slot-at c.self.inside.table.rows c.in-Some.place c.in-Some.row c.self.inside.slots.items c.swap_slot.result c.self.invariant.shown c.in-Some.ensures.placed c.swap_slot.ensures.old ∙ (ap (λ (z : RowView). slot_of z) (sym same) ∙ slot-home h.row h.home) in
+    let same = some-same h.row c.find_target-place.result.1 _ h.taken.at c.find_target-place.ensures.found in
+    let there = slot-at c.self.inside.table.rows c.find_target-place.result.0 c.find_target-place.result.1 c.self.inside.slots.items c.swap_slot.result c.self.invariant.shown c.find_target-place.ensures.placed c.swap_slot.ensures.old ∙ (ap (λ (z : RowView). slot_of z) (sym same) ∙ slot-home h.row h.home) in
     home-away c.swap_slot.result (sensor_job h.row) c.in-Away.is there
 
 pub unreachable-requires-in-Some-Filled : goal.unreachable-requires-in-Some-Filled
@@ -98,10 +91,10 @@ unreachable-requires-in-None c =
 pub make_job-requires : goal.make_job-requires
 make_job-requires c =
     let h = beginning c.self.inside c.self.invariant c.args.frame.0 c.args.stream.0 (rw (← c.self.view_is) at c.requires.fillable) in
-    let same = some-same h.row c.in-Some.row _ h.taken.at (find-views c.args.frame.0 c.self.inside.table.rows ∙ c.in-Some.ensures.found) in
+    let same = some-same h.row c.find_target-place.result.1 _ h.taken.at c.find_target-place.ensures.found in
     let place = place-of h.target h.spec c.take_target.result c.in-Some-Waiting.field-0 c.in-Some-Waiting.waiting c.in-Some-Waiting.is c.in-Some-Waiting.field-0-is (c.take_target.ensures.taken ∙ h.held) in
-    let there = slot-at c.self.inside.table.rows c.in-Some.place c.in-Some.row c.self.inside.slots.items c.swap_slot.result c.self.invariant.shown c.in-Some.ensures.placed c.swap_slot.ensures.old ∙ (ap (λ (z : RowView). slot_of z) (sym same) ∙ slot-home h.row h.home) in
-    let gt = some-same h.target c.in-Some-target_at.target _ h.taken.target.found (ap (λ (z : RowView). target_at c.args.stream.0 z) same ∙ (sym c.target_at.ensures ∙ c.in-Some-target_at.is)) in
+    let there = slot-at c.self.inside.table.rows c.find_target-place.result.0 c.find_target-place.result.1 c.self.inside.slots.items c.swap_slot.result c.self.invariant.shown c.find_target-place.ensures.placed c.swap_slot.ensures.old ∙ (ap (λ (z : RowView). slot_of z) (sym same) ∙ slot-home h.row h.home) in
+    let gt = some-same h.target c.find_target-place.result.2 _ h.taken.target.found (ap (λ (z : RowView). target_at c.args.stream.0 z) same ∙ c.find_target-place.ensures.has) in
     let opened = h.opened c.args.fences.now (rw (← c.self.view_is) at c.requires.passed) in
     record {
       range = rw (← same) (range-none (length (specs_of c.self.inside.plan)) h.row h.taken.stands.kept);
@@ -115,22 +108,22 @@ make_job-requires c =
 pub invariant_of-self : goal.invariant_of-self
 invariant_of-self c =
     let h = beginning c.self.inside c.self.invariant c.args.frame.0 c.args.stream.0 (rw (← c.self.view_is) at c.requires.fillable) in
-    let same = some-same h.row c.in-Some.row _ h.taken.at (find-views c.args.frame.0 c.self.inside.table.rows ∙ c.in-Some.ensures.found) in
-    let step = begun-moved c.self.inside.plan c.self.inside.table c.take_target.new.self c.mark.new.self c.mark-2.new.self c.self.inside.slots.items c.swap_slot.new.slots.items (length c.self.inside.spares.items) (vec_capacity c.self.inside.slots) (vec_capacity c.swap_slot.new.slots) (vec_capacity c.self.inside.spares) c.args.frame.0 c.in-Some.place c.args.stream h.row h.target h.spec c.self.invariant h.taken.stands h.taken.target h.waits h.home (c.in-Some.ensures.placed ∙ ap (λ (z : RowView). Some z) (sym same)) (ap (λ (z : RowView). z.frame.0) same ∙ c.in-Some.ensures.own) c.swap_slot.ensures.new c.take_target.ensures.left c.mark.ensures.marked c.mark-2.ensures.marked c.swap_slot.ensures.capacity in
+    let same = some-same h.row c.find_target-place.result.1 _ h.taken.at c.find_target-place.ensures.found in
+    let step = begun-moved c.self.inside.plan c.self.inside.table c.take_target.new.self c.mark.new.self c.mark-2.new.self c.self.inside.slots.items c.swap_slot.new.slots.items (length c.self.inside.spares.items) (vec_capacity c.self.inside.slots) (vec_capacity c.swap_slot.new.slots) (vec_capacity c.self.inside.spares) c.args.frame.0 c.find_target-place.result.0 c.args.stream h.row h.target h.spec c.self.invariant h.taken.stands h.taken.target h.waits h.home (c.find_target-place.ensures.placed ∙ ap (λ (z : RowView). Some z) (sym same)) (ap (λ (z : RowView). z.frame.0) same ∙ c.find_target-place.ensures.own) c.swap_slot.ensures.new c.take_target.ensures.left c.mark.ensures.marked c.mark-2.ensures.marked c.swap_slot.ensures.capacity in
     step.kept
 
 pub returns-clause-rows : goal.returns-clause-rows
 returns-clause-rows c =
     let h = beginning c.self.inside c.self.invariant c.args.frame.0 c.args.stream.0 (rw (← c.self.view_is) at c.requires.fillable) in
-    let same = some-same h.row c.in-Some.row _ h.taken.at (find-views c.args.frame.0 c.self.inside.table.rows ∙ c.in-Some.ensures.found) in
-    let step = begun-moved c.self.inside.plan c.self.inside.table c.take_target.new.self c.mark.new.self c.mark-2.new.self c.self.inside.slots.items c.swap_slot.new.slots.items (length c.self.inside.spares.items) (vec_capacity c.self.inside.slots) (vec_capacity c.swap_slot.new.slots) (vec_capacity c.self.inside.spares) c.args.frame.0 c.in-Some.place c.args.stream h.row h.target h.spec c.self.invariant h.taken.stands h.taken.target h.waits h.home (c.in-Some.ensures.placed ∙ ap (λ (z : RowView). Some z) (sym same)) (ap (λ (z : RowView). z.frame.0) same ∙ c.in-Some.ensures.own) c.swap_slot.ensures.new c.take_target.ensures.left c.mark.ensures.marked c.mark-2.ensures.marked c.swap_slot.ensures.capacity in
+    let same = some-same h.row c.find_target-place.result.1 _ h.taken.at c.find_target-place.ensures.found in
+    let step = begun-moved c.self.inside.plan c.self.inside.table c.take_target.new.self c.mark.new.self c.mark-2.new.self c.self.inside.slots.items c.swap_slot.new.slots.items (length c.self.inside.spares.items) (vec_capacity c.self.inside.slots) (vec_capacity c.swap_slot.new.slots) (vec_capacity c.self.inside.spares) c.args.frame.0 c.find_target-place.result.0 c.args.stream h.row h.target h.spec c.self.invariant h.taken.stands h.taken.target h.waits h.home (c.find_target-place.ensures.placed ∙ ap (λ (z : RowView). Some z) (sym same)) (ap (λ (z : RowView). z.frame.0) same ∙ c.find_target-place.ensures.own) c.swap_slot.ensures.new c.take_target.ensures.left c.mark.ensures.marked c.mark-2.ensures.marked c.swap_slot.ensures.capacity in
     rw (← c.self.view_is) step.is
 
 pub returns-clause-job : goal.returns-clause-job
 returns-clause-job c =
     let h = beginning c.self.inside c.self.invariant c.args.frame.0 c.args.stream.0 (rw (← c.self.view_is) at c.requires.fillable) in
-    let same = some-same h.row c.in-Some.row _ h.taken.at (find-views c.args.frame.0 c.self.inside.table.rows ∙ c.in-Some.ensures.found) in
-    let gt = some-same h.target c.in-Some-target_at.target _ h.taken.target.found (ap (λ (z : RowView). target_at c.args.stream.0 z) same ∙ (sym c.target_at.ensures ∙ c.in-Some-target_at.is)) in
+    let same = some-same h.row c.find_target-place.result.1 _ h.taken.at c.find_target-place.ensures.found in
+    let gt = some-same h.target c.find_target-place.result.2 _ h.taken.target.found (ap (λ (z : RowView). target_at c.args.stream.0 z) same ∙ c.find_target-place.ensures.has) in
     let place = place-of h.target h.spec c.take_target.result c.in-Some-Waiting.field-0 c.in-Some-Waiting.waiting c.in-Some-Waiting.is c.in-Some-Waiting.field-0-is (c.take_target.ensures.taken ∙ h.held) in
     let spec' = ap (λ (z : Place). z.spec) (sym place) in
-    rw (← c.self.view_is) (job-for (specs_of c.self.inside.plan) c.args.frame.0 c.args.stream.0 (views c.self.inside.table.rows) h.row h.target h.spec h.taken.at h.taken.target ∙ ap (λ (z : JobView). Some z) (job-same h.row c.in-Some.row h.target c.in-Some-target_at.target h.spec c.in-Some-Waiting.waiting.spec same gt spec' ∙ sym c.make_job.ensures.job))
+    rw (← c.self.view_is) (job-for (specs_of c.self.inside.plan) c.args.frame.0 c.args.stream.0 (views c.self.inside.table.rows) h.row h.target h.spec h.taken.at h.taken.target ∙ ap (λ (z : JobView). Some z) (job-same h.row c.find_target-place.result.1 h.target c.find_target-place.result.2 h.spec c.in-Some-Waiting.waiting.spec same gt spec' ∙ sym c.make_job.ensures.job))

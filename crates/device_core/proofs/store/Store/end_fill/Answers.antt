@@ -26,7 +26,6 @@ use Rattle.device_core.proofs.Moves.{ended-moved, Moved, out-held}
 use Rattle.device_core.proofs.Ops.{is-target, IsTarget, place-free}
 use Rattle.device_core.proofs.Outs.{is-out, some-none, some-same}
 use Rattle.device_core.proofs.Steps.{slot-within, Stands, stands}
-use Rattle.device_core.proofs.Views.{find-views}
 use Rattle.device_core.proofs.store.Store.end_fill.Goals as goal
 
 -- the row and the target that the job is of
@@ -68,40 +67,34 @@ ended i kept job s n h u v w slots room place row g home filled st same gt place
     let marked : v ≡ with_rows (with_row n (with_mark (Target s (filled_from h.target.state))) u.rows) u = rw (← state) mark in
     ended-moved i.plan i.table u v w i.slots.items slots (length i.spares.items) (vec_capacity i.slots) room (vec_capacity i.spares) n place s h.row h.target h.spec (Home home) kept h.stands h.at h.out (placed ∙ ap (λ (z : RowView). Some z) (sym same)) (ap (λ (z : RowView). z.frame.0) same ∙ own) (ap (λ (z : JobView). Home z) (home-is ∙ ap (λ (z : JobView). as_exposed z) h.same)) swapped put marked mark' room'
 
-pub unreachable-requires : goal.unreachable-requires
-unreachable-requires c =
+pub find_target-place-requires : goal.find_target-place-requires
+find_target-place-requires c =
     let h = ending c.self.inside c.self.invariant c.args.job c.target.result c.target.ensures c.frame-frame.result c.frame-frame.ensures (subst (λ (z : Stored). IsFillJobOut (specs_of z.plan) z.rows c.args.job) (sym c.self.view_is) c.requires) in
-    some-none h.row _ (find-views c.frame-frame.result.0 c.self.inside.table.rows ∙ c.in_default.ensures.none refl) h.found
-
-pub unreachable-requires-in_default-target_at : goal.unreachable-requires-in_default-target_at
-unreachable-requires-in_default-target_at c =
-    let h = ending c.self.inside c.self.invariant c.args.job c.target.result c.target.ensures c.frame-frame.result c.frame-frame.ensures (subst (λ (z : Stored). IsFillJobOut (specs_of z.plan) z.rows c.args.job) (sym c.self.view_is) c.requires) in
-    let same = some-same h.row c.in-Some.row _ h.found (find-views c.frame-frame.result.0 c.self.inside.table.rows ∙ c.in-Some.ensures.found) in
-    some-none h.target _ (ap (λ (z : RowView). target_at c.target.result.stream.0 z) same ∙ (sym c.target_at.ensures ∙ c.in_default-target_at.is)) h.has
+    rw (h.found, h.has) refl
 
 pub swap_slot-requires : goal.swap_slot-requires
 swap_slot-requires c =
-    slot-within c.self.inside.table.rows c.in-Some.place c.in-Some.row c.self.inside.slots.items c.self.invariant.shown c.in-Some.ensures.placed
+    slot-within c.self.inside.table.rows c.find_target-place.result.0 c.find_target-place.result.1 c.self.inside.slots.items c.self.invariant.shown c.find_target-place.ensures.placed
 
-pub unreachable-requires-in-Some-put_target : goal.unreachable-requires-in-Some-put_target
-unreachable-requires-in-Some-put_target c =
+pub unreachable-requires : goal.unreachable-requires
+unreachable-requires c =
     let h = ending c.self.inside c.self.invariant c.args.job c.target.result c.target.ensures c.frame-frame.result c.frame-frame.ensures (subst (λ (z : Stored). IsFillJobOut (specs_of z.plan) z.rows c.args.job) (sym c.self.view_is) c.requires) in
     let free = place-free c.self.inside.plan c.self.inside.table.rows c.frame-frame.result.0 c.target.result.stream.0 h.row h.target h.spec h.stands h.at (out-held h.target.state h.row h.target h.spec h.out) in
     let gone : c.put_target.result ≡ None = c.put_target.ensures.handed_back ∙ rw free refl in
-    some-none c.in-Some-put_target.field-0 c.put_target.result gone c.in-Some-put_target.is
+    some-none c.in-Some.field-0 c.put_target.result gone c.in-Some.is
 
 pub invariant_of-self : goal.invariant_of-self
 invariant_of-self c =
     let h = ending c.self.inside c.self.invariant c.args.job c.target.result c.target.ensures c.frame-frame.result c.frame-frame.ensures (subst (λ (z : Stored). IsFillJobOut (specs_of z.plan) z.rows c.args.job) (sym c.self.view_is) c.requires) in
-    let same = some-same h.row c.in-Some.row _ h.found (find-views c.frame-frame.result.0 c.self.inside.table.rows ∙ c.in-Some.ensures.found) in
-    let gt = some-same h.target c.in-Some-target_at.target _ h.has (ap (λ (z : RowView). target_at c.target.result.stream.0 z) same ∙ (sym c.target_at.ensures ∙ c.in-Some-target_at.is)) in
-    let step = ended c.self.inside c.self.invariant c.args.job c.target.result.stream c.frame-frame.result.0 h c.put_target.new.self c.mark.new.self c.mark-2.new.self c.swap_slot.new.slots.items (vec_capacity c.swap_slot.new.slots) c.in-Some.place c.in-Some.row c.in-Some-target_at.target c.take_apart-home.result.0 c.take_apart-home.result.1 c.filled_from-state.result same gt c.in-Some.ensures.placed c.in-Some.ensures.own c.take_apart-home.ensures.home c.take_apart-home.ensures.filled c.filled_from-state.ensures c.swap_slot.ensures.new c.put_target.ensures.parked c.mark.ensures.marked c.mark-2.ensures.marked c.swap_slot.ensures.capacity in
+    let same = some-same h.row c.find_target-place.result.1 _ h.found c.find_target-place.ensures.found in
+    let gt = some-same h.target c.find_target-place.result.2 _ h.has (ap (λ (z : RowView). target_at c.target.result.stream.0 z) same ∙ c.find_target-place.ensures.has) in
+    let step = ended c.self.inside c.self.invariant c.args.job c.target.result.stream c.frame-frame.result.0 h c.put_target.new.self c.mark.new.self c.mark-2.new.self c.swap_slot.new.slots.items (vec_capacity c.swap_slot.new.slots) c.find_target-place.result.0 c.find_target-place.result.1 c.find_target-place.result.2 c.take_apart-home.result.0 c.take_apart-home.result.1 c.filled_from-state.result same gt c.find_target-place.ensures.placed c.find_target-place.ensures.own c.take_apart-home.ensures.home c.take_apart-home.ensures.filled c.filled_from-state.ensures c.swap_slot.ensures.new c.put_target.ensures.parked c.mark.ensures.marked c.mark-2.ensures.marked c.swap_slot.ensures.capacity in
     step.kept
 
 pub returns : goal.returns
 returns c =
     let h = ending c.self.inside c.self.invariant c.args.job c.target.result c.target.ensures c.frame-frame.result c.frame-frame.ensures (subst (λ (z : Stored). IsFillJobOut (specs_of z.plan) z.rows c.args.job) (sym c.self.view_is) c.requires) in
-    let same = some-same h.row c.in-Some.row _ h.found (find-views c.frame-frame.result.0 c.self.inside.table.rows ∙ c.in-Some.ensures.found) in
-    let gt = some-same h.target c.in-Some-target_at.target _ h.has (ap (λ (z : RowView). target_at c.target.result.stream.0 z) same ∙ (sym c.target_at.ensures ∙ c.in-Some-target_at.is)) in
-    let step = ended c.self.inside c.self.invariant c.args.job c.target.result.stream c.frame-frame.result.0 h c.put_target.new.self c.mark.new.self c.mark-2.new.self c.swap_slot.new.slots.items (vec_capacity c.swap_slot.new.slots) c.in-Some.place c.in-Some.row c.in-Some-target_at.target c.take_apart-home.result.0 c.take_apart-home.result.1 c.filled_from-state.result same gt c.in-Some.ensures.placed c.in-Some.ensures.own c.take_apart-home.ensures.home c.take_apart-home.ensures.filled c.filled_from-state.ensures c.swap_slot.ensures.new c.put_target.ensures.parked c.mark.ensures.marked c.mark-2.ensures.marked c.swap_slot.ensures.capacity in
+    let same = some-same h.row c.find_target-place.result.1 _ h.found c.find_target-place.ensures.found in
+    let gt = some-same h.target c.find_target-place.result.2 _ h.has (ap (λ (z : RowView). target_at c.target.result.stream.0 z) same ∙ c.find_target-place.ensures.has) in
+    let step = ended c.self.inside c.self.invariant c.args.job c.target.result.stream c.frame-frame.result.0 h c.put_target.new.self c.mark.new.self c.mark-2.new.self c.swap_slot.new.slots.items (vec_capacity c.swap_slot.new.slots) c.find_target-place.result.0 c.find_target-place.result.1 c.find_target-place.result.2 c.take_apart-home.result.0 c.take_apart-home.result.1 c.filled_from-state.result same gt c.find_target-place.ensures.placed c.find_target-place.ensures.own c.take_apart-home.ensures.home c.take_apart-home.ensures.filled c.filled_from-state.ensures c.swap_slot.ensures.new c.put_target.ensures.parked c.mark.ensures.marked c.mark-2.ensures.marked c.swap_slot.ensures.capacity in
     rw c.target.ensures (rw (← c.self.view_is, ← c.frame-frame.ensures) step.is)

@@ -1,4 +1,5 @@
 use Rattle.std.proofs.Common.{arith}
+use Rattle.std.proofs.lemmas.Grind.{common_steps}
 use Rattle.std.specs.Prelude.{vec_capacity}
 use Rattle.reprocess_core.proofs.Room.{course-more, room-more}
 use Rattle.reprocess_core.proofs.course.Course.add.Goals as goal
@@ -14,3 +15,6 @@ invariant_of-self c =
     let is = rw (← c.self.view_is) at c.requires in
     let more = course-more c.self.inside.plan c.self.inside.lines.items c.args.step c.args.line (vec_capacity c.self.inside.lines) c.self.invariant is in
     rw (c.push_reserved.ensures.items, c.push_reserved.ensures.capacity) more
+
+pub returns : goal.returns
+returns c = grind (arith, common_steps)
