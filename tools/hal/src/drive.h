@@ -72,6 +72,7 @@ struct drive {
     const camera_metadata_t *characteristics;
     camera_metadata_t *own_settings; /* where no template is known */
     const char *pictures;            /* the folder for good pictures, or NULL */
+    bool no_env;                     /* `env` lines are left out */
     buffer_handle_t null_handle;
 
     pthread_mutex_t flushes; /* a correct framework makes one flush at a time */
@@ -79,6 +80,8 @@ struct drive {
     pthread_cond_t changed;
     camera3_device_t *device; /* stays after a close, for scripts that call then */
     bool opened, dead, lost;
+    bool initialized, unready;         /* since the opening: an initialize was accepted; one was refused, and none accepted */
+    bool has_streams, refused_streams; /* a configuration stands; one was refused since the opening */
     struct drive_stream streams[DRIVE_MOST_STREAMS];
     struct drive_buffer buffers[DRIVE_MOST_BUFFERS];
     int buffer_count;
@@ -139,6 +142,7 @@ struct drive_command {
     struct drive_asked asked;
     camera3_stream_t stream;
     char name[64], text[256];
+    char source[128]; /* its words, as far as they fit */
     struct drive_command *next;
 };
 
@@ -151,10 +155,14 @@ void drive_sleep(unsigned int ms);
 int drive_start(struct drive *drive, const char *library, const char *log);
 void drive_end(struct drive *drive);
 
-/* The calls; what the camera answered, -1 where the call wasn't made (drive_calls.c). */
+/* A comment of the log: the step of the script that the command is can't be made, and why (drive_play.c). */
+void drive_note_step(struct drive *drive, const struct drive_command *command, const char *why);
+
+/* The calls; what the camera answered, DRIVE_NOT_MADE where the call wasn't made (drive_calls.c). */
+#define DRIVE_NOT_MADE 1
 int drive_open(struct drive *drive);
 int drive_init(struct drive *drive);
-void drive_template(struct drive *drive, int template_id);
+int drive_template(struct drive *drive, int template_id);
 int drive_configure(struct drive *drive, const struct drive_asked *asked, uint32_t mode, bool anyway);
 int drive_flush(struct drive *drive);
 void drive_close(struct drive *drive);
@@ -162,8 +170,9 @@ void drive_close(struct drive *drive);
 /* The camera told of its failure, or answered ENODEV. */
 bool drive_has_failed(struct drive *drive);
 
-/* Makes a request. False: the camera keeps back what it needs (drive_requests.c). */
-bool drive_request(struct drive *drive, const struct drive_asked *asked);
+/* Makes a request (drive_requests.c). `why` is NULL, or tells why the camera didn't take it. False: the camera keeps back
+ * what it needs. */
+bool drive_request(struct drive *drive, const struct drive_asked *asked, const char **why);
 
 /* Waits until the camera has no request any more. False: it still has. */
 bool drive_drain(struct drive *drive, unsigned int ms);
@@ -203,6 +212,9 @@ bool drive_play(struct drive *drive, const struct drive_command *script);
 
 /* Sets what `env` lines say before any other; the HAL is loaded behind that. */
 void drive_set_environment(const struct drive_command *script);
+
+/* The words of an answer that isn't 0, for people. */
+const char *drive_words_of(int answer);
 
 /* Writes the script of a seed: what a correct framework may do (drive_random.c). */
 void drive_write_random(uint64_t seed);

@@ -26,40 +26,61 @@ int drive_open(struct drive *drive)
     pthread_mutex_lock(&drive->lock);
     drive->device = (camera3_device_t *)device;
     drive->opened = true;
-    drive->dead = false;
+    drive->dead = drive->unready = drive->initialized = drive->has_streams = drive->refused_streams = false;
     memset(drive->settings, 0, sizeof(drive->settings));
     pthread_mutex_unlock(&drive->lock);
     return 0;
 }
 
-int drive_init(struct drive *drive)
+const char *drive_words_of(int answer)
 {
-    if (drive->device == NULL)
-        return -1;
-    return note_answer(drive, drive->device->ops->initialize(drive->device, &drive->callbacks));
+    return strerror(answer < 0 ? -answer : answer);
 }
 
-void drive_template(struct drive *drive, int template_id)
+int drive_init(struct drive *drive)
+{
+    int answer;
+
+    if (drive->device == NULL)
+        return DRIVE_NOT_MADE;
+    answer = drive->device->ops->initialize(drive->device, &drive->callbacks);
+    pthread_mutex_lock(&drive->lock);
+    drive->initialized = drive->initialized || answer == 0;
+    drive->unready = !drive->initialized;
+    pthread_mutex_unlock(&drive->lock);
+    return note_answer(drive, answer);
+}
+
+int drive_template(struct drive *drive, int template_id)
 {
     const camera_metadata_t *settings;
 
     if (drive->device == NULL)
-        return;
+        return DRIVE_NOT_MADE;
     settings = drive->device->ops->construct_default_request_settings(drive->device, template_id);
     pthread_mutex_lock(&drive->lock);
     if (template_id >= 0 && template_id < DRIVE_TEMPLATES)
         drive->settings[template_id] = settings;
     pthread_mutex_unlock(&drive->lock);
+    return settings == NULL ? -ENODEV : 0;
 }
 
 static void note_configured(struct drive *drive, const struct drive_asked *asked)
 {
     pthread_mutex_lock(&drive->lock);
+    drive->has_streams = true;
     for (int i = 0; i < DRIVE_MOST_STREAMS; i++)
         drive->streams[i].configured = false;
     for (int i = 0; i < asked->count; i++)
         drive->streams[asked->streams[i]].configured = true;
     drive->since_settings = 0;
+    pthread_mutex_unlock(&drive->lock);
+}
+
+static void note_refused(struct drive *drive)
+{
+    pthread_mutex_lock(&drive->lock);
+    drive->refused_streams = true;
     pthread_mutex_unlock(&drive->lock);
 }
 
@@ -82,18 +103,20 @@ int drive_configure(struct drive *drive, const struct drive_asked *asked, uint32
     int answer;
 
     if (drive->device == NULL)
-        return -1;
+        return DRIVE_NOT_MADE;
     if (!anyway && !drive_drain(drive, DRIVE_PATIENCE_MS)) {
         drive_give_up(drive, "the camera keeps requests, so it can't be configured");
-        return -1;
+        return DRIVE_NOT_MADE;
     }
     if (!anyway && drive_has_failed(drive))
-        return -1;
+        return DRIVE_NOT_MADE;
     for (int i = 0; i < asked->count; i++)
         streams[i] = &drive->streams[asked->streams[i]].stream;
     answer = drive->device->ops->configure_streams(drive->device, asked->null ? NULL : &configuration);
     if (answer == 0)
         note_configured(drive, asked);
+    else
+        note_refused(drive);
     return note_answer(drive, answer);
 }
 
@@ -102,7 +125,7 @@ int drive_flush(struct drive *drive)
     int answer;
 
     if (drive->device == NULL || drive->device->ops->flush == NULL)
-        return -1;
+        return DRIVE_NOT_MADE;
     pthread_mutex_lock(&drive->flushes);
     answer = drive->device->ops->flush(drive->device);
     pthread_mutex_unlock(&drive->flushes);
@@ -115,7 +138,7 @@ void drive_close(struct drive *drive)
         return;
     drive->device->common.close(&drive->device->common);
     pthread_mutex_lock(&drive->lock);
-    drive->opened = false;
+    drive->opened = drive->has_streams = drive->refused_streams = false;
     drive_forget_requests(drive);
     for (int i = 0; i < DRIVE_MOST_STREAMS; i++)
         drive->streams[i].configured = false;

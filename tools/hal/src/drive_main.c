@@ -15,7 +15,9 @@ enum { STATUS_DONE, STATUS_GIVEN_UP, STATUS_USAGE, STATUS_CRASH, STATUS_HANG };
 #define MOST_SECONDS 60
 
 static const char usage[] =
-    "usage: hal_drive HAL.so SCRIPT LOG     plays the script, and records it in LOG, which must not stand yet\n"
+    "usage: hal_drive [--no-env] HAL.so SCRIPT LOG\n"
+    "                                       plays the script, and records it in LOG, which must not stand yet;\n"
+    "                                       --no-env: without its `env` lines, which tell our two HALs what to do\n"
     "       hal_drive random SEED           writes the script of the seed\n"
     "HAL_DRIVE_PICTURES=FOLDER               writes each good picture to it, as FRAME-STREAM-FORMAT-WxH\n"
     "status: 0 played; 1 the camera kept back what the script needs; 2 something can't be read or loaded;\n"
@@ -171,7 +173,7 @@ void drive_end(struct drive *drive)
 
 /* ---- the program */
 
-static int play(const char *library, const char *path, const char *log)
+static int play(const char *library, const char *path, const char *log, bool no_env)
 {
     struct drive_command *script = drive_read(path);
     struct drive *drive = calloc(1, sizeof(*drive));
@@ -179,7 +181,9 @@ static int play(const char *library, const char *path, const char *log)
     int status = STATUS_USAGE;
 
     if (script != NULL && drive != NULL) {
-        drive_set_environment(script);
+        drive->no_env = no_env;
+        if (!no_env)
+            drive_set_environment(script);
         if (drive_start(drive, library, log) == 0) {
             hal_tap_note(drive->tap, "script %s", name == NULL ? path : name + 1);
             status = drive_play(drive, script) ? STATUS_DONE : STATUS_GIVEN_UP;
@@ -193,13 +197,20 @@ static int play(const char *library, const char *path, const char *log)
 
 int main(int count, char **words)
 {
+    bool no_env = false;
+
     if (count == 3 && strcmp(words[1], "random") == 0) {
         drive_write_random(strtoull(words[2], NULL, 10));
         return STATUS_DONE;
+    }
+    if (count > 1 && strcmp(words[1], "--no-env") == 0) {
+        no_env = true;
+        words++;
+        count--;
     }
     if (count != 4) {
         fputs(usage, stderr);
         return STATUS_USAGE;
     }
-    return play(words[1], words[2], words[3]);
+    return play(words[1], words[2], words[3], no_env);
 }

@@ -99,11 +99,21 @@ static void define_stream(struct drive *drive, const struct drive_command *comma
     pthread_mutex_unlock(&drive->lock);
 }
 
+/* At most one comment of a burst: the first request that the camera doesn't take. */
 static void play_requests(struct drive *drive, const struct drive_command *command)
 {
+    bool told = false;
+
     for (int i = 0; i < command->number && !is_lost(drive) && !drive_has_failed(drive); i++) {
-        if (!drive_request(drive, &command->asked))
-            drive_give_up(drive, "no buffer is free: the camera keeps them, or has none that the script asks for");
+        const char *why;
+
+        if (!drive_request(drive, &command->asked, &why)) {
+            why = "no buffer is free: the camera keeps them, or has none that the script asks for";
+            drive_give_up(drive, why);
+        }
+        if (why != NULL && !told)
+            drive_note_step(drive, command, why);
+        told = told || why != NULL;
         if (command->gap_ms != 0)
             drive_sleep((unsigned int)command->gap_ms);
     }
@@ -111,35 +121,95 @@ static void play_requests(struct drive *drive, const struct drive_command *comma
 
 static void set_environment(struct drive *drive, const struct drive_command *command)
 {
+    if (drive->no_env)
+        return;
     setenv(command->name, command->text, 1);
     hal_tap_note(drive->tap, "env %s %s", command->name, command->text);
 }
 
-/* A framework that was told of the device's failure sends and configures nothing any more. */
-static bool is_pointless(struct drive *drive, const struct drive_command *command)
+void drive_note_step(struct drive *drive, const struct drive_command *command, const char *why)
 {
-    return (command->kind == DRIVE_REQUEST || command->kind == DRIVE_CONFIGURE) && drive_has_failed(drive);
+    hal_tap_note(drive->tap, "not possible: line %d, %s: %s", command->line, command->source, why);
+}
+
+/* The command is a call of the device, other than open and close. */
+static bool is_call(const struct drive_command *command)
+{
+    switch (command->kind) {
+    case DRIVE_INIT:
+    case DRIVE_TEMPLATE:
+    case DRIVE_CONFIGURE:
+    case DRIVE_REQUEST:
+    case DRIVE_FLUSH: return true;
+    default: return false;
+    }
+}
+
+/* Why a correct framework doesn't make the call; NULL where it may. Of a device that isn't initialized it only closes; to
+ * one that told of its failure it sends and configures nothing any more. */
+static const char *reason_against(struct drive *drive, const struct drive_command *command)
+{
+    const char *why = NULL;
+
+    if (!is_call(command))
+        return NULL;
+    pthread_mutex_lock(&drive->lock);
+    if (drive->device == NULL)
+        why = "no camera is open";
+    else if (drive->unready)
+        why = "the camera isn't initialized";
+    else if (drive->dead && (command->kind == DRIVE_REQUEST || command->kind == DRIVE_CONFIGURE))
+        why = "the camera failed";
+    pthread_mutex_unlock(&drive->lock);
+    return why;
+}
+
+/* What the camera answered to the call. */
+static int make_call(struct drive *drive, const struct drive_command *command)
+{
+    switch (command->kind) {
+    case DRIVE_OPEN: return drive_open(drive);
+    case DRIVE_INIT: return drive_init(drive);
+    case DRIVE_TEMPLATE: return drive_template(drive, command->number);
+    case DRIVE_CONFIGURE: return drive_configure(drive, &command->asked, command->mode, command->anyway);
+    default: return drive_flush(drive);
+    }
+}
+
+static void play_call(struct drive *drive, const struct drive_command *command)
+{
+    int answer = make_call(drive, command);
+
+    if (answer == DRIVE_NOT_MADE)
+        drive_note_step(drive, command, "the camera doesn't let it be asked");
+    else if (command->kind == DRIVE_TEMPLATE && answer != 0)
+        drive_note_step(drive, command, "the camera gives none");
+    else if (answer != 0)
+        drive_note_step(drive, command, drive_words_of(answer));
 }
 
 static void play_command(struct drive *drive, const struct drive_command *command)
 {
-    if (is_pointless(drive, command))
+    const char *why = reason_against(drive, command);
+
+    if (why != NULL) {
+        drive_note_step(drive, command, why);
         return;
+    }
     switch (command->kind) {
     case DRIVE_ENV: set_environment(drive, command); break;
     case DRIVE_NOTE: hal_tap_note(drive->tap, "%s", command->text); break;
     case DRIVE_STREAM: define_stream(drive, command); break;
-    case DRIVE_OPEN: drive_open(drive); break;
-    case DRIVE_INIT: drive_init(drive); break;
-    case DRIVE_TEMPLATE: drive_template(drive, command->number); break;
     case DRIVE_USE: drive->template_id = command->number; break;
-    case DRIVE_CONFIGURE: drive_configure(drive, &command->asked, command->mode, command->anyway); break;
     case DRIVE_REQUEST: play_requests(drive, command); break;
     case DRIVE_SLEEP: drive_sleep((unsigned int)command->number); break;
-    case DRIVE_DRAIN: drive_drain(drive, (unsigned int)command->number); break;
-    case DRIVE_FLUSH: drive_flush(drive); break;
+    case DRIVE_DRAIN:
+        if (!drive_drain(drive, (unsigned int)command->number))
+            drive_note_step(drive, command, "the camera still has requests");
+        break;
     case DRIVE_CLOSE: drive_close(drive); break;
     case DRIVE_JOIN: break;
+    default: play_call(drive, command); break;
     }
 }
 

@@ -197,10 +197,12 @@ static void take_back_fences(struct drive *drive, const struct made *made)
     }
 }
 
-static void note_request(struct drive *drive, const struct made *made, int answer)
+static void note_request(struct drive *drive, const struct made *made, int answer, const char **why)
 {
-    if (answer != 0)
+    if (answer != 0) {
+        *why = drive_words_of(answer);
         take_back_fences(drive, made);
+    }
     pthread_mutex_lock(&drive->lock);
     if (answer == 0) {
         drive_book_accepted(drive, made->booked);
@@ -213,39 +215,61 @@ static void note_request(struct drive *drive, const struct made *made, int answe
     pthread_mutex_unlock(&drive->lock);
 }
 
-/* Each stream is in the configuration, which the camera may have refused. */
-static bool are_configured(struct drive *drive, const struct drive_asked *asked)
+/* Why no buffers can be found for the request, whatever the camera gives back; NULL where there is no such reason. */
+static const char *reason_against_buffers(struct drive *drive, const struct drive_asked *asked)
 {
-    bool all = true;
+    for (int i = 0; i < asked->count; i++) {
+        int same = 0;
 
-    pthread_mutex_lock(&drive->lock);
-    for (int i = 0; i < asked->count; i++)
-        all = all && drive->streams[asked->streams[i]].configured;
-    pthread_mutex_unlock(&drive->lock);
-    return all;
+        for (int k = 0; k < asked->count; k++)
+            same += asked->streams[k] == asked->streams[i];
+        if (asked->held && held_buffer(drive, asked->streams[i]) == NULL)
+            return "the camera has no buffer of the stream";
+        if (!asked->held && !asked->over && same > limit_of(drive, asked->streams[i]))
+            return "the camera takes fewer buffers of the stream";
+    }
+    return NULL;
 }
 
-bool drive_request(struct drive *drive, const struct drive_asked *asked)
+/* Why the request isn't made; NULL where it is. A script that breaks a rule by a word breaks that one alone: it needs a
+ * configuration too, unless none was asked for before. */
+static const char *reason_against(struct drive *drive, const struct drive_asked *asked)
+{
+    const char *why = NULL;
+
+    pthread_mutex_lock(&drive->lock);
+    if (asked->count == 0 || asked->anyway) {
+        if (!drive->has_streams && drive->refused_streams)
+            why = "no configuration stands";
+    } else
+        for (int i = 0; i < asked->count; i++)
+            if (!drive->streams[asked->streams[i]].configured)
+                why = "the camera didn't configure its streams";
+    if (why == NULL)
+        why = reason_against_buffers(drive, asked);
+    pthread_mutex_unlock(&drive->lock);
+    return why;
+}
+
+bool drive_request(struct drive *drive, const struct drive_asked *asked, const char **why)
 {
     struct made made = { .bad_settings = NULL };
     bool ready, failed;
 
-    if (drive->device == NULL)
-        return true;
+    *why = NULL;
     if (asked->null) {
         drive->device->ops->process_capture_request(drive->device, NULL);
         return true;
     }
-    if (!asked->anyway && !are_configured(drive, asked)) {
-        hal_tap_note(drive->tap, "a request is left out: the camera didn't configure its streams");
+    *why = reason_against(drive, asked);
+    if (*why != NULL)
         return true;
-    }
     pthread_mutex_lock(&drive->lock);
     ready = make(drive, asked, &made);
     failed = drive->dead;
     pthread_mutex_unlock(&drive->lock);
     if (ready)
-        note_request(drive, &made, drive->device->ops->process_capture_request(drive->device, &made.request));
+        note_request(drive, &made, drive->device->ops->process_capture_request(drive->device, &made.request), why);
     if (made.bad_settings != NULL)
         free_camera_metadata(made.bad_settings);
     return ready || failed; /* of a camera that failed nothing is asked any more */

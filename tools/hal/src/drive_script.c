@@ -270,6 +270,7 @@ static bool read_line(char *line, int number, struct drive_command ***last)
 {
     struct words words = words_of(line);
     struct drive_command *command;
+    size_t length = 0;
 
     if (words.count == 0)
         return true;
@@ -279,6 +280,9 @@ static bool read_line(char *line, int number, struct drive_command ***last)
     **last = command;
     *last = &command->next;
     command->line = number;
+    for (int i = 0; i < words.count && length < sizeof(command->source); i++)
+        length += (size_t)snprintf(command->source + length, sizeof(command->source) - length, "%s%s", i == 0 ? "" : " ",
+                                   words.word[i]);
     return read_command(&words, command);
 }
 

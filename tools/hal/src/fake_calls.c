@@ -21,6 +21,11 @@ bool fake_breaks_with(const struct fake_camera *camera, const struct fake_frame 
     return camera->options.broken == rule && frame->victim;
 }
 
+static bool is_lazy(const struct fake_camera *camera, enum fake_lazy form)
+{
+    return camera->options.lazy == form;
+}
+
 static struct fake_camera *camera_of(const struct camera3_device *device)
 {
     return (struct fake_camera *)device; /* it is the first member */
@@ -56,7 +61,7 @@ static int initialize(const struct camera3_device *device, const camera3_callbac
     int answer = 0;
 
     pthread_mutex_lock(&camera->lock);
-    if (camera->closed || camera->dying)
+    if (camera->closed || camera->dying || is_lazy(camera, FAKE_LAZY_INIT))
         answer = -ENODEV;
     else if (camera->initialized && !fake_breaks(camera, FAKE_ACCEPTED_INIT_TWICE)) {
         camera->dying = camera->dead = true;
@@ -83,7 +88,8 @@ static const camera_metadata_t *construct_default_request_settings(const struct 
     const camera_metadata_t *settings = NULL;
 
     pthread_mutex_lock(&camera->lock);
-    if (working(camera) == 0 && template_id > 0 && template_id < FAKE_TEMPLATES) {
+    if (working(camera) == 0 && template_id > 0 && template_id < FAKE_TEMPLATES
+        && !is_lazy(camera, FAKE_LAZY_TEMPLATE)) {
         if (camera->settings[template_id] == NULL)
             camera->settings[template_id] = fake_metadata(true);
         settings = camera->settings[template_id];
@@ -114,6 +120,8 @@ static bool is_valid(const struct fake_camera *camera, const camera3_stream_conf
 {
     unsigned int outputs = 0, inputs = 0;
 
+    if (is_lazy(camera, FAKE_LAZY_CONFIGURE))
+        return false;
     if (asked->num_streams > FAKE_MOST_STREAMS || (asked->num_streams != 0 && asked->streams == NULL))
         return false;
     for (uint32_t i = 0; i < asked->num_streams; i++) {
@@ -255,8 +263,8 @@ static void settle(struct fake_camera *camera, struct fake_frame *frame)
     const struct fake_drops *drops = &camera->options.drops;
     unsigned int count = ++camera->begun;
 
-    frame->victim = count % 3 == 2;
-    if (is_each(count, drops->request))
+    frame->victim = count % 3 == 1;
+    if (is_each(count, drops->request) || is_lazy(camera, FAKE_LAZY_FAIL))
         frame->fate = FAKE_NO_REQUEST;
     else if (is_each(count, drops->result))
         frame->fate = FAKE_NO_RESULT;
@@ -287,13 +295,17 @@ static int accept_frame(struct fake_camera *camera, const camera3_capture_reques
     if (frame == NULL)
         return -ENOMEM;
     settle(camera, frame);
-    if (fake_breaks_with(camera, frame, FAKE_REFUSED_REQUEST)) {
+    if (fake_breaks_with(camera, frame, FAKE_REFUSED_REQUEST) || is_lazy(camera, FAKE_LAZY_REQUEST)) {
         free(frame);
         return -EINVAL;
     }
     camera->has_number = true;
     camera->last_number = frame->number;
     camera->seen_settings = true;
+    if (is_lazy(camera, FAKE_LAZY_RETURN)) {
+        fake_frame_free(frame);
+        return 0;
+    }
     camera->open++;
     append(camera, frame);
     pthread_cond_broadcast(&camera->changed);
@@ -329,6 +341,8 @@ static int process_capture_request(const struct camera3_device *device, camera3_
 
     take_turn_of_call(camera);
     wait_for_room(camera);
+    if (is_lazy(camera, FAKE_LAZY_GONE))
+        camera->dying = camera->dead = true;
     answer = camera->dying ? -ENODEV : working(camera);
     if (answer == 0)
         answer = is_good_request(camera, request) ? accept_frame(camera, request) : -EINVAL;
@@ -358,7 +372,7 @@ static int flush(const struct camera3_device *device)
     int answer;
 
     pthread_mutex_lock(&camera->lock);
-    answer = working(camera);
+    answer = is_lazy(camera, FAKE_LAZY_FLUSH) ? -EINVAL : working(camera);
     if (answer == 0 && !fake_breaks(camera, FAKE_FLUSH_LEFT) && !camera->dying) {
         hand_back(camera);
         answer = camera->dead ? -ENODEV : 0;
@@ -445,17 +459,45 @@ static bool read_drops(const char *text, struct fake_drops *drops)
     return true;
 }
 
+static enum fake_lazy lazy_named(const char *name)
+{
+    static const char *const names[FAKE_LAZY_COUNT] = { "",        "open", "init",   "template", "configure",
+                                                        "request", "gone", "return", "fail",     "flush" };
+    int form = 0;
+
+    while (form < FAKE_LAZY_COUNT && strcmp(name == NULL ? "" : name, names[form]) != 0)
+        form++;
+    return (enum fake_lazy)form;
+}
+
+/* The rule is broken by a device that fails. */
+static bool needs_death(enum fake_rule rule)
+{
+    return rule == FAKE_ACCEPTED_DEAD || rule == FAKE_FAILED_WITH_FRAMES || rule == FAKE_CALLBACK_AFTER_FAILURE;
+}
+
+/* The rule is broken with frames that are out when a call returns. */
+static bool needs_time(enum fake_rule rule)
+{
+    return rule == FAKE_FLUSH_LEFT || rule == FAKE_CLOSE_LEFT || rule == FAKE_FAILED_WITH_FRAMES;
+}
+
 static bool read_options(struct fake_options *options)
 {
     options->broken = fake_rule_named(getenv("FAKE_BREAK"));
+    options->lazy = lazy_named(getenv("FAKE_LAZY"));
     options->early = option("FAKE_EARLY", 0) != 0;
-    options->die_after = option("FAKE_DIE_AFTER", 0);
-    options->frame_us = option("FAKE_FRAME_US", 1000);
+    options->die_after = option("FAKE_DIE_AFTER", needs_death(options->broken) ? 1 : 0);
+    options->frame_us = option("FAKE_FRAME_US", needs_time(options->broken) ? 20000 : 1000);
     options->call_us = option("FAKE_CALL_US", 0);
     options->fence_ms = option("FAKE_FENCE_MS", 200);
     options->max_buffers = option("FAKE_MAX_BUFFERS", 4);
     if (options->broken == FAKE_RULE_COUNT) {
         fprintf(stderr, "fake_hal: no rule of a device is called %s\n", getenv("FAKE_BREAK"));
+        return false;
+    }
+    if (options->lazy == FAKE_LAZY_COUNT) {
+        fprintf(stderr, "fake_hal: no form is called %s\n", getenv("FAKE_LAZY"));
         return false;
     }
     if (!read_drops(getenv("FAKE_DROP"), &options->drops)) {
@@ -481,7 +523,7 @@ int fake_camera_new(const hw_module_t *module, struct fake_camera **made)
 
     if (camera == NULL)
         return -ENOMEM;
-    if (!read_options(&camera->options)) {
+    if (!read_options(&camera->options) || is_lazy(camera, FAKE_LAZY_OPEN)) {
         free(camera);
         return -EINVAL;
     }

@@ -3,11 +3,17 @@
  *
  * What it reads from the environment where a camera is opened:
  *
- *   FAKE_BREAK=RULE      break this rule of the device
- *   FAKE_DROP=KIND:N,..  each N-th frame lacks something: `request` fails whole, `result` has no last metadata,
- * `buffer` has a buffer that fails FAKE_EARLY=1         buffers go back at the shutter, with a release fence
+ *   FAKE_BREAK=RULE      break this rule of the device, as soon as it can be broken: what has to happen before (a frame or
+ *                        buffer that fails, the device's death) the camera brings about by itself
+ *   FAKE_LAZY=FORM       keep all rules that a log shows and do nothing useful: `open` can't be opened, `init` can't be
+ *                        initialized, `template` has none, `configure` refuses each configuration, `request` each
+ *                        request, `gone` answers each request and all behind it as a device that is gone, `return` never
+ *                        returns anything, `fail` fails each request whole, `flush` refuses each flush
+ *   FAKE_DROP=KIND:N,..  each N-th frame lacks something: `request` fails whole, `result` has no last metadata, `buffer`
+ *                        has a buffer that fails
+ *   FAKE_EARLY=1         buffers go back at the shutter, with a release fence
  *   FAKE_DIE_AFTER=N     the device fails when it has finished N frames
- *   FAKE_FRAME_US=N      the time from frame to frame, 1,000 if unset
+ *   FAKE_FRAME_US=N      the time from frame to frame, 1,000 if unset (20,000 where a flush or close is to leave frames)
  *   FAKE_CALL_US=N       how long a request is in call at least, 0 if unset
  *   FAKE_FENCE_MS=N      how long an acquire fence is waited for, 200 if unset
  *   FAKE_MAX_BUFFERS=N   max_buffers of each stream, 4 if unset
@@ -32,8 +38,23 @@ struct fake_drops {
     unsigned int request, result, buffer;
 };
 
+enum fake_lazy {
+    FAKE_DILIGENT,
+    FAKE_LAZY_OPEN,
+    FAKE_LAZY_INIT,
+    FAKE_LAZY_TEMPLATE,
+    FAKE_LAZY_CONFIGURE,
+    FAKE_LAZY_REQUEST,
+    FAKE_LAZY_GONE,
+    FAKE_LAZY_RETURN,
+    FAKE_LAZY_FAIL,
+    FAKE_LAZY_FLUSH,
+    FAKE_LAZY_COUNT
+};
+
 struct fake_options {
     enum fake_rule broken;
+    enum fake_lazy lazy;
     struct fake_drops drops;
     bool early;
     unsigned int die_after, frame_us, call_us, fence_ms, max_buffers;

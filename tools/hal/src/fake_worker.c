@@ -207,6 +207,18 @@ static void give_up(struct fake_camera *camera, struct fake_frame *frame)
     remove_frame(camera, frame);
 }
 
+/* One that is to die with frames waits until it has some. */
+static bool is_to_die(struct fake_camera *camera)
+{
+    bool ready;
+
+    pthread_mutex_lock(&camera->lock);
+    ready = camera->options.die_after != 0 && camera->finished >= camera->options.die_after
+            && (camera->open != 0 || !fake_breaks(camera, FAKE_FAILED_WITH_FRAMES));
+    pthread_mutex_unlock(&camera->lock);
+    return ready;
+}
+
 static void make_turn(struct fake_camera *camera, struct fake_frame *next)
 {
     if (next != NULL && are_signalled(next, 0))
@@ -223,7 +235,7 @@ static void make_turn(struct fake_camera *camera, struct fake_frame *next)
         if (late != NULL)
             remove_frame(camera, late);
     }
-    if (camera->options.die_after != 0 && camera->finished >= camera->options.die_after)
+    if (is_to_die(camera))
         die(camera);
 }
 
