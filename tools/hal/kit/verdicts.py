@@ -89,3 +89,20 @@ def verdict_of(outcome):
     if missing(outcome):
         return Verdict(NOT_EXERCISED, why_missing(outcome))
     return Verdict(KEEPS)
+
+
+def code_of(word):
+    """A verdict's word as an expectation writes it."""
+    return word.replace("'", "").replace(" ", "-")
+
+
+def failures_of(outcome, verdict):
+    """All that went wrong: the rules that the device broke, each once, and what a verdict says besides."""
+    if verdict.is_good:
+        return []
+    if verdict.word != BREAKS:
+        return [code_of(verdict.word)]
+    failures = list(dict.fromkeys(breach.rule for breach in outcome.of("device")))
+    if outcome.status == GAVE_UP:
+        failures.append(code_of(KEEPS_REQUESTS))
+    return failures + ([code_of(NOT_EXERCISED)] if missing(outcome) else [])
